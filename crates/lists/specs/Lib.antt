@@ -1,0 +1,9 @@
+pub mod Truth
+pub mod Range
+pub mod Counting
+pub mod Mask
+pub mod Bits
+pub mod Select
+pub mod Store
+pub mod Tab
+pub mod Least
