@@ -1,0 +1,80 @@
+-- What the refusals leave: bytes that rows 1 to 4 let pass are laid out, and the region that is read from a chart that rows 1 to 9 let
+-- pass is well formed.
+-- Assumes nothing.
+use mathlib.Core.Path.{_≡_, refl}
+use mathlib.Core.Bool.{false, _||_, not}
+use mathlib.Core.List.{List}
+use mathlib.Core.Option.{none}
+use Prim.Native.Nat.{ℕ, _≤_}
+use native.Mathlib.Omega.{arith}
+use lib.Dec.{eqb, ltb}
+use lib.ListN.{length}
+use borrow.Author.Tests.{ltb-false}
+use Rattle.lists.specs.Truth.{or-neither, not-eqb}
+use Rattle.chart.specs.Format.{outside, Decoded, decode, size}
+use Rattle.chart.specs.Refusal.{badCounts, badLengths, badNodes, badConstructs, badFrames, badBarriers, badEdges, firstOf, trailerRows, tableRows, chartRows}
+use Rattle.chart.specs.Checked.{Laid, countsOf}
+use Rattle.chart.specs.Reading.{region}
+use Rattle.chart.specs.WellFormed.{WellFormed}
+use Rattle.chart.proofs.Records.{constructs-length}
+use Rattle.chart.proofs.NestingFacts.{constructs-fit, fit-constructs}
+use Rattle.chart.proofs.Facts.{TablesFit, nodes-fit, fit-nodes, frames-fit, fit-frames, barriers-fit, fit-barriers, edges-fit, fit-edges}
+use Rattle.chart.proofs.Rows.{none-applies, applies-none, both-pass}
+use Rattle.chart.proofs.Whole.{reads}
+use Rattle.chart.proofs.Laws.{laws}
+
+pub laid : (s : List ℕ) → firstOf (trailerRows s) ≡ none → Laid s (countsOf s)
+unfolding trailerRows badCounts badLengths countsOf
+laid s h =
+    let t = decode s .trailer in
+    let rows = none-applies (trailerRows s) h in
+    let counts = or-neither (ltb (t .nodes) 2 || ltb 192 (t .nodes)) _ (rows .1 .1 .0) in
+    let nodes = or-neither (ltb (t .nodes) 2) (ltb 192 (t .nodes)) (counts .0) in
+    let rest = or-neither (ltb (t .edges) 1 || ltb 1024 (t .edges)) (ltb 48 (t .constructs)) (counts .1) in
+    let edges = or-neither (ltb (t .edges) 1) (ltb 1024 (t .edges)) (rest .0) in
+    let whole = or-neither (not (eqb (length s) (size (t .nodes) (t .edges) (t .constructs)))) _ (rows .1 .1 .1 .0) in
+    record {
+      counts = refl;
+      two-nodes = ltb-false (t .nodes) 2 (nodes .0);
+      nodes-most = ltb-false 192 (t .nodes) (nodes .1);
+      one-edge = ltb-false (t .edges) 1 (edges .0);
+      edges-most = ltb-false 1024 (t .edges) (edges .1);
+      constructs-most = ltb-false 48 (t .constructs) (rest .1);
+      whole = not-eqb (length s) (size (t .nodes) (t .edges) (t .constructs)) (whole .0);
+    }
+
+pub fit-tables : (D : Decoded) → TablesFit D → firstOf (tableRows D) ≡ none
+unfolding tableRows
+fit-tables D F = applies-none (tableRows D) (
+  fit-nodes D (F .nodes),
+  (
+    fit-constructs D (F .constructs),
+    (
+      fit-frames D (F .frames),
+      (fit-barriers D (F .barriers), (fit-edges D (F .edges), tt)),
+    ),
+  ),
+)
+
+-- row 3 gives the bound, which keeps the number `outside` free
+pub well-formed-tables : (D : Decoded) → length (D .constructs) ≤ outside → TablesFit D → WellFormed (region D)
+well-formed-tables D few F = laws (reads D F few)
+
+pub well-formed-decoded : (D : Decoded) → length (D .constructs) ≤ outside
+    → badNodes D ≡ false → badConstructs D ≡ false → badFrames D ≡ false → badBarriers D ≡ false → badEdges D ≡ false → WellFormed (region D)
+well-formed-decoded D few nodes constructs frames barriers edges = well-formed-tables D few (record {
+  nodes = nodes-fit D nodes;
+  constructs = constructs-fit D constructs;
+  frames = frames-fit D frames;
+  barriers = barriers-fit D barriers;
+  edges = edges-fit D edges;
+})
+
+pub well-formed : (s : List ℕ) → firstOf (chartRows s) ≡ none → WellFormed (region (decode s))
+unfolding chartRows tableRows
+well-formed s h =
+    let pass = both-pass (trailerRows s) (tableRows (decode s)) h in
+    let bytes = laid s (pass .0) in
+    let few : length (decode s .constructs) ≤ outside = omega (arith, constructs-length s (countsOf s) bytes, bytes .constructs-most) in
+    let rows = none-applies (tableRows (decode s)) (pass .1) in
+    well-formed-decoded (decode s) few (rows .0) (rows .1 .0) (rows .1 .1 .0) (rows .1 .1 .1 .0) (rows .1 .1 .1 .1 .0)

@@ -1,0 +1,244 @@
+-- What rows 5, 7, 8 and 9 of the refusals stand for, as facts over a decoded chart, and that a row's test fails exactly where its facts
+-- hold; with row 6's, of proofs/NestingFacts.antt, all facts of a chart's tables. The names go as there.
+-- Assumes nothing.
+use mathlib.Core.Path.{_≡_, refl, sym, subst}
+use mathlib.Core.Logic.{_⊎_, inl, inr, _≢_}
+use mathlib.Core.Bool.{Bool, true, false, _&&_, _||_, not}
+use mathlib.Core.List.{List}
+use Prim.Native.Nat.{ℕ, zero, suc, _-_, _≤_, _<_}
+use native.Mathlib.Omega.{arith}
+use native.Mathlib.Decide.{ℕ-discrete}
+use lib.Dec.{eqb, ltb, leb}
+use lib.ListN.{length}
+use borrow.Author.Tests.{ltb-true, ltb-false, leb-false, eqb-true, eqb-false, not-false, lt-ltb, le-ltb, le-leb, lt-leb, leb-true, eq-eqb, ne-eqb}
+use Rattle.lists.specs.Truth.{and-both, both-and, or-cases, or-left, or-right, true-not, or-neither, neither-or, and-fails, fails-and, not-eqb, eq-not-eqb}
+use Rattle.lists.specs.Range.{count, any-at, none-passes, any-none, count-two, count-some, count-only}
+use Rattle.chart.specs.Format.{outside, Node, Edge, Construct, Decoded, nodeAt, edgeAt}
+use Rattle.chart.specs.Scope.{barrierNode, beginNode, endNode, scopeAt}
+use Rattle.chart.specs.Refusal.{badNode, badNodeAt, badNodes, framesIn, badFrame, badFrames, isBarrier, badBarriers, badEdge, rises, badEdgeAt, badEdges}
+use Rattle.chart.proofs.Tree.{Below}
+use Rattle.chart.proofs.NestingFacts.{ConstructsFit, below-fits, fit-below}
+
+-- Row 5.
+pub record NodeFits (constructs kind number : ℕ) : Type 0 where
+  pub known : kind ≤ endNode
+  pub number-below : Below constructs number
+  pub barrier-outside : kind ≡ barrierNode → number ≡ outside
+  pub frame-not-outside : beginNode ≤ kind → number ≢ outside
+
+abbrev pub NodesFit : Decoded → Type 0
+NodesFit D = (x : ℕ) → x < length (D .nodes) → NodeFits (length (D .constructs)) (nodeAt (D .nodes) x .kind) (nodeAt (D .nodes) x .number)
+
+-- the number of a begin or an end is that of a construct
+pub frame-construct : {constructs kind number : ℕ} → NodeFits constructs kind number → beginNode ≤ kind → number < constructs
+frame-construct F k = elim (F .number-below) [ inl q ↦ absurd (F .frame-not-outside k q) | inr l ↦ l ]
+
+pub node-fits : (constructs kind number : ℕ) → badNode constructs kind number ≡ false → NodeFits constructs kind number
+unfolding badNode
+node-fits constructs kind number h =
+    let a = or-neither (ltb endNode kind) _ h in
+    let b = or-neither (not (ltb number constructs) && not (eqb number outside)) _ (a .1) in
+    let c = or-neither (eqb kind barrierNode && not (eqb number outside)) _ (b .1) in
+    record {
+      known = ltb-false endNode kind (a .0);
+      number-below = below-fits constructs number (b .0);
+      barrier-outside = λ k. not-eqb number outside (and-fails (eqb kind barrierNode) (not (eqb number outside)) (c .0) (eq-eqb kind barrierNode k));
+      frame-not-outside = λ k. eqb-false number outside (and-fails (leb beginNode kind) (eqb number outside) (c .1) (le-leb beginNode kind k));
+    }
+
+pub fit-node : (constructs kind number : ℕ) → NodeFits constructs kind number → badNode constructs kind number ≡ false
+unfolding badNode
+fit-node constructs kind number F =
+    neither-or _ _ (le-ltb endNode kind (F .known)) (neither-or _ _ (fit-below constructs number (F .number-below)) (neither-or _ _
+    (fails-and (eqb kind barrierNode) (not (eqb number outside)) (λ k. eq-not-eqb number outside (F .barrier-outside (eqb-true kind barrierNode k))))
+    (fails-and (leb beginNode kind) (eqb number outside) (λ k. ne-eqb number outside (F .frame-not-outside (leb-true beginNode kind k))))))
+
+pub nodes-fit : (D : Decoded) → badNodes D ≡ false → NodesFit D
+unfolding badNodes badNodeAt
+nodes-fit D h x l = node-fits _ _ _ (none-passes (length (D .nodes)) (badNodeAt D) h x l)
+
+pub fit-nodes : (D : Decoded) → NodesFit D → badNodes D ≡ false
+unfolding badNodes badNodeAt
+fit-nodes D F = any-none (length (D .nodes)) (badNodeAt D) (λ x l. fit-node _ _ _ (F x l))
+
+-- Row 7: a node of this kind with the number c, and that there is exactly one.
+abbrev pub FrameAt : List Node → ℕ → ℕ → ℕ → Type 0
+FrameAt nodes kind c x = (nodeAt nodes x .kind ≡ kind) × (nodeAt nodes x .number ≡ c)
+
+pub record OneFrame (nodes : List Node) (kind c : ℕ) : Type 0 where
+  pub node : ℕ
+  pub below : node < length nodes
+  pub there : FrameAt nodes kind c node
+  pub only : (x : ℕ) → x < length nodes → FrameAt nodes kind c x → x ≡ node
+
+pub record FramesFit (D : Decoded) : Type 0 where
+  pub begins : (c : ℕ) → c < length (D .constructs) → OneFrame (D .nodes) beginNode c
+  pub ends : (c : ℕ) → c < length (D .constructs) → OneFrame (D .nodes) endNode c
+
+module _ (nodes : List Node) (kind c : ℕ) where
+  -- the test of one node
+  abbrev pub isFrame : ℕ → Bool
+  isFrame x = eqb (nodeAt nodes x .kind) kind && eqb (nodeAt nodes x .number) c
+
+  pub is-frame : (x : ℕ) → isFrame x ≡ true → FrameAt nodes kind c x
+  is-frame x h =
+      let a = and-both (eqb (nodeAt nodes x .kind) kind) (eqb (nodeAt nodes x .number) c) h in
+      (eqb-true (nodeAt nodes x .kind) kind (a .0), eqb-true (nodeAt nodes x .number) c (a .1))
+
+  pub frame-is : (x : ℕ) → FrameAt nodes kind c x → isFrame x ≡ true
+  frame-is x h = both-and _ _ (eq-eqb (nodeAt nodes x .kind) kind (h .0)) (eq-eqb (nodeAt nodes x .number) c (h .1))
+
+  frame-fits : framesIn nodes kind c (length nodes) ≡ 1 → OneFrame nodes kind c
+  unfolding framesIn
+  frame-fits h =
+      let n = length nodes in
+      let found = any-at n isFrame (count-some n isFrame (omega arith)) in
+      record {
+        node = found .0;
+        below = found .1;
+        there = is-frame (found .0) (found .2);
+        only = λ x l g. same x (found .0) (ℕ-discrete x (found .0)) (λ d. count-two n isFrame x (found .0) l (found .1) d (frame-is x g) (found .2));
+      }
+    where
+      two : 2 ≤ count (length nodes) isFrame → ⊥
+      two g = omega arith
+
+      same : (x y : ℕ) → Dec (x ≡ y) → (x ≢ y → 2 ≤ count (length nodes) isFrame) → x ≡ y
+      same x y (yes q) g = q
+      same x y (no d) g = absurd (two (g d))
+
+  fit-frame : OneFrame nodes kind c → framesIn nodes kind c (length nodes) ≡ 1
+  unfolding framesIn
+  fit-frame F = count-only (length nodes) isFrame (F .node) (F .below) (frame-is (F .node) (F .there)) (λ j l g. F .only j l (is-frame j g))
+
+abbrev notOne : Decoded → ℕ → ℕ → Bool
+notOne D kind c = not (eqb (framesIn (D .nodes) kind c (length (D .nodes))) 1)
+
+kind-fits : (D : Decoded) (kind : ℕ) → badFrame D kind ≡ false → (c : ℕ) → c < length (D .constructs) → OneFrame (D .nodes) kind c
+unfolding badFrame
+kind-fits D kind h c l =
+    frame-fits (D .nodes) kind c (not-eqb _ 1 (none-passes (length (D .constructs)) (notOne D kind) h c l))
+
+fit-kind : (D : Decoded) (kind : ℕ) → ((c : ℕ) → c < length (D .constructs) → OneFrame (D .nodes) kind c) → badFrame D kind ≡ false
+unfolding badFrame
+fit-kind D kind F =
+    any-none (length (D .constructs)) (notOne D kind) (λ c l. eq-not-eqb _ 1 (fit-frame (D .nodes) kind c (F c l)))
+
+pub frames-fit : (D : Decoded) → badFrames D ≡ false → FramesFit D
+unfolding badFrames
+frames-fit D h =
+    let a = or-neither (badFrame D beginNode) (badFrame D endNode) h in
+    record { begins = kind-fits D beginNode (a .0); ends = kind-fits D endNode (a .1) }
+
+pub fit-frames : (D : Decoded) → FramesFit D → badFrames D ≡ false
+unfolding badFrames
+fit-frames D F = neither-or _ _ (fit-kind D beginNode (F .begins)) (fit-kind D endNode (F .ends))
+
+-- Row 8.
+pub record BarriersFit (D : Decoded) : Type 0 where
+  pub start : nodeAt (D .nodes) 0 .kind ≡ barrierNode
+  pub finish : nodeAt (D .nodes) (length (D .nodes) - 1) .kind ≡ barrierNode
+  pub most : count (length (D .nodes)) (isBarrier (D .nodes)) ≤ 64
+
+pub barriers-fit : (D : Decoded) → badBarriers D ≡ false → BarriersFit D
+unfolding badBarriers isBarrier
+barriers-fit D h =
+    let a = or-neither (not (isBarrier (D .nodes) 0)) _ h in
+    let b = or-neither (not (isBarrier (D .nodes) (length (D .nodes) - 1))) _ (a .1) in
+    record { start = not-eqb _ barrierNode (a .0); finish = not-eqb _ barrierNode (b .0); most = ltb-false 64 _ (b .1) }
+
+pub fit-barriers : (D : Decoded) → BarriersFit D → badBarriers D ≡ false
+unfolding badBarriers isBarrier
+fit-barriers D F =
+    neither-or _ _ (eq-not-eqb _ barrierNode (F .start)) (neither-or _ _ (eq-not-eqb _ barrierNode (F .finish)) (le-ltb 64 _ (F .most)))
+
+-- Row 9, of an edge by itself and of two edges in a row.
+pub record EdgeFits (nodes : List Node) (constructs : List Construct) (from to : ℕ) : Type 0 where
+  pub from-below : from < length nodes
+  pub to-below : to < length nodes
+  pub not-into-start : to ≢ 0
+  pub not-out-of-finish : from ≢ length nodes - 1
+  pub scopes : scopeAt beginNode nodes constructs from ≡ scopeAt endNode nodes constructs to
+
+abbrev pub Rises : Edge → Edge → Type 0
+Rises before after = (before .from < after .from) ⊎ ((before .from ≡ after .from) × (before .to < after .to))
+
+pub record EdgesFit (D : Decoded) : Type 0 where
+  pub alone : (i : ℕ) → i < length (D .edges) → EdgeFits (D .nodes) (D .constructs) (edgeAt (D .edges) i .from) (edgeAt (D .edges) i .to)
+  pub rising : (i : ℕ) → suc i < length (D .edges) → Rises (edgeAt (D .edges) i) (edgeAt (D .edges) (suc i))
+
+edge-fits : (nodes : List Node) (constructs : List Construct) (from to : ℕ)
+    → badEdge nodes constructs from to ≡ false → EdgeFits nodes constructs from to
+unfolding badEdge
+edge-fits nodes constructs from to h =
+    let a = or-neither (leb (length nodes) from || leb (length nodes) to) _ h in
+    let b = or-neither (leb (length nodes) from) (leb (length nodes) to) (a .0) in
+    let c = or-neither (eqb to 0) _ (a .1) in
+    let d = or-neither (eqb from (length nodes - 1)) _ (c .1) in
+    record {
+      from-below = leb-false (length nodes) from (b .0);
+      to-below = leb-false (length nodes) to (b .1);
+      not-into-start = eqb-false to 0 (c .0);
+      not-out-of-finish = eqb-false from (length nodes - 1) (d .0);
+      scopes = not-eqb _ _ (d .1);
+    }
+
+fit-edge : (nodes : List Node) (constructs : List Construct) (from to : ℕ)
+    → EdgeFits nodes constructs from to → badEdge nodes constructs from to ≡ false
+unfolding badEdge
+fit-edge nodes constructs from to F =
+    neither-or _ _ (neither-or _ _ (lt-leb (length nodes) from (F .from-below)) (lt-leb (length nodes) to (F .to-below)))
+    (neither-or _ _ (ne-eqb to 0 (F .not-into-start))
+    (neither-or _ _ (ne-eqb from (length nodes - 1) (F .not-out-of-finish)) (eq-not-eqb _ _ (F .scopes))))
+
+rise-fits : (before after : Edge) → rises (before .from) (before .to) (after .from) (after .to) ≡ true → Rises before after
+unfolding rises
+rise-fits before after h = elim (or-cases (ltb (before .from) (after .from)) _ h) [
+  | inl l ↦ inl (ltb-true _ _ l)
+  | inr l ↦ (let a = and-both (eqb (before .from) (after .from)) (ltb (before .to) (after .to)) l in inr (eqb-true _ _ (a .0), ltb-true _ _ (a .1)))
+]
+
+fit-rise : (before after : Edge) → Rises before after → rises (before .from) (before .to) (after .from) (after .to) ≡ true
+unfolding rises
+fit-rise before after (inl l) = or-left _ _ (lt-ltb (before .from) (after .from) l)
+fit-rise before after (inr l) =
+    or-right (ltb (before .from) (after .from)) _ (both-and _ _ (eq-eqb (before .from) (after .from) (l .0)) (lt-ltb (before .to) (after .to) (l .1)))
+
+-- edge i does not rise above the edge `before`
+abbrev falls : List Edge → ℕ → ℕ → Bool
+falls edges before i = ltb 0 i && not (rises (edgeAt edges before .from) (edgeAt edges before .to) (edgeAt edges i .from) (edgeAt edges i .to))
+
+pub edges-fit : (D : Decoded) → badEdges D ≡ false → EdgesFit D
+unfolding badEdges badEdgeAt
+edges-fit D h = record { alone = λ i l. edge-fits _ _ _ _ (parts i l .0); rising = risen }
+  where
+    parts : (i : ℕ) → i < length (D .edges)
+        → (badEdge (D .nodes) (D .constructs) (edgeAt (D .edges) i .from) (edgeAt (D .edges) i .to) ≡ false) × (falls (D .edges) (i - 1) i ≡ false)
+    parts i l =
+        or-neither (badEdge (D .nodes) (D .constructs) (edgeAt (D .edges) i .from) (edgeAt (D .edges) i .to)) _
+        (none-passes (length (D .edges)) (badEdgeAt D) h i l)
+
+    risen : (i : ℕ) → suc i < length (D .edges) → Rises (edgeAt (D .edges) i) (edgeAt (D .edges) (suc i))
+    risen i l =
+        let q : suc i - 1 ≡ i = omega arith in
+        let f = subst (λ (before : ℕ). falls (D .edges) before (suc i) ≡ false) q (parts (suc i) l .1) in
+        rise-fits (edgeAt (D .edges) i) (edgeAt (D .edges) (suc i)) (not-false _ (and-fails (ltb 0 (suc i)) _ f (lt-ltb 0 (suc i) (omega arith))))
+
+pub fit-edges : (D : Decoded) → EdgesFit D → badEdges D ≡ false
+unfolding badEdges badEdgeAt
+fit-edges D F = any-none (length (D .edges)) (badEdgeAt D) (λ i l. neither-or _ _ (fit-edge _ _ _ _ (F .alone i l)) (risen i l))
+  where
+    risen : (i : ℕ) → i < length (D .edges) → falls (D .edges) (i - 1) i ≡ false
+    risen zero l = refl
+    risen (suc i) l =
+        let q : suc i - 1 ≡ i = omega arith in
+        subst (λ (before : ℕ). falls (D .edges) before (suc i) ≡ false) (sym q)
+        (fails-and (ltb 0 (suc i)) _ (λ t. true-not _ (fit-rise (edgeAt (D .edges) i) (edgeAt (D .edges) (suc i)) (F .rising i l))))
+
+-- All the tables of a chart.
+pub record TablesFit (D : Decoded) : Type 0 where
+  pub nodes : NodesFit D
+  pub constructs : ConstructsFit D
+  pub frames : FramesFit D
+  pub barriers : BarriersFit D
+  pub edges : EdgesFit D

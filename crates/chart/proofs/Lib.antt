@@ -1,0 +1,10 @@
+pub mod Records
+pub mod Tree
+pub mod Rows
+pub mod NestingFacts
+pub mod Facts
+pub mod Reading
+pub mod Scopes
+pub mod Whole
+pub mod Laws
+pub mod Accepted

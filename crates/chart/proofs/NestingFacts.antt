@@ -1,0 +1,139 @@
+-- What row 6 of the refusals stands for, as facts over the constructs of a chart, and that the row's test fails exactly where they hold.
+-- A name that ends in `fit` or `fits` goes from the test to the facts, one that begins with `fit` goes back.
+-- Assumes nothing.
+use mathlib.Core.Path.{_≡_}
+use mathlib.Core.Logic.{inl, inr, _≢_}
+use mathlib.Core.Bool.{true, false, _&&_, _||_, not}
+use mathlib.Core.List.{List}
+use Prim.Native.Nat.{ℕ, _≤_, _<_}
+use native.Mathlib.Omega.{arith}
+use lib.Dec.{eqb, ltb}
+use lib.ListN.{length}
+use borrow.Author.Tests.{ltb-true, ltb-false, eqb-true, eqb-false, not-true, not-false, lt-ltb, le-ltb, eq-eqb, ne-eqb}
+use Rattle.lists.specs.Truth.{truth, true-not, and-false, or-neither, neither-or, and-fails, fails-and, not-eqb, eq-not-eqb}
+use Rattle.lists.specs.Range.{any, none-passes, any-none}
+use Rattle.chart.specs.Format.{outside, Construct, Decoded, constructAt}
+use Rattle.chart.specs.Scope.{criticalByte, loopByte, orderedByte, kindOf, encloses, Encloses, parentOf}
+use Rattle.chart.specs.Nesting.{mayEnclose, sameCritical, excluded, wronglyAbove, strayOrdered, misnested}
+use Rattle.chart.specs.Refusal.{badConstruct, badAlone, badConstructs}
+use Rattle.chart.proofs.Tree.{Below, below-more, computed, computes, lower}
+
+-- a number that is neither below a bound nor outside
+pub below-fits : (bound p : ℕ) → (not (ltb p bound) && not (eqb p outside)) ≡ false → Below bound p
+below-fits bound p h = elim (truth (ltb p bound)) [
+  | inl l ↦ inr (ltb-true p bound l)
+  | inr l ↦ inl (not-eqb p outside (and-fails (not (ltb p bound)) (not (eqb p outside)) h (rw l)))
+]
+
+pub fit-below : (bound p : ℕ) → Below bound p → (not (ltb p bound) && not (eqb p outside)) ≡ false
+fit-below bound p (inl q) = rw (eq-eqb p outside q) (and-false (not (ltb p bound)))
+fit-below bound p (inr l) = rw (lt-ltb p bound l)
+
+-- Row 6, of a construct by itself.
+pub record ConstructFits (c kind parent name : ℕ) : Type 0 where
+  pub least : 1 ≤ kind
+  pub most : kind ≤ 5
+  pub parent-lower : Below c parent
+  pub unnamed : kind ≢ criticalByte → name ≡ 0
+
+-- A construct of this kind and name may stand below one of the kind `above`.
+pub record MayStand (kind name above aboveName : ℕ) : Type 0 where
+  pub kinds : mayEnclose (kindOf kind) (kindOf above) ≡ true
+  pub names : kind ≡ criticalByte → above ≡ criticalByte → name ≢ aboveName
+
+-- Row 6, of a construct among the others.
+pub record Nests (constructs : List Construct) (c : ℕ) : Type 0 where
+  pub below : {k : ℕ} → Encloses (parentOf constructs) (parentOf constructs c) k
+      → MayStand (constructAt constructs c .kind) (constructAt constructs c .name) (constructAt constructs k .kind) (constructAt constructs k .name)
+  pub in-loop : constructAt constructs c .kind ≡ orderedByte → constructAt constructs (parentOf constructs c) .kind ≡ loopByte
+
+abbrev pub Alone : List Construct → Type 0
+Alone constructs =
+    (c : ℕ) → c < length constructs
+    → ConstructFits c (constructAt constructs c .kind) (constructAt constructs c .parent) (constructAt constructs c .name)
+
+pub record ConstructsFit (D : Decoded) : Type 0 where
+  pub alone : Alone (D .constructs)
+  pub nested : (c : ℕ) → c < length (D .constructs) → Nests (D .constructs) c
+
+pub construct-fits : (c kind parent name : ℕ) → badConstruct c kind parent name ≡ false → ConstructFits c kind parent name
+unfolding badConstruct
+construct-fits c kind parent name h =
+    let a = or-neither (ltb kind 1 || ltb 5 kind) _ h in
+    let b = or-neither (ltb kind 1) (ltb 5 kind) (a .0) in
+    let d = or-neither (not (ltb parent c) && not (eqb parent outside)) _ (a .1) in
+    record {
+      least = ltb-false kind 1 (b .0);
+      most = ltb-false 5 kind (b .1);
+      parent-lower = below-fits c parent (d .0);
+      unnamed = λ k. not-eqb name 0 (and-fails (not (eqb kind criticalByte)) (not (eqb name 0)) (d .1) (rw (ne-eqb kind criticalByte k)));
+    }
+
+pub fit-construct : (c kind parent name : ℕ) → ConstructFits c kind parent name → badConstruct c kind parent name ≡ false
+unfolding badConstruct
+fit-construct c kind parent name F =
+    neither-or _ _ (neither-or _ _ (le-ltb kind 1 (F .least)) (le-ltb 5 kind (F .most))) (neither-or _ _ (fit-below c parent (F .parent-lower))
+    (fails-and (not (eqb kind criticalByte)) (not (eqb name 0))
+    (λ k. eq-not-eqb name 0 (F .unnamed (eqb-false kind criticalByte (not-true (eqb kind criticalByte) k))))))
+
+stand-fits : (kind name above aboveName : ℕ) → excluded kind name above aboveName ≡ false → MayStand kind name above aboveName
+unfolding excluded sameCritical
+stand-fits kind name above aboveName h =
+    let a = or-neither (not (mayEnclose (kindOf kind) (kindOf above))) _ h in
+    record {
+      kinds = not-false (mayEnclose (kindOf kind) (kindOf above)) (a .0);
+      names = λ k j. eqb-false name aboveName (and-fails (eqb above criticalByte) (eqb name aboveName)
+          (and-fails (eqb kind criticalByte) _ (a .1) (eq-eqb kind criticalByte k)) (eq-eqb above criticalByte j));
+    }
+
+fit-stand : (kind name above aboveName : ℕ) → MayStand kind name above aboveName → excluded kind name above aboveName ≡ false
+unfolding excluded sameCritical
+fit-stand kind name above aboveName F =
+    neither-or _ _ (true-not (mayEnclose (kindOf kind) (kindOf above)) (F .kinds))
+    (fails-and (eqb kind criticalByte) _ (λ k. fails-and (eqb above criticalByte) (eqb name aboveName)
+    (λ j. ne-eqb name aboveName (F .names (eqb-true kind criticalByte k) (eqb-true above criticalByte j)))))
+
+module _ (constructs : List Construct) where
+  -- parents that are lower or outside, so that the walk upwards finds all that encloses
+  module _ (alone : Alone constructs) where
+    pub parents-lower : (c : ℕ) → c < length constructs → Below c (parentOf constructs c)
+    unfolding parentOf
+    parents-lower c l = alone c l .parent-lower
+
+    nesting-fits : (c : ℕ) → c < length constructs → misnested constructs c ≡ false → Nests constructs c
+    unfolding misnested wronglyAbove strayOrdered
+    nesting-fits c l h =
+        let size = length constructs in
+        let a = or-neither (any size (wronglyAbove constructs c)) _ h in
+        let parent = parentOf constructs in
+        let near : Below size (parent c) = below-more (omega arith) (parents-lower c l) in
+        record {
+          below = λ {k} e. stand-fits _ _ _ _ (and-fails (encloses parent size (parent c) k) _
+              (none-passes size (wronglyAbove constructs c) (a .0) k (lower parent size parents-lower e size (omega arith) near))
+              (computes parent size parents-lower e size (omega arith) near));
+          in-loop = λ k. not-eqb _ loopByte (and-fails (eqb (constructAt constructs c .kind) orderedByte) _ (a .1) (eq-eqb _ orderedByte k));
+        }
+
+  fit-nesting : (c : ℕ) → Nests constructs c → misnested constructs c ≡ false
+  unfolding misnested wronglyAbove strayOrdered
+  fit-nesting c F =
+      let size = length constructs in
+      neither-or _ _
+      (any-none size (wronglyAbove constructs c) (λ k l. fails-and (encloses (parentOf constructs) size (parentOf constructs c) k) _
+      (λ e. fit-stand _ _ _ _ (F .below (computed (parentOf constructs) size (parentOf constructs c) k e)))))
+      (fails-and (eqb (constructAt constructs c .kind) orderedByte) _ (λ k. eq-not-eqb _ loopByte (F .in-loop (eqb-true _ orderedByte k))))
+
+pub constructs-fit : (D : Decoded) → badConstructs D ≡ false → ConstructsFit D
+unfolding badConstructs badAlone
+constructs-fit D h =
+    let size = length (D .constructs) in
+    let a = or-neither (any size (badAlone (D .constructs))) (any size (misnested (D .constructs))) h in
+    let alone : Alone (D .constructs) = λ c l. construct-fits _ _ _ _ (none-passes size (badAlone (D .constructs)) (a .0) c l) in
+    record { alone = alone; nested = λ c l. nesting-fits (D .constructs) alone c l (none-passes size (misnested (D .constructs)) (a .1) c l) }
+
+pub fit-constructs : (D : Decoded) → ConstructsFit D → badConstructs D ≡ false
+unfolding badConstructs badAlone
+fit-constructs D F =
+    let size = length (D .constructs) in
+    neither-or _ _ (any-none size (badAlone (D .constructs)) (λ c l. fit-construct _ _ _ _ (F .alone c l)))
+    (any-none size (misnested (D .constructs)) (λ c l. fit-nesting (D .constructs) c (F .nested c l)))

@@ -1,0 +1,61 @@
+-- The interface between a chart's checks and the laws of its regions: named facts of a region, which are all that the laws rest
+-- on. Whatever is to be read as a region has to supply them.
+-- Assumes nothing.
+use mathlib.Core.Path.{_≡_}
+use mathlib.Core.Logic.{_⊎_, _≢_}
+use mathlib.Core.Bool.{true}
+use Prim.Native.Nat.{ℕ, _<_}
+use Rattle.chart.specs.Format.{outside}
+use Rattle.chart.specs.Region.{Role, barrier, opens, closes, loop, ordered, Region}
+use Rattle.chart.specs.Scope.{Encloses}
+use Rattle.chart.specs.Nesting.{mayEnclose}
+
+-- The two nodes that frame a construct: its begin, which opens it, and its end, which closes it. What holds of the one along an edge
+-- holds of the other against it.
+pub data Frame : Type 0 where
+  opening closing : Frame
+
+abbrev pub marks : Frame → ℕ → Role
+marks opening c = opens c
+marks closing c = closes c
+
+abbrev pub frameIn : Region → Frame → ℕ → ℕ
+frameIn R opening c = R .begin c
+frameIn R closing c = R .end c
+
+-- c is a construct of the region where `Counts c`. A node x lies in the construct `lies x`; its scope is `scope opening x` leaving it and
+-- `scope closing x` arriving at it.
+pub record Reads (R : Region) (Counts : ℕ → Type 0) (lies : ℕ → ℕ) (scope : Frame → ℕ → ℕ) : Type 0 where
+  -- numbers
+  pub counts-below : {c : ℕ} → Counts c → c < R .constructs
+  pub counts-not-outside : {c : ℕ} → Counts c → c ≢ outside
+  pub barrier-below : {x : ℕ} → R .role x ≡ barrier → x < R .nodes
+  pub from-below : {x y : ℕ} → R .edge x y ≡ true → x < R .nodes
+  pub to-below : {x y : ℕ} → R .edge x y ≡ true → y < R .nodes
+  -- the frame of a construct
+  pub marks-below : (f : Frame) {x : ℕ} (c : ℕ) → R .role x ≡ marks f c → x < R .nodes
+  pub marks-counts : (f : Frame) {x : ℕ} (c : ℕ) → R .role x ≡ marks f c → Counts c
+  pub marks-only : (f : Frame) {x : ℕ} (c : ℕ) → R .role x ≡ marks f c → x ≡ frameIn R f c
+  pub marks-lies : (f : Frame) {x : ℕ} (c : ℕ) → R .role x ≡ marks f c → lies x ≡ R .parent c
+  pub framed : (f : Frame) (c : ℕ) → Counts c → R .role (frameIn R f c) ≡ marks f c
+  -- inside is enclosed, by constructs of the region
+  pub inside-counts : {x c : ℕ} → R .inside x c ≡ true → Counts c
+  pub inside-enclosed : {x c : ℕ} → R .inside x c ≡ true → Encloses (R .parent) (lies x) c
+  pub enclosed-inside : {x c : ℕ} → Encloses (R .parent) (lies x) c → Counts c → R .inside x c ≡ true
+  pub barrier-bare : {x c : ℕ} → R .role x ≡ barrier → Encloses (R .parent) (lies x) c → Counts c → ⊥
+  -- scopes
+  pub lies-scope : (f : Frame) (x : ℕ) {c : ℕ} → Encloses (R .parent) (lies x) c → Encloses (R .parent) (scope f x) c
+  pub marks-scope : (f : Frame) {x : ℕ} (c : ℕ) → R .role x ≡ marks f c → scope f x ≡ c
+  pub scope-cases : (f : Frame) (x : ℕ) {c : ℕ} → Encloses (R .parent) (scope f x) c → Counts c
+      → Encloses (R .parent) (lies x) c ⊎ (R .role x ≡ marks f c)
+  pub scopes-agree : {x y : ℕ} → R .edge x y ≡ true → scope opening x ≡ scope closing y
+  -- nesting
+  pub not-in-itself : {c : ℕ} → Counts c → Encloses (R .parent) (R .parent c) c → ⊥
+  pub nested : {c k : ℕ} → Counts c → Counts k → Encloses (R .parent) (R .parent c) k → mayEnclose (R .kind c) (R .kind k) ≡ true
+  pub ordered-counts : {c : ℕ} → Counts c → R .kind c ≡ ordered → Counts (R .parent c)
+  pub ordered-loop : {c : ℕ} → Counts c → R .kind c ≡ ordered → R .kind (R .parent c) ≡ loop
+  -- start and finish
+  pub start-barrier : R .role (R .start) ≡ barrier
+  pub finish-barrier : R .role (R .finish) ≡ barrier
+  pub start-first : {x : ℕ} → R .edge x (R .start) ≡ true → ⊥
+  pub finish-last : {y : ℕ} → R .edge (R .finish) y ≡ true → ⊥

@@ -1,0 +1,90 @@
+-- Where the records of a laid-out chart stand in its bytes.
+-- Assumes nothing.
+use mathlib.Core.Path.{_≡_, refl, ap, sym, _∙_, subst}
+use mathlib.Core.List.{List}
+use Prim.Native.Nat.{ℕ, zero, suc, _+_, _*_, _-_, _<_}
+use native.Mathlib.Omega.{arith}
+use native.Mathlib.Nat.{mul-suc}
+use lib.ListN.{length, getD, drop}
+use lib.Seq.{getD-drop, drop-drop}
+use Rattle.chart.specs.Format.{outside, field, Node, Edge, Construct, nodeOf, edgeOf, constructOf, records, lastTrailer, decode, nodeAt, edgeAt, constructAt}
+use Rattle.chart.specs.Checked.{Laid, countsOf}
+use Rattle.chart.specs.declared.format.Chart.{Chart}
+
+pub length-records : {A : Type 0} (read : List ℕ → A) (width n : ℕ) (s : List ℕ) → length (records read width n s) ≡ n
+unfolding records
+length-records read width zero s = refl
+length-records read width (suc n) s = ap suc (length-records read width n (drop width s))
+
+-- record i is read i widths on
+pub record-at : {A : Type 0} (read : List ℕ → A) (width n : ℕ) (s : List ℕ) (i : ℕ) (d : A) → i < n → getD (records read width n s) i d ≡ read (drop (width * i) s)
+unfolding records
+record-at read width zero s i d l = absurd (none l)
+  where
+    none : i < 0 → ⊥
+    none l = omega arith
+record-at read width (suc n) s zero d l = let q : width * 0 ≡ 0 = omega arith in ap (λ (k : ℕ). read (drop k s)) (sym q)
+record-at read width (suc n) s (suc i) d l =
+    let q : width + width * i ≡ width * suc i = omega (arith, mul-suc width i) in
+    record-at read width n (drop width s) i d (omega arith) ∙ ap read (drop-drop (width * i) width s ∙ ap (λ (k : ℕ). drop k s) q)
+
+-- the same with the place where the records begin
+record-from : {A : Type 0} (read : List ℕ → A) (width n base : ℕ) (s : List ℕ) (i at : ℕ) (d : A) → i < n → at ≡ base + width * i
+    → getD (records read width n (drop base s)) i d ≡ read (drop at s)
+record-from read width n base s i at d l e = record-at read width n (drop base s) i d l ∙ ap read (drop-drop (width * i) base s ∙ ap (λ (k : ℕ). drop k s) (sym e))
+
+field-drop : (s : List ℕ) (at k : ℕ) → field (drop at s) k ≡ field s (at + k)
+unfolding field
+field-drop s at k = let q : at + (k + 1) ≡ at + k + 1 = omega arith in rw (getD-drop at s k 0, getD-drop at s (k + 1) 0, q)
+
+-- The fields of a record, by the place where the record stands.
+module _ (s : List ℕ) (chart : Chart) (laid : Laid s chart) where
+  pub node-fields : (x at : ℕ) → x < chart .nodes → at ≡ 4 * x
+      → (getD s (at + 0) 0 ≡ nodeAt (decode s .nodes) x .kind) × (getD s (at + 1) 0 ≡ nodeAt (decode s .nodes) x .number)
+  unfolding nodeAt decode nodeOf countsOf
+  node-fields x at l e =
+      let low = subst (λ (c : Chart). x < c .nodes) (laid .counts) l in
+      let place : at ≡ 0 + 4 * x = omega arith in
+      let here = record-from nodeOf 4 (lastTrailer s .nodes) 0 s x at (record { kind = 0; number = outside; tag = 0 }) low place in
+      (sym (ap (λ (n : Node). n .kind) here ∙ getD-drop at s 0 0), sym (ap (λ (n : Node). n .number) here ∙ getD-drop at s 1 0))
+
+  pub edge-fields : (i at : ℕ) → i < chart .edges → at ≡ 4 * chart .nodes + 2 * i
+      → (getD s (at + 0) 0 ≡ edgeAt (decode s .edges) i .from) × (getD s (at + 1) 0 ≡ edgeAt (decode s .edges) i .to)
+  unfolding edgeAt decode edgeOf countsOf
+  edge-fields i at l e =
+      let low = subst (λ (c : Chart). i < c .edges) (laid .counts) l in
+      let place = subst (λ (c : Chart). at ≡ 4 * c .nodes + 2 * i) (laid .counts) e in
+      let here = record-from edgeOf 2 (lastTrailer s .edges) (4 * lastTrailer s .nodes) s i at (record { from = 0; to = 0 }) low place in
+      (sym (ap (λ (n : Edge). n .from) here ∙ getD-drop at s 0 0), sym (ap (λ (n : Edge). n .to) here ∙ getD-drop at s 1 0))
+
+  pub construct-fields : (c at : ℕ) → c < chart .constructs → at ≡ 4 * chart .nodes + 2 * chart .edges + 4 * c
+      → (getD s (at + 0) 0 ≡ constructAt (decode s .constructs) c .kind) × (getD s (at + 1) 0 ≡ constructAt (decode s .constructs) c .parent)
+      × (field s (at + 2) ≡ constructAt (decode s .constructs) c .name)
+  unfolding constructAt decode constructOf countsOf
+  construct-fields c at l e =
+      let low = subst (λ (k : Chart). c < k .constructs) (laid .counts) l in
+      let place = subst (λ (k : Chart). at ≡ 4 * k .nodes + 2 * k .edges + 4 * c) (laid .counts) e in
+      let here = record-from constructOf 4 (lastTrailer s .constructs) (4 * lastTrailer s .nodes + 2 * lastTrailer s .edges) s c at (record { kind = 0; parent = outside; name = 0 }) low place in (
+        sym (ap (λ (n : Construct). n .kind) here ∙ getD-drop at s 0 0),
+        sym (ap (λ (n : Construct). n .parent) here ∙ getD-drop at s 1 0),
+        sym (ap (λ (n : Construct). n .name) here ∙ field-drop s at 2),
+      )
+
+  -- the tables have as many records as the counts say
+  pub nodes-length : length (decode s .nodes) ≡ chart .nodes
+  unfolding decode countsOf
+  nodes-length = length-records nodeOf 4 (lastTrailer s .nodes) s ∙ ap (λ (c : Chart). c .nodes) (sym (laid .counts))
+
+  pub edges-length : length (decode s .edges) ≡ chart .edges
+  unfolding decode countsOf
+  edges-length = length-records edgeOf 2 (lastTrailer s .edges) (drop (4 * lastTrailer s .nodes) s) ∙ ap (λ (c : Chart). c .edges) (sym (laid .counts))
+
+  pub constructs-length : length (decode s .constructs) ≡ chart .constructs
+  unfolding decode countsOf
+  constructs-length =
+      length-records constructOf 4 (lastTrailer s .constructs) (drop (4 * lastTrailer s .nodes + 2 * lastTrailer s .edges) s)
+      ∙ ap (λ (c : Chart). c .constructs) (sym (laid .counts))
+
+-- a field of the trailer, by its place
+pub trailer-field : (s : List ℕ) (at k : ℕ) → at ≡ length s - 16 → field s (at + k) ≡ field (drop (length s - 16) s) k
+trailer-field s at k e = ap (λ (n : ℕ). field s (n + k)) e ∙ sym (field-drop s (length s - 16) k)

@@ -1,0 +1,39 @@
+-- What checking a chart answers, and what the checks of single rows rest on.
+-- Assumes nothing.
+use mathlib.Core.Path.{_≡_}
+use mathlib.Core.List.{List}
+use mathlib.Core.Option.{Option, none, some}
+use Prim.Native.Nat.{ℕ, _≤_}
+use lib.ListN.{length}
+use Rattle.chart.specs.Format.{decode, size}
+use Rattle.chart.specs.Refusal.{firstOf, chartRows}
+use Rattle.chart.specs.declared.format.Chart.{Chart}
+use Rattle.chart.specs.declared.format.Checked.{Checked}
+use Rattle.chart.specs.declared.format.Checked.the-variants.{Passed, Refused}
+
+-- The counts that a trailer gives.
+unfoldable pub countsOf : List ℕ → Chart
+countsOf s = record { nodes = decode s .trailer .nodes; edges = decode s .trailer .edges; constructs = decode s .trailer .constructs }
+
+-- 01's number for every case: a refusal's own, and 0 for a chart that no row refuses.
+unfoldable pub numberOf : Checked → ℕ
+numberOf (Passed chart) = 0
+numberOf (Refused refusal) = refusal .number
+
+unfoldable pub answer : Option ℕ → Chart → Checked
+answer none chart = Passed chart
+answer (some number) chart = Refused (record { number = number })
+
+-- Rows 1 to 9 over the bytes of a chart.
+unfoldable pub checked : List ℕ → Checked
+checked s = answer (firstOf (chartRows s)) (countsOf s)
+
+-- Bytes that rows 1 to 4 let pass, with their counts.
+pub record Laid (s : List ℕ) (chart : Chart) : Type 0 where
+  pub counts : chart ≡ countsOf s
+  pub two-nodes : 2 ≤ chart .nodes
+  pub nodes-most : chart .nodes ≤ 192
+  pub one-edge : 1 ≤ chart .edges
+  pub edges-most : chart .edges ≤ 1024
+  pub constructs-most : chart .constructs ≤ 48
+  pub whole : length s ≡ size (chart .nodes) (chart .edges) (chart .constructs)

@@ -1,0 +1,9 @@
+pub mod Format
+pub mod Region
+pub mod InOrdered
+pub mod Scope
+pub mod Nesting
+pub mod Refusal
+pub mod Reading
+pub mod WellFormed
+pub mod Checked

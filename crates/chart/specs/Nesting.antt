@@ -1,0 +1,56 @@
+-- The nesting rule (01: "Nesting"): what may stand anywhere above what.
+-- Assumes nothing.
+use mathlib.Core.Bool.{Bool, true, false, _&&_, _||_, not}
+use mathlib.Core.Path.{_≡_}
+use mathlib.Core.List.{List, []}
+use Prim.Native.Nat.{ℕ, _+_, _<_}
+use lib.Dec.{eqb}
+use lib.ListN.{length, getD}
+use Rattle.lists.specs.Range.{any}
+use Rattle.chart.specs.Format.{Construct, constructAt}
+use Rattle.chart.specs.Region.{Kind, single, master, critical, loop, ordered}
+use Rattle.chart.specs.Scope.{criticalByte, loopByte, orderedByte, kindOf, encloses, parentOf}
+
+-- May a construct of the second kind stand above one of the first? Above single and do: nothing. Above master: critical. Above ordered:
+-- do. Above critical: every kind.
+unfoldable pub mayEnclose : Kind → Kind → Bool
+mayEnclose single above = false
+mayEnclose master single = false
+mayEnclose master master = false
+mayEnclose master critical = true
+mayEnclose master loop = false
+mayEnclose master ordered = false
+mayEnclose critical above = true
+mayEnclose loop above = false
+mayEnclose ordered single = false
+mayEnclose ordered master = false
+mayEnclose ordered critical = false
+mayEnclose ordered loop = true
+mayEnclose ordered ordered = false
+
+-- Two criticals of the same name, the unnamed ones among them.
+unfoldable pub sameCritical : ℕ → ℕ → ℕ → ℕ → Bool
+sameCritical kind name above aboveName = eqb kind criticalByte && (eqb above criticalByte && eqb name aboveName)
+
+-- A construct of the kind `above` may not stand above one of the kind `kind`: by their kinds, or as two criticals of the same name.
+unfoldable pub excluded : ℕ → ℕ → ℕ → ℕ → Bool
+excluded kind name above aboveName = not (mayEnclose (kindOf kind) (kindOf above)) || sameCritical kind name above aboveName
+
+-- Construct k stands above construct c and may not stand there.
+unfoldable pub wronglyAbove : List Construct → ℕ → ℕ → Bool
+wronglyAbove constructs c k =
+    encloses (parentOf constructs) (length constructs) (parentOf constructs c) k
+    && excluded (constructAt constructs c .kind) (constructAt constructs c .name) (constructAt constructs k .kind) (constructAt constructs k .name)
+
+-- An ordered whose parent is no do.
+unfoldable pub strayOrdered : List Construct → ℕ → Bool
+strayOrdered constructs c =
+    eqb (constructAt constructs c .kind) orderedByte && not (eqb (constructAt constructs (parentOf constructs c) .kind) loopByte)
+
+-- Construct c breaks the nesting rule.
+unfoldable pub misnested : List Construct → ℕ → Bool
+misnested constructs c = any (length constructs) (wronglyAbove constructs c) || strayOrdered constructs c
+
+-- A table that has the rule: rows by kind, columns by kind above, kinds counted from 0.
+pub record NestingTable (table : List (List Bool)) : Type 0 where
+  pub entry : (kind above : ℕ) → kind < 5 → above < 5 → getD (getD table kind []) above false ≡ mayEnclose (kindOf (kind + 1)) (kindOf (above + 1))

@@ -1,0 +1,40 @@
+-- A region: the control flow of one parallel region as one team runs it. Everything past the format is defined over it: paths, phases,
+-- answers, team rules. How a chart is read as a region is in specs/Reading.antt.
+-- Assumes nothing.
+use mathlib.Core.Bool.{Bool}
+use Prim.Native.Nat.{ℕ}
+
+-- What a node is: it opens or closes a construct (01: begin and end), or is a barrier, or is plain.
+pub data Role : Type 0 where
+  plain barrier : Role
+  opens closes : ℕ → Role
+
+-- The kinds of constructs; `loop` is 01's do.
+pub data Kind : Type 0 where
+  single master critical loop ordered : Kind
+  deriving Discrete as Kind-discrete
+
+-- Kinds above which nothing may stand.
+abbrev pub Outermost : Kind → Type 0
+Outermost single = Unit {0}
+Outermost master = ⊥
+Outermost critical = ⊥
+Outermost loop = Unit {0}
+Outermost ordered = ⊥
+
+pub record Region : Type 0 where
+  -- node numbers and construct numbers that occur are below these; nothing else is read off them
+  pub nodes : ℕ
+  pub constructs : ℕ
+  pub role : ℕ → Role
+  pub edge : ℕ → ℕ → Bool
+  -- node x is inside construct c, at any depth (01: inside); a construct's begin and end are not
+  pub inside : ℕ → ℕ → Bool
+  pub kind : ℕ → Kind
+  pub parent : ℕ → ℕ
+  -- the number of the one thread that goes into a master
+  pub thread : ℕ → ℕ
+  pub begin : ℕ → ℕ
+  pub end : ℕ → ℕ
+  pub start : ℕ
+  pub finish : ℕ

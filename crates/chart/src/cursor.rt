@@ -1,0 +1,138 @@
+// A reading position in the bytes of a chart, and the records that stand there.
+ghost use mathlib.Core.Path.{_≡_};
+ghost use Prim.Native.Nat.{ℕ, _+_, _*_, _-_, _≤_, _<_};
+ghost use lib.ListN.{getD, length};
+ghost use Rattle.chart.specs.Format.{field, decode, nodeAt, edgeAt, constructAt};
+ghost use Rattle.chart.specs.Checked.{Laid, countsOf};
+use crate::format::Chart;
+use crate::format::Construct;
+use crate::format::Edge;
+use crate::format::Node;
+
+pub struct Cursor {
+    pub at: usize,
+}
+
+impl Cursor {
+    pub fn trailer(s: &[u8]) -> Self
+        requires { ⌜ 16 ≤ length (now s) ⌝ }
+        ensures { λ r. ⌜ r .at ≡ length (now (s .entry)) - 16 ⌝ }
+    {
+        Cursor {
+            at: s.len() - Chart::TRAILER_BYTES,
+        }
+    }
+
+    pub fn node(x: usize) -> Self
+        requires { ⌜ x < 192 ⌝ }
+        ensures { λ r. ⌜ r .at ≡ 4 * x ⌝ }
+    {
+        Cursor {
+            at: Node::BYTES * x,
+        }
+    }
+
+    pub fn edge(chart: Chart, i: usize) -> Self
+        requires { ⌜ (chart .nodes ≤ 192) × (i < 1024) ⌝ }
+        ensures { λ r. ⌜ r .at ≡ 4 * chart .nodes + 2 * i ⌝ }
+    {
+        Cursor {
+            at: Node::BYTES * chart.nodes + Edge::BYTES * i,
+        }
+    }
+
+    pub fn construct(chart: Chart, c: usize) -> Self
+        requires { ⌜ (chart .nodes ≤ 192) × (chart .edges ≤ 1024) × (c < 48) ⌝ }
+        ensures { λ r. ⌜ r .at ≡ 4 * chart .nodes + 2 * chart .edges + 4 * c ⌝ }
+    {
+        Cursor {
+            at: Node::BYTES * chart.nodes + Edge::BYTES * chart.edges + Construct::BYTES * c,
+        }
+    }
+
+    // The byte at an offset from the cursor.
+    pub fn byte(self, s: &[u8], offset: usize) -> u8
+        requires { ⌜ self .at + offset < length (now s) ⌝ }
+        ensures { λ r. ⌜ r ≡ getD (now (s .entry)) (self .at + offset) 0 ⌝ }
+    {
+        let at = self.at + offset;
+        s[at]
+    }
+
+    // The field of two bytes at an offset from the cursor.
+    pub fn field(self, s: &[u8], offset: usize) -> usize
+        requires { ⌜ self .at + offset + 1 < length (now s) ⌝ }
+        ensures { λ r. ⌜ (r ≡ field (now (s .entry)) (self .at + offset)) × (r < 65536) ⌝ }
+    {
+        let at = self.at + offset;
+        wide(s[at]) + 256 * wide(s[at + 1])
+    }
+}
+
+// A byte as an index.
+pub fn wide(byte: u8) -> usize
+    ensures { λ r. ⌜ (r ≡ byte) × (r < 256) ⌝ }
+{
+    byte as usize
+}
+
+impl Chart {
+    // The counts that the trailer gives.
+    pub fn read(s: &[u8]) -> Chart
+        requires { ⌜ 16 ≤ length (now s) ⌝ }
+        ensures { λ r. ⌜ r ≡ countsOf (now (s .entry)) ⌝ }
+        ensures { λ r. ⌜ (r .nodes < 65536) × (r .edges < 65536) × (r .constructs < 65536) ⌝ }
+    {
+        let cursor = Cursor::trailer(s);
+        Chart {
+            nodes: cursor.field(s, 2),
+            edges: cursor.field(s, 4),
+            constructs: cursor.field(s, 6),
+        }
+    }
+}
+
+impl Node {
+    // Node x of a chart.
+    pub fn read(s: &[u8], chart: Chart, x: usize) -> Node
+        requires { ⌜ Laid (now s) chart × (x < chart .nodes) ⌝ }
+        ensures { λ r. ⌜ (r .kind ≡ nodeAt (decode (now (s .entry)) .nodes) x .kind) × (r .number ≡ nodeAt (decode (now (s .entry)) .nodes) x .number) ⌝ }
+    {
+        let cursor = Cursor::node(x);
+        Node {
+            kind: cursor.byte(s, 0),
+            number: cursor.byte(s, 1),
+        }
+    }
+}
+
+impl Edge {
+    // Edge i of a chart.
+    pub fn read(s: &[u8], chart: Chart, i: usize) -> Edge
+        requires { ⌜ Laid (now s) chart × (i < chart .edges) ⌝ }
+        ensures { λ r. ⌜ (r .from ≡ edgeAt (decode (now (s .entry)) .edges) i .from) × (r .to ≡ edgeAt (decode (now (s .entry)) .edges) i .to) ⌝ }
+    {
+        let cursor = Cursor::edge(chart, i);
+        Edge {
+            from: cursor.byte(s, 0),
+            to: cursor.byte(s, 1),
+        }
+    }
+}
+
+impl Construct {
+    // Construct c of a chart.
+    pub fn read(s: &[u8], chart: Chart, c: usize) -> Construct
+        requires { ⌜ Laid (now s) chart × (c < chart .constructs) ⌝ }
+        ensures { λ r.
+            let k = constructAt (decode (now (s .entry)) .constructs) c in
+            ⌜ (r .kind ≡ k .kind) × (r .parent ≡ k .parent) × (r .name ≡ k .name) ⌝ }
+    {
+        let cursor = Cursor::construct(chart, c);
+        Construct {
+            kind: cursor.byte(s, 0),
+            parent: cursor.byte(s, 1),
+            name: cursor.field(s, 2),
+        }
+    }
+}

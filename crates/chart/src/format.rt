@@ -1,0 +1,120 @@
+// The numbers of the format and the types that they describe.
+
+// A chart whose trailer has been read, by its counts; its limits; and the marks of its trailer.
+pub struct Chart {
+    pub nodes: usize,
+    pub edges: usize,
+    pub constructs: usize,
+}
+
+impl Chart {
+    pub const LEAST_NODES: usize = 2;
+
+    pub const NODES: usize = 192;
+
+    pub const LEAST_EDGES: usize = 1;
+
+    pub const EDGES: usize = 1024;
+
+    pub const CONSTRUCTS: usize = 48;
+
+    pub const BARRIERS: usize = 64;
+
+    pub const EDITION: usize = 1;
+    // The bytes 4F 43, read as a field.
+    pub const CLOSING: usize = 0x434f;
+
+    pub const TRAILER_BYTES: usize = 16;
+    // A row for each kind of construct, a column for each kind above it: single, master, critical, do, ordered.
+    pub const NESTING: [[bool; 5]; 5] = [
+        [false, false, false, false, false],
+        [false, false, true, false, false],
+        [true, true, true, true, true],
+        [false, false, false, false, false],
+        [false, false, false, true, false],
+    ];
+}
+
+// A node's record, without its tag, which nothing reads.
+pub struct Node {
+    pub kind: u8,
+    pub number: u8,
+}
+
+impl Node {
+    pub const BYTES: usize = 4;
+
+    pub const PLAIN: u8 = 0;
+
+    pub const BARRIER: u8 = 1;
+
+    pub const BEGIN: u8 = 2;
+
+    pub const END: u8 = 3;
+}
+
+pub struct Edge {
+    pub from: u8,
+    pub to: u8,
+}
+
+impl Edge {
+    pub const BYTES: usize = 2;
+}
+
+pub struct Construct {
+    pub kind: u8,
+    pub parent: u8,
+    pub name: usize,
+}
+
+impl Construct {
+    pub const BYTES: usize = 4;
+
+    pub const SINGLE: u8 = 1;
+
+    pub const MASTER: u8 = 2;
+
+    pub const CRITICAL: u8 = 3;
+
+    pub const DO: u8 = 4;
+
+    pub const ORDERED: u8 = 5;
+    // The number that stands for no construct.
+    pub const NONE: u8 = 255;
+}
+
+// A refusal is its number alone.
+pub struct Refusal {
+    pub number: u8,
+}
+
+impl Refusal {
+    pub const SHORT: Refusal = Refusal { number: 1 };
+
+    pub const MARKS: Refusal = Refusal { number: 2 };
+
+    pub const COUNTS: Refusal = Refusal { number: 3 };
+
+    pub const LENGTHS: Refusal = Refusal { number: 4 };
+
+    pub const NODES: Refusal = Refusal { number: 5 };
+
+    pub const CONSTRUCTS: Refusal = Refusal { number: 6 };
+
+    pub const FRAMES: Refusal = Refusal { number: 7 };
+
+    pub const BARRIERS: Refusal = Refusal { number: 8 };
+
+    pub const EDGES: Refusal = Refusal { number: 9 };
+
+    pub const PATHS: Refusal = Refusal { number: 10 };
+
+    pub const ROOM: Refusal = Refusal { number: 11 };
+}
+
+// What checking a chart answers.
+pub enum Checked {
+    Passed(Chart),
+    Refused(Refusal),
+}
