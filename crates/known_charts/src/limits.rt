@@ -1,0 +1,92 @@
+// Charts at the limits and one past them, too long to be spelt.
+use crate::report::report_before;
+use crate::spelling::put;
+use crate::spelling::put_field;
+use crate::trailer::Ends;
+use crate::trailer::put_trailer;
+use chart::format::Construct;
+use chart::format::Node;
+
+// What is written again and again: a plain node, a barrier, the begin and the end of construct k, a critical, the edge from k to k + 1, or
+// edge k of all those from the first 32 nodes to nodes 1 to 32.
+enum Pattern {
+    Plain,
+    Barrier,
+    Frame,
+    Critical,
+    Step,
+    Grid,
+}
+
+fn put_edge(out: &mut [u8], at: usize, from: u32, to: u32) -> usize {
+    let next = put(out, at, (from % 256) as u8);
+    put(out, next, (to % 256) as u8)
+}
+
+// A node with its number, or a construct with its parent.
+fn put_record(out: &mut [u8], at: usize, kind: u8, number: u8) -> usize {
+    let second = put(out, at, kind);
+    let last = put(out, second, number);
+    put_field(out, last, 0)
+}
+
+fn put_frame(out: &mut [u8], at: usize, number: u8) -> usize {
+    let next = put_record(out, at, Node::BEGIN, number);
+    put_record(out, next, Node::END, number)
+}
+
+fn put_pattern(out: &mut [u8], at: usize, pattern: Pattern, k: u16) -> usize {
+    let number = k as u32;
+    match pattern {
+        Pattern::Plain => put_record(out, at, Node::PLAIN, Construct::NONE),
+        Pattern::Barrier => put_record(out, at, Node::BARRIER, Construct::NONE),
+        Pattern::Frame => put_frame(out, at, (k % 256) as u8),
+        Pattern::Critical => put_record(out, at, Construct::CRITICAL, Construct::NONE),
+        Pattern::Step => put_edge(out, at, number, number + 1),
+        Pattern::Grid => put_edge(out, at, number / 32, number % 32 + 1),
+    }
+}
+
+// Writes a pattern so many times and answers the place after.
+fn repeat(out: &mut [u8], start: usize, pattern: Pattern, times: u16) -> usize {
+    let mut at = start;
+    let mut k = 0;
+    while k < times {
+        at = put_pattern(out, at, pattern, k);
+        k += 1;
+    }
+    at
+}
+
+fn put_nodes(out: &mut [u8], pattern: Pattern, times: u16) -> usize {
+    let start = repeat(out, 0, Pattern::Barrier, 1);
+    let middle = repeat(out, start, pattern, times);
+    repeat(out, middle, Pattern::Barrier, 1)
+}
+
+// A line for the chart with these nodes between Start and Finish, these edges and so many criticals.
+fn generate(name: &[u8], nodes: Pattern, n: u16, edges: Pattern, e: u16, c: u16) {
+    let mut buffer = io::buffer();
+    let nodes_end = put_nodes(&mut buffer, nodes, n);
+    let edges_end = repeat(&mut buffer, nodes_end, edges, e);
+    let constructs_end = repeat(&mut buffer, edges_end, Pattern::Critical, c);
+    let ends = Ends {
+        nodes: nodes_end,
+        edges: edges_end,
+        constructs: constructs_end,
+    };
+    let end = put_trailer(&mut buffer, ends);
+    io::write_all(1, name);
+    report_before(&buffer, end);
+}
+
+pub fn limits() {
+    generate(b"nodes-192", Pattern::Plain, 190, Pattern::Step, 191, 0);
+    generate(b"nodes-193", Pattern::Plain, 191, Pattern::Step, 192, 0);
+    generate(b"edges-1024", Pattern::Plain, 31, Pattern::Grid, 1024, 0);
+    generate(b"edges-1025", Pattern::Plain, 31, Pattern::Grid, 1025, 0);
+    generate(b"constructs-48", Pattern::Frame, 48, Pattern::Step, 97, 48);
+    generate(b"constructs-49", Pattern::Frame, 49, Pattern::Step, 99, 49);
+    generate(b"barriers-64", Pattern::Barrier, 62, Pattern::Step, 63, 0);
+    generate(b"barriers-65", Pattern::Barrier, 63, Pattern::Step, 64, 0);
+}

@@ -1,0 +1,125 @@
+// Spelt charts, one on each line: name, nodes, edges and constructs, with a / between them. After one more / comes the trailer in
+// hexadecimal; where it is left out it follows from the parts. A line with a # in front is a comment.
+use crate::report::report_before;
+use crate::spelling::put;
+use crate::spelling::value;
+use crate::trailer::Ends;
+use crate::trailer::put_trailer;
+
+// How far a line has been read: the part, the place for its next byte, where the nodes and the edges end, and the first half of a byte of
+// the trailer.
+struct Line {
+    part: u8,
+    at: usize,
+    nodes: usize,
+    edges: usize,
+    half: u8,
+}
+
+impl Line {
+    const NAME: u8 = 0;
+
+    const NODES: u8 = 1;
+
+    const EDGES: u8 = 2;
+
+    const CONSTRUCTS: u8 = 3;
+
+    const TRAILER: u8 = 4;
+
+    const COMMENT: u8 = 5;
+    // No half of a byte has been read.
+    const WHOLE: u8 = 255;
+
+    fn new(part: u8) -> Line {
+        Line {
+            part: part,
+            at: 0,
+            nodes: 0,
+            edges: 0,
+            half: Line::WHOLE,
+        }
+    }
+
+    // The line at the / after a part.
+    fn next(mut self) -> Line {
+        if self.part == Line::NODES {
+            self.nodes = self.at;
+        }
+        if self.part == Line::EDGES {
+            self.edges = self.at;
+        }
+        if self.part < Line::TRAILER {
+            self.part += 1;
+        }
+        self
+    }
+
+    fn byte(mut self, out: &mut [u8], byte: u8) -> Line {
+        self.at = put(out, self.at, byte);
+        self.half = Line::WHOLE;
+        self
+    }
+
+    fn digit(mut self, out: &mut [u8], digit: u8) -> Line {
+        if self.half == Line::WHOLE {
+            self.half = digit;
+            return self;
+        }
+        self.byte(out, self.half % 16 * 16 + digit % 16)
+    }
+
+    fn letter(self, out: &mut [u8], letter: u8) -> Line {
+        if self.part == Line::COMMENT {
+            return self;
+        }
+        if self.part == Line::NAME {
+            io::write_all(1, &[letter]);
+            return self;
+        }
+        if self.part == Line::TRAILER {
+            return self.digit(out, value(letter));
+        }
+        self.byte(out, value(letter))
+    }
+
+    fn end(self, out: &mut [u8]) {
+        if self.part == Line::TRAILER {
+            report_before(out, self.at);
+            return;
+        }
+        if self.part != Line::CONSTRUCTS {
+            return;
+        }
+        let ends = Ends {
+            nodes: self.nodes,
+            edges: self.edges,
+            constructs: self.at,
+        };
+        let length = put_trailer(out, ends);
+        report_before(out, length);
+    }
+
+    fn read(self, out: &mut [u8], letter: u8) -> Line {
+        match letter {
+            b'\n' => {
+                self.end(out);
+                Line::new(Line::NAME)
+            }
+            b'#' => Line::new(Line::COMMENT),
+            b'/' => self.next(),
+            b' ' => self,
+            _ => self.letter(out, letter),
+        }
+    }
+}
+
+// Writes a line for each chart of a text.
+pub fn read_lines(out: &mut [u8], text: &[u8]) {
+    let mut line = Line::new(Line::NAME);
+    let mut i = 0;
+    while i < text.len() {
+        line = line.read(out, text[i]);
+        i += 1;
+    }
+}

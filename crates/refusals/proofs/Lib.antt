@@ -1,0 +1,5 @@
+mod Frames
+mod Ancestors
+mod Table
+pub mod Outcome
+mod Sides

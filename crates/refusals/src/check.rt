@@ -1,0 +1,58 @@
+// Rows 1 to 9 of the refusals over any bytes.
+ghost use mathlib.Core.Path.{_≡_};
+ghost use lib.ListN.{length};
+ghost use Rattle.chart.specs.Format.{decode};
+ghost use Rattle.chart.specs.Refusal.{firstOf, tableRows};
+ghost use Rattle.chart.specs.Checked.{Laid, answer, checked, numberOf};
+use crate::constructs::bad_constructs;
+use crate::edges::bad_edges;
+use crate::nodes::bad_barriers;
+use crate::nodes::bad_frames;
+use crate::nodes::bad_nodes;
+use crate::trailer::read_trailer;
+use chart::format::Chart;
+use chart::format::Checked;
+use chart::format::Refusal;
+
+// Rows 5 to 9.
+fn check_tables(s: &[u8], chart: Chart) -> Checked
+    requires { ⌜ Laid (now s) chart ⌝ }
+    ensures { λ r. ⌜ r ≡ answer (firstOf (tableRows (decode (now (s .entry))))) chart ⌝ }
+{
+    if bad_nodes(s, chart) {
+        return Checked::Refused(Refusal::NODES);
+    }
+    if bad_constructs(s, chart) {
+        return Checked::Refused(Refusal::CONSTRUCTS);
+    }
+    if bad_frames(s, chart) {
+        return Checked::Refused(Refusal::FRAMES);
+    }
+    if bad_barriers(s, chart) {
+        return Checked::Refused(Refusal::BARRIERS);
+    }
+    if bad_edges(s, chart) {
+        return Checked::Refused(Refusal::EDGES);
+    }
+    Checked::Passed(chart)
+}
+
+// The first of rows 1 to 9 that applies, or the counts of the chart.
+pub fn check(s: &[u8]) -> Checked
+    ensures { λ r. ⌜ r ≡ checked (now (s .entry)) ⌝ }
+{
+    match read_trailer(s) {
+        Checked::Refused(refusal) => Checked::Refused(refusal),
+        Checked::Passed(chart) => check_tables(s, chart),
+    }
+}
+
+// 01's number for what checking answers.
+pub fn number(answer: Checked) -> u8
+    ensures { λ r. ⌜ r ≡ numberOf answer ⌝ }
+{
+    match answer {
+        Checked::Passed(_) => 0,
+        Checked::Refused(refusal) => refusal.number,
+    }
+}

@@ -1,0 +1,7 @@
+// Refusals 1 to 9 of a chart, each row over the whole chart before the next. `check::check` takes any bytes; its contract cites
+// `checked` of crate `chart`.
+pub mod check;
+pub mod constructs;
+pub mod edges;
+pub mod nodes;
+pub mod trailer;
