@@ -1,0 +1,30 @@
+-- Row 10 of the refusals, and rows 1 to 10: a chart to which none of them applies is admitted.
+-- Assumes nothing.
+use mathlib.Core.Path.{_≡_}
+use mathlib.Core.Bool.{Bool, _&&_, _||_, not}
+use mathlib.Core.List.{List, [], _∷_, _++_}
+use mathlib.Core.Option.{none}
+use Prim.Native.Nat.{ℕ}
+use lib.Dec.{eqb}
+use Rattle.lists.specs.Range.{any}
+use Rattle.chart.specs.Format.{decode}
+use Rattle.chart.specs.Region.{Region}
+use Rattle.chart.specs.Reading.{region}
+use Rattle.chart.specs.Refusal.{Row, firstOf, chartRows}
+use Rattle.paths.specs.Decide.{reachesAny}
+
+-- Row 10, of one node: other than start and not reached from start, or other than finish and not reaching finish, along edges.
+unfoldable pub cutOff : Region → ℕ → Bool
+cutOff R x =
+    (not (eqb x (R .start)) && not (reachesAny R (R .start) x)) || (not (eqb x (R .finish)) && not (reachesAny R x (R .finish)))
+
+unfoldable pub badPaths : Region → Bool
+badPaths R = any (R .nodes) (cutOff R)
+
+-- Rows 1 to 10.
+unfoldable pub admitRows : List ℕ → List Row
+admitRows s = chartRows s ++ (record { number = 10; applies = badPaths (region (decode s)) } ∷ [])
+
+-- The bytes are those of a chart to which none of rows 1 to 10 applies (01: admitted).
+abbrev pub Admitted : List ℕ → Type 0
+Admitted s = firstOf (admitRows s) ≡ none

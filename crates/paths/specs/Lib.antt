@@ -1,0 +1,14 @@
+pub mod Path
+pub mod PathLaws
+pub mod Connected
+pub mod Reach
+pub mod ReachLaws
+pub mod Decide
+pub mod Graph
+pub mod Examples
+pub mod Found
+pub mod FoundLaws
+pub mod Steps
+pub mod Invariant
+pub mod Admission
+pub mod AdmissionLaws

@@ -1,0 +1,43 @@
+-- Laws of paths: joined, carried over to another graph, and reversed, each with its number of edges.
+-- Assumes nothing.
+use mathlib.Core.Path.{_≡_, refl, ap, _∙_}
+use Prim.Native.Nat.{ℕ, suc, _+_, _≤_}
+use native.Mathlib.Omega.{arith}
+use Rattle.paths.specs.Path.{Path, last, next, edges}
+
+pub edges-some : {E : ℕ → ℕ → Type 0} {P : ℕ → Type 0} {x y : ℕ} (w : Path E P x y) → 1 ≤ edges w
+unfolding edges
+edges-some (last e) = omega arith
+edges-some (next e p w) = omega arith
+
+-- one path after another, and so with `last` one edge more at the end
+pub append : {E : ℕ → ℕ → Type 0} {P : ℕ → Type 0} {x y z : ℕ} → Path E P x y → P y → Path E P y z → Path E P x z
+append (last e) p v = next e p v
+append (next e q w) p v = next e q (append w p v)
+
+pub edges-append : {E : ℕ → ℕ → Type 0} {P : ℕ → Type 0} {x y z : ℕ} (w : Path E P x y) (p : P y) (v : Path E P y z)
+    → edges (append w p v) ≡ edges w + edges v
+unfolding edges append
+edges-append (last e) p v = omega arith
+edges-append (next e q w) p v = omega (arith, edges-append w p v)
+
+-- a path stays one along other edges and past other nodes, where these have what those have
+module _ {E F : ℕ → ℕ → Type 0} {P Q : ℕ → Type 0} (f : (x y : ℕ) → E x y → F x y) (g : (z : ℕ) → P z → Q z) where
+  pub carry : {x y : ℕ} → Path E P x y → Path F Q x y
+  carry (last e) = last (f _ _ e)
+  carry (next e p w) = next (f _ _ e) (g _ p) (carry w)
+
+  pub edges-carry : {x y : ℕ} (w : Path E P x y) → edges (carry w) ≡ edges w
+  unfolding edges carry
+  edges-carry (last e) = refl
+  edges-carry (next e p w) = ap suc (edges-carry w)
+
+-- a path reversed is one of the graph with its edges turned round
+pub reverse : {E : ℕ → ℕ → Type 0} {P : ℕ → Type 0} {x y : ℕ} → Path E P x y → Path (λ x y. E y x) P y x
+reverse (last e) = last e
+reverse (next e p w) = append (reverse w) p (last e)
+
+pub edges-reverse : {E : ℕ → ℕ → Type 0} {P : ℕ → Type 0} {x y : ℕ} (w : Path E P x y) → edges (reverse w) ≡ edges w
+unfolding edges reverse
+edges-reverse (last e) = refl
+edges-reverse (next e p w) = edges-append (reverse w) p (last e) ∙ omega (arith, edges-reverse w)
