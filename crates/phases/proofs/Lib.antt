@@ -1,0 +1,4 @@
+pub mod Accepted
+pub mod Loading
+pub mod Searching
+pub mod Counting

@@ -1,0 +1,4 @@
+pub mod Phases
+pub mod PhasesLaws
+pub mod Tables
+pub mod Admission

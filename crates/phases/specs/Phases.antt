@@ -1,0 +1,59 @@
+-- Phases (01: "Phases and pair rules"): the barriers that are starts and ends of a node, the constructs that return, the phase count.
+-- What these computed definitions mean in paths is in specs/PhasesLaws.antt.
+-- Assumes nothing.
+use mathlib.Core.Bool.{Bool, _&&_, not}
+use mathlib.Core.List.{List}
+use Prim.Native.Nat.{ℕ}
+use lib.ListN.{length, getD}
+use Rattle.lists.specs.Range.{any, countPairs}
+use Rattle.lists.specs.Mask.{maskOf}
+use Rattle.lists.specs.Select.{select}
+use Rattle.chart.specs.Region.{Region}
+use Rattle.paths.specs.Decide.{noBarrier, reachesFree}
+
+-- Along the edges, or against them. Starts are read forward, ends backward.
+pub data Direction : Type 0 where
+  forward backward : Direction
+
+-- A barrier-free path leads from x to y; backward: from y to x.
+abbrev pub leads : Direction → Region → ℕ → ℕ → Bool
+leads forward R x y = reachesFree R x y
+leads backward R x y = reachesFree R y x
+
+-- The barriers, numbered from 0 by rising node number.
+unfoldable pub barriers : Region → List ℕ
+barriers R = select (R .nodes) (λ x. not (noBarrier (R .role x)))
+
+-- The node of barrier number b.
+abbrev pub barrierAt : Region → ℕ → ℕ
+barrierAt R b = getD (barriers R) b 0
+
+-- Barrier b is a start of node x (01: start); backward: an end (01: end). Barriers have no starts and no ends.
+unfoldable pub marked : Direction → Region → ℕ → ℕ → Bool
+marked d R x b = noBarrier (R .role x) && leads d R (barrierAt R b) x
+
+-- As a mask, with bit b for barrier b.
+unfoldable pub marks : Direction → Region → ℕ → ℕ
+marks d R x = maskOf (marked d R x) (length (barriers R))
+
+abbrev pub starts : Region → ℕ → ℕ
+starts R x = marks forward R x
+
+abbrev pub ends : Region → ℕ → ℕ
+ends R x = marks backward R x
+
+-- Some node has the start b and the end c (01: phase).
+unfoldable pub phase : Region → ℕ → ℕ → Bool
+phase R b c = any (R .nodes) (λ x. marked forward R x b && marked backward R x c)
+
+-- How many such pairs there are (01: phase count).
+unfoldable pub phaseCount : Region → ℕ
+phaseCount R = countPairs (length (barriers R)) (length (barriers R)) (phase R)
+
+-- A barrier-free path leads from the end of construct c to its begin (01: c returns).
+unfoldable pub returns : Region → ℕ → Bool
+returns R c = reachesFree R (R .end c) (R .begin c)
+
+-- As a mask, with bit c for construct c.
+unfoldable pub returning : Region → ℕ
+returning R = maskOf (returns R) (R .constructs)
