@@ -1,0 +1,60 @@
+-- The pair rules (01: "Phases and pair rules"): the answer for two nodes, which may be equal, by computation. It is asked for nodes that are
+-- no barriers; 01 gives barriers no starts and no ends. What it means is in specs/AnswerLaws.antt.
+-- Assumes nothing.
+use mathlib.Core.Bool.{Bool, _&&_, _||_, not, cond}
+use Prim.Native.Nat.{ℕ}
+use lib.Dec.{eqb}
+use Rattle.lists.specs.Truth.{is}
+use Rattle.lists.specs.Range.{any}
+use Rattle.chart.specs.Region.{Kind, Kind-discrete, single, master, ordered, Region}
+use Rattle.paths.specs.Decide.{noBarrier, reachesFree}
+
+-- s is a start of x (01: start): a barrier from which a barrier-free path leads to x.
+unfoldable pub isStart : Region → ℕ → ℕ → Bool
+isStart R x s = not (noBarrier (R .role s)) && reachesFree R s x
+
+-- e is an end of x (01: end): a barrier to which a barrier-free path leads from x.
+unfoldable pub isEnd : Region → ℕ → ℕ → Bool
+isEnd R x e = not (noBarrier (R .role e)) && reachesFree R x e
+
+-- The construct returns (01: returns): a barrier-free path leads from its end to its begin.
+unfoldable pub returns : Region → ℕ → Bool
+returns R c = reachesFree R (R .end c) (R .begin c)
+
+-- x is inside c (01: inside, at any depth), a construct of this kind.
+unfoldable pub isIn : Region → Kind → ℕ → ℕ → Bool
+isIn R kind x c = is (Kind-discrete (R .kind c) kind) && R .inside x c
+
+-- x is inside an ordered of the do d.
+unfoldable pub inOrderedOf : Region → ℕ → ℕ → Bool
+inOrderedOf R x d = any (R .constructs) (λ o. isIn R ordered x o && eqb (R .parent o) d)
+
+-- No node is a start of a and of b; nor, said of ends, an end.
+unfoldable pub noCommon : ℕ → (ℕ → ℕ → Bool) → ℕ → ℕ → Bool
+noCommon nodes of a b = not (any nodes (λ s. of a s && of b s))
+
+-- Rule 1: no common start, or no common end.
+unfoldable pub noCommonPhase : Region → ℕ → ℕ → Bool
+noCommonPhase R a b = noCommon (R .nodes) (isStart R) a b || noCommon (R .nodes) (isEnd R) a b
+
+-- Rule 2: each is inside some master, the two of the same thread number. In 01 all have thread 0, so that any two masters will do.
+unfoldable pub bothInMasters : Region → ℕ → ℕ → Bool
+bothInMasters R a b =
+    any (R .constructs) (λ c. any (R .constructs) (λ d. (isIn R master a c && isIn R master b d) && eqb (R .thread c) (R .thread d)))
+
+-- Rule 3: both inside one single, which does not return.
+unfoldable pub bothInSingle : Region → ℕ → ℕ → Bool
+bothInSingle R a b = any (R .constructs) (λ c. (isIn R single a c && isIn R single b c) && not (returns R c))
+
+-- Rule 4: both inside ordereds of one do, which does not return.
+unfoldable pub bothInOrdereds : Region → ℕ → ℕ → Bool
+bothInOrdereds R a b = any (R .constructs) (λ d. (inOrderedOf R a d && inOrderedOf R b d) && not (returns R d))
+
+-- The number of the first rule that applies: a reason why the nodes are never concurrent (01: never). 0 otherwise (01: they may meet).
+unfoldable pub answer : Region → ℕ → ℕ → ℕ
+answer R a b =
+    cond (noCommonPhase R a b) 1
+    (cond (bothInMasters R a b) 2
+    (cond (bothInSingle R a b) 3
+    (cond (bothInOrdereds R a b) 4
+    0)))

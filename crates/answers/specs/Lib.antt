@@ -1,0 +1,4 @@
+pub mod Answer
+pub mod Unexcluded
+pub mod AnswerLaws
+pub mod Starred

@@ -1,0 +1,62 @@
+-- What the pair rules say, in paths and constructs: the condition of each rule, and what they leave open, that a and b are excluded by none
+-- of them. This is what 01's answer 0 stands for.
+-- Assumes nothing.
+use mathlib.Core.Path.{_≡_}
+use mathlib.Core.Logic.{_⊎_, _≢_}
+use mathlib.Core.Bool.{true}
+use Prim.Native.Nat.{ℕ}
+use Rattle.chart.specs.Region.{Kind, barrier, single, master, Region}
+use Rattle.chart.specs.InOrdered.{InOrdered}
+use Rattle.paths.specs.Path.{BarrierFree}
+
+-- A barrier-free path leads from the construct's end to its begin (01: it returns).
+abbrev pub Returns : Region → ℕ → Type 0
+Returns R c = BarrierFree R (R .end c) (R .begin c)
+
+-- s is a start of x, e an end of x; one is common to a and b.
+abbrev pub Start : Region → ℕ → ℕ → Type 0
+Start R x s = (R .role s ≡ barrier) × BarrierFree R s x
+
+abbrev pub End : Region → ℕ → ℕ → Type 0
+End R x e = (R .role e ≡ barrier) × BarrierFree R x e
+
+abbrev pub Common : (ℕ → ℕ → Type 0) → ℕ → ℕ → Type 0
+Common Of a b = (s : ℕ) × (Of a s × Of b s)
+
+-- x is inside c, a construct of this kind.
+abbrev pub In : Region → Kind → ℕ → ℕ → Type 0
+In R kind x c = (R .kind c ≡ kind) × (R .inside x c ≡ true)
+
+-- The rules, with their numbers in 01's list, which are also the answers.
+pub data Rule : Type 0 where
+  by-phase by-master by-single by-ordered : Rule
+
+abbrev pub number : Rule → ℕ
+number by-phase = 1
+number by-master = 2
+number by-single = 3
+number by-ordered = 4
+
+-- The condition of each rule by itself, whether or not that of an earlier rule holds too.
+abbrev pub Excludes : Region → ℕ → ℕ → Rule → Type 0
+Excludes R a b by-phase = (Common (Start R) a b → ⊥) ⊎ (Common (End R) a b → ⊥)
+Excludes R a b by-master = (c : ℕ) × ((d : ℕ) × ((In R master a c × In R master b d) × (R .thread c ≡ R .thread d)))
+Excludes R a b by-single = (c : ℕ) × ((In R single a c × In R single b c) × (Returns R c → ⊥))
+Excludes R a b by-ordered = (d : ℕ) × ((InOrdered R a d × InOrdered R b d) × (Returns R d → ⊥))
+
+pub record Unexcluded (R : Region) (a b : ℕ) : Type 0 where
+  -- rule 1: a common start and a common end
+  pub start : ℕ
+  pub start-barrier : R .role start ≡ barrier
+  pub start-a : BarrierFree R start a
+  pub start-b : BarrierFree R start b
+  pub end : ℕ
+  pub end-barrier : R .role end ≡ barrier
+  pub end-a : BarrierFree R a end
+  pub end-b : BarrierFree R b end
+  -- rule 2: masters around a and b are masters of different threads. With one thread number for all, as in 01, not both are in a master.
+  pub masters : (c d : ℕ) → R .kind c ≡ master → R .kind d ≡ master → R .inside a c ≡ true → R .inside b d ≡ true → R .thread c ≢ R .thread d
+  -- rule 3: a single around both returns
+  pub singles : (c : ℕ) → R .kind c ≡ single → R .inside a c ≡ true → R .inside b c ≡ true → Returns R c
+  -- rule 4: a do with both inside its ordereds returns
+  pub ordereds : (d : ℕ) → InOrdered R a d → InOrdered R b d → Returns R d

@@ -1,0 +1,14 @@
+pub mod Paths
+pub mod Constructs
+pub mod Nesting
+pub mod Hops
+pub mod Runs
+pub mod Invariant
+pub mod Sound
+pub mod Walk
+pub mod Travel
+pub mod Rounds
+pub mod Rendezvous
+pub mod Complete
+pub mod Exact
+pub mod Answered

@@ -1,0 +1,79 @@
+-- Paths in any graph: joined, turned round, taken apart, and cut at the door of a set of nodes.
+-- Assumes nothing.
+use mathlib.Core.Path.{_≡_, refl, subst}
+use mathlib.Core.Logic.{_⊎_, inl, inr, _≢_}
+use Prim.Native.Nat.{ℕ}
+use native.Mathlib.Decide.{ℕ-discrete}
+use Rattle.paths.specs.Path.{Path, last, next}
+
+abbrev pub Both : (ℕ → Type 0) → (ℕ → Type 0) → ℕ → Type 0
+Both P Q x = P x × Q x
+
+abbrev pub Not : ℕ → ℕ → Type 0
+Not z x = x ≢ z
+
+-- What is left of a path to y, from x on; P is asked of x too.
+abbrev pub Rest : (ℕ → ℕ → Type 0) → (ℕ → Type 0) → ℕ → ℕ → Type 0
+Rest E P x y = (x ≡ y) ⊎ (P x × Path E P x y)
+
+module _ {E : ℕ → ℕ → Type 0} {P : ℕ → Type 0} where
+  pub join : {x y z : ℕ} → Path E P x y → P y → Path E P y z → Path E P x z
+  join (last e) p w = next e p w
+  join (next e q v) p w = next e q (join v p w)
+
+  pub turn : {x y : ℕ} → Path E P x y → Path (λ a b. E b a) P y x
+  turn (last e) = last e
+  turn (next e p w) = turn-next (turn w) p e
+    where
+      turn-next : {x y z : ℕ} → Path (λ a b. E b a) P x y → P y → E z y → Path (λ a b. E b a) P x z
+      turn-next (last d) p e = next d p (last e)
+      turn-next (next d q v) p e = next d q (turn-next v p e)
+
+  pub weaken : {Q : ℕ → Type 0} → ((x : ℕ) → P x → Q x) → {x y : ℕ} → Path E P x y → Path E Q x y
+  weaken f (last e) = last e
+  weaken f (next e p w) = next e (f _ p) (weaken f w)
+
+  pub first-edge : {x y : ℕ} → Path E P x y → (v : ℕ) × E x v × Rest E P v y
+  first-edge {y = y} (last e) = (y, e, inl refl)
+  first-edge (next {z = z} e p w) = (z, e, inr (p, w))
+
+  pub last-edge : {x y : ℕ} → Path E P x y → (v : ℕ) × E v y
+  last-edge {x = x} (last e) = (x, e)
+  last-edge (next e p w) = last-edge w
+
+  pub extend : {x y z : ℕ} → (y ≡ x) ⊎ (P y × Path E P x y) → E y z → Path E P x z
+  extend {z = z} (inl q) e = subst (λ (n : ℕ). Path E P n z) q (last e)
+  extend (inr w) e = join (w .1) (w .0) (last e)
+
+  -- a path does not pass z, or a first part of it leads to z and does not pass it before
+  pub avoid : (z : ℕ) {x y : ℕ} → Path E P x y → Path E (Both P (Not z)) x y ⊎ Path E (Both P (Not z)) x z
+  avoid z (last e) = inl (last e)
+  avoid z {x} (next {z = v} e p w) = elim (ℕ-discrete v z) [
+    | yes q ↦ inr (subst (λ (n : ℕ). Path E (Both P (Not z)) x n) q (last e))
+    | no n ↦ elim (avoid z w) [ inl u ↦ inl (next e (p, n) u) | inr u ↦ inr (next e (p, n) u) ]
+  ]
+
+-- A set I of nodes is entered from the door d alone: an edge into I, or to a node with Out, comes from I or from the door. A path from elsewhere
+-- into I then leads to the door and from there, after its last entry, on inside I.
+module _ {E : ℕ → ℕ → Type 0} (I Door Out : ℕ → Type 0) {d : ℕ} (one : (x : ℕ) → Door x → x ≡ d)
+    (back : (x y : ℕ) → E x y → I y ⊎ Out y → I x ⊎ Door x) where
+  abbrev Entry : (ℕ → Type 0) → ℕ → ℕ → Type 0
+  Entry P x y = (I x × Path E (Both P I) x y) ⊎ ((Door x ⊎ Path E P x d) × Path E (Both P I) d y)
+
+  here : {P : ℕ → Type 0} {x y : ℕ} → I x ⊎ Door x → Path E (Both P I) x y → Entry P x y
+  here (inl i) w = inl (i, w)
+  here {P} {x} {y} (inr o) w = inr (inl o, subst (λ (n : ℕ). Path E (Both P I) n y) (one x o) w)
+
+  before : {P : ℕ → Type 0} {x z : ℕ} → E x z → P z → Door z ⊎ Path E P z d → Path E P x d
+  before {P} {x} {z} e p (inl o) = subst (λ (n : ℕ). Path E P x n) (one z o) (last e)
+  before e p (inr w) = next e p w
+
+  last-entry : {P : ℕ → Type 0} {x y : ℕ} → Path E P x y → I y ⊎ Out y → Entry P x y
+  last-entry (last e) b = here (back _ _ e b) (last e)
+  last-entry (next e p w) b = elim (last-entry w b) [
+    | inl h ↦ here (back _ _ e (inl (h .0))) (next e (p, h .0) (h .1))
+    | inr h ↦ inr (inr (before e p (h .0)), h .1)
+  ]
+
+  pub by-door : {P : ℕ → Type 0} {x y : ℕ} → ¬ (I x) → ¬ (Door x) → Path E P x y → I y ⊎ Out y → Path E P x d × Path E (Both P I) d y
+  by-door n o w b = elim (last-entry w b) [ inl h ↦ absurd (n (h .0)) | inr h ↦ elim (h .0) [ inl q ↦ absurd (o q) | inr v ↦ (v, h .1) ] ]

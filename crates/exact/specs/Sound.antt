@@ -1,0 +1,68 @@
+-- Soundness: no rule excludes two nodes that are concurrent in some team.
+-- Assumes nothing.
+use mathlib.Core.Path.{_≡_, ap, sym, _∙_, subst}
+use mathlib.Core.Logic.{_⊎_, inl, inr, _≢_}
+use mathlib.Core.Bool.{true}
+use Prim.Native.Nat.{ℕ, _<_}
+use native.Mathlib.Omega.{arith}
+use native.Mathlib.Decide.{decLe}
+use Rattle.chart.specs.Region.{Outermost, Region}
+use Rattle.chart.specs.InOrdered.{InOrdered}
+use Rattle.chart.specs.WellFormed.{WellFormed}
+use Rattle.paths.specs.Path.{Open, BarrierFree}
+use Rattle.paths.specs.Connected.{Connected}
+use Rattle.team.specs.Run.{ConcurrentIn}
+use Rattle.answers.specs.Unexcluded.{Returns, Unexcluded}
+use Rattle.exact.specs.Runs.{before, after}
+use Rattle.exact.specs.Nesting.{inside-do, do-outermost, single-outermost}
+use Rattle.exact.specs.Hops.{EndsAt, ends-path}
+use Rattle.exact.specs.Invariant.{MasterOf, Since, Until, Invariant, invariant, invariant-first, next-barrier}
+
+module _ {R : Region} (W : WellFormed R) (C : Connected R) {m a b : ℕ} (M : ConcurrentIn R m a b) where
+  I : Invariant R m (M .state)
+  I = invariant W C (before (M .passed)) (invariant-first W C)
+
+  on-a : (Z : ℕ → Type 0) → Z a → Z (M .state .node (M .t))
+  on-a Z z = subst Z (sym (M .at-a)) z
+
+  on-b : (Z : ℕ → Type 0) → Z b → Z (M .state .node (M .u))
+  on-b Z z = subst Z (sym (M .at-b)) z
+
+  pub master-a : MasterOf R (M .t) a
+  master-a = subst (MasterOf R (M .t)) (M .at-a) (I .masters (M .t) (M .t-in))
+
+  pub master-b : MasterOf R (M .u) b
+  master-b = subst (MasterOf R (M .u)) (M .at-b) (I .masters (M .u) (M .u-in))
+
+  -- of two different counts that are not 0 one is 2 or more
+  returns : {c : ℕ} → Outermost (R .kind c) → R .inside a c ≡ true → R .inside b c ≡ true
+      → M .state .encounters (M .t) c ≢ M .state .encounters (M .u) c → Returns R c
+  returns {c} o i j n = elim (decLe 2 (M .state .encounters (M .t) c)) [
+    | yes h ↦ I .returns c (W .inside-begun i) o (M .t) (M .t-in) h
+    | no h ↦ I .returns c (W .inside-begun i) o (M .u) (M .u-in) (omega (
+      arith,
+      I .entered c (M .t) (M .t-in) (inl (on-a (λ x. R .inside x c ≡ true) i)),
+      I .entered c (M .u) (M .u-in) (inl (on-b (λ x. R .inside x c ≡ true) j)),
+    ))
+  ]
+
+  pub sound : Open R a → Open R b → Unexcluded R a b
+  sound oa ob = go (I .since) (next-barrier W C (after (M .passed)) (M .finished))
+    where
+      go : ((t : ℕ) → t < m → M .state .node t ≡ R .start) ⊎ Since R m (M .state) → Until R m (M .state) → Unexcluded R a b
+      go (inl h) E = absurd (oa (ap (R .role) (sym (M .at-a) ∙ h (M .t) (M .t-in)) ∙ W .start-barrier))
+      go (inr S) E = record {
+        start = S .0;
+        start-barrier = S .1;
+        start-a = subst (BarrierFree R (S .0)) (M .at-a) (S .2 (M .t) (M .t-in));
+        start-b = subst (BarrierFree R (S .0)) (M .at-b) (S .2 (M .u) (M .u-in));
+        end = E .0;
+        end-barrier = E .1;
+        end-a = ends-path W (E .1) (subst (EndsAt R (E .0)) (M .at-a) (E .2 (M .t) (M .t-in))) oa;
+        end-b = ends-path W (E .1) (subst (EndsAt R (E .0)) (M .at-b) (E .2 (M .u) (M .u-in))) ob;
+        masters = λ c d p q i j z. M .differ (master-a c p i ∙ z ∙ sym (master-b d q j));
+        singles = λ c q i j. returns (single-outermost q) i j
+            (I .singles c q (M .t) (M .u) (M .t-in) (M .u-in) (M .differ) (on-a (λ x. R .inside x c ≡ true) i) (on-b (λ x. R .inside x c ≡ true) j));
+        ordereds = λ d p q. returns (do-outermost W p) (inside-do W p) (inside-do W q)
+            (I .ordereds d (M .t) (M .u) (M .t-in) (M .u-in) (M .differ) (on-a (λ x. InOrdered R x d) p) (on-b (λ x. InOrdered R x d) q));
+      }
