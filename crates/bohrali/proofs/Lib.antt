@@ -1,0 +1,4 @@
+mod Negation
+mod Writes
+mod Filling
+mod Rules

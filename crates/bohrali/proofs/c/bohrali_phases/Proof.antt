@@ -1,0 +1,65 @@
+-- `bohrali::c::bohrali_phases` meets its contract.
+-- Assumes nothing.
+use mathlib.Core.Path.{_≡_, ap, sym, _∙_}
+use native.Mathlib.Omega.{arith}
+use lib.ListN.{length}
+use borrow.Author.Needs.{needs}
+use Rattle.bohrali.specs.Calls.{phasesWritten, numberOf}
+use Rattle.bohrali.proofs.Rules.{bytes-room}
+use Rattle.bohrali.proofs.c.bohrali_phases.Statement.{statement}
+use mir.Val.{toZ, ofZ}
+use mir.Syntax.{w64}
+use Rattle.bohrali.proofs.c.bohrali_phases.Tie as tie
+
+phases-requires : tie.Need-phases-requires
+phases-requires c κs = search needs
+
+enum-known-count : tie.Need-enum-known-count
+enum-known-count c = search needs
+
+counted-requires : tie.Need-counted-requires
+unfolding phasesWritten
+counted-requires c κs =
+    let p = c .before .before .before .before .before in
+    let e = p .before .before .before .before in
+    omega (arith, bytes-room (e .args .chart .now) (length (e .args .out .now)) _ (sym (p .phases .ensures .0) ∙ c .before .count .given .1))
+
+enum-known-refusal : tie.Need-enum-known-refusal
+enum-known-refusal c = search needs
+
+negated-requires : tie.Need-negated-requires
+negated-requires c κs = search needs
+
+same-length : tie.Need-same-length
+same-length c = search needs
+
+returns : tie.Need-returns
+unfolding numberOf
+returns c =
+    let p = c .before .before .before .before .before .before in
+    let e : toZ w64 (ofZ w64 (c .counted .result)) ≡ c .counted .result = search needs in
+    (e ∙ c .counted .ensures ∙ sym (ap numberOf (sym (p .phases .ensures .0) ∙ c .before .before .count .given .1)), p .phases .ensures .1)
+
+same-length-2 : tie.Need-same-length-2
+same-length-2 c = search needs
+
+returns-2 : tie.Need-returns-2
+unfolding numberOf
+returns-2 c =
+    let p = c .before .before .before .before .before .before in
+    let e : toZ w64 (ofZ w64 (c .negated .result)) ≡ c .negated .result = search needs in
+    (e ∙ c .negated .ensures ∙ sym (ap numberOf (sym (p .phases .ensures .0) ∙ c .before .before .refusal .given .1)), p .phases .ensures .1)
+
+pub bohrali-phases-spec : {M : Type 1} → statement M
+bohrali-phases-spec =
+    tie.close
+    (tie.spec
+    phases-requires
+    enum-known-count
+    counted-requires
+    enum-known-refusal
+    negated-requires
+    same-length
+    returns
+    same-length-2
+    returns-2)

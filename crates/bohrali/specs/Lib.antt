@@ -1,0 +1,4 @@
+pub mod Bytes
+pub mod Phases
+pub mod Calls
+pub mod Bounds

@@ -1,0 +1,40 @@
+/* Admits chart K and prints the starts and ends of its nodes. */
+#include "bohrali.h"
+
+#include <inttypes.h>
+#include <stdio.h>
+
+/* Nodes 0 to 4, barriers 0, 2 and 4; edges 0-1, 1-2, 2-3, 3-1, 3-4. */
+static const uint8_t chart_k[46] = {
+    1, 255, 0, 0,  0, 255, 0, 0,  1, 255, 0, 0,  0, 255, 0, 0,  1, 255, 0, 0,
+    0, 1,  1, 2,  2, 3,  3, 1,  3, 4,
+    1, 0,  5, 0,  5, 0,  0, 0,  46, 0,  26, 0,  16, 0,  0x4F, 0x43,
+};
+
+static uint64_t mask_at(const uint8_t *bytes)
+{
+    uint64_t mask = 0;
+    for (int k = 7; k >= 0; k--) {
+        mask = mask << 8 | bytes[k];
+    }
+    return mask;
+}
+
+int main(void)
+{
+    uint8_t out[BOHRALI_PHASES_NODE * BOHRALI_NODES];
+    int64_t counts = bohrali_admit(chart_k, sizeof chart_k);
+    int64_t written = bohrali_phases(chart_k, sizeof chart_k, out, sizeof out);
+    if (counts < 0 || written < 0) {
+        printf("refused %" PRId64 "\n", counts < 0 ? -counts : -written);
+        return 1;
+    }
+    printf("%" PRId64 " nodes %" PRId64 " barriers %" PRId64 " phases\n",
+           counts % 256, counts / 256 % 256, counts / 65536);
+    for (int64_t node = 0; node < written / BOHRALI_PHASES_NODE; node++) {
+        const uint8_t *record = out + BOHRALI_PHASES_NODE * node;
+        printf("node %" PRId64 " starts %" PRIu64 " ends %" PRIu64 "\n",
+               node, mask_at(record), mask_at(record + 8));
+    }
+    return 0;
+}
