@@ -1,0 +1,130 @@
+//! The five charts of the benchmark: the costliest ones for each part of the work, and a typical
+//! one. All are fixed.
+
+use crate::random::Random;
+use reference::builder::ChartBuilder;
+use reference::chart::{Construct, Edge};
+
+const NODES: usize = 192;
+const EDGES: usize = 1024;
+const NONE: u8 = Construct::NONE;
+
+/// The charts with their names.
+pub fn all() -> [(&'static str, Vec<u8>); 5] {
+    [
+        ("192 nodes, 1024 edges, 64 barriers", full(64)),
+        ("chain of 192, 2 barriers", reference::known::row(NODES, 2)),
+        ("192 nodes, 1024 edges, 2 barriers", full(2)),
+        ("typical, 62 barriers", typical()),
+        ("48 constructs that return", returning()),
+    ]
+}
+
+/// A row of 192 nodes with random edges added up to 1,024; inner barriers at every third node.
+fn full(barriers: usize) -> Vec<u8> {
+    let mut chart = ChartBuilder::new();
+    for node in 0..NODES {
+        if node == NODES - 1 || (node % 3 == 0 && node / 3 < barriers - 1) {
+            chart.barrier();
+        } else {
+            chart.plain(NONE);
+        }
+    }
+    chart.row();
+    let mut random = Random::new(barriers as u64);
+    while chart.edges.len() < EDGES {
+        let from = random.below(NODES - 1) as u8;
+        let to = random.between(1, NODES - 1) as u8;
+        if !chart.edges.contains(&Edge { from, to }) {
+            chart.edge(from.into(), to.into());
+        }
+    }
+    chart.bytes()
+}
+
+/// 62 barriers in a row; between two of them a small branch or a construct.
+fn typical() -> Vec<u8> {
+    let mut chart = ChartBuilder::new();
+    let mut barrier = chart.barrier();
+    for place in 0..61 {
+        let exits = match place {
+            10 | 40 => vec![simple(&mut chart, barrier, Construct::SINGLE)],
+            30 => vec![simple(&mut chart, barrier, Construct::MASTER)],
+            15 => vec![do_with_ordered(&mut chart, barrier, true)],
+            45 => vec![do_with_ordered(&mut chart, barrier, false)],
+            _ => branch(&mut chart, barrier, place % 2 == 0),
+        };
+        barrier = chart.barrier();
+        exits.iter().for_each(|&exit| chart.edge(exit, barrier));
+    }
+    chart.bytes()
+}
+
+/// Two nodes side by side, of which the second may also follow the first.
+fn branch(chart: &mut ChartBuilder, from: usize, joined: bool) -> Vec<usize> {
+    let (one, other) = (chart.plain(NONE), chart.plain(NONE));
+    chart.edge(from, one);
+    chart.edge(from, other);
+    if joined {
+        chart.edge(one, other);
+    }
+    vec![one, other]
+}
+
+/// A construct around one plain node; gives its end.
+fn simple(chart: &mut ChartBuilder, from: usize, kind: u8) -> usize {
+    let construct = chart.construct(kind, NONE, 0);
+    let begin = chart.begin(construct);
+    let plain = chart.plain(construct);
+    let end = chart.end(construct);
+    chart.edge(from, begin);
+    chart.edge(begin, plain);
+    chart.edge(plain, end);
+    end
+}
+
+/// An ordered in a do, around a plain node or around nothing; gives the do's end.
+fn do_with_ordered(chart: &mut ChartBuilder, from: usize, filled: bool) -> usize {
+    let outer = chart.construct(Construct::DO, NONE, 0);
+    let inner = chart.construct(Construct::ORDERED, outer, 0);
+    let mut nodes = vec![from, chart.begin(outer), chart.begin(inner)];
+    if filled {
+        nodes.push(chart.plain(inner));
+    }
+    nodes.push(chart.end(inner));
+    let end = chart.end(outer);
+    nodes.push(end);
+    nodes.windows(2).for_each(|x| chart.edge(x[0], x[1]));
+    end
+}
+
+/// 36 outermost constructs in a row with a plain node after each, 12 of them dos with an ordered,
+/// all with an edge from end to begin.
+fn returning() -> Vec<u8> {
+    let mut chart = ChartBuilder::new();
+    let mut last = chart.barrier();
+    for place in 0..36 {
+        let end = match place % 3 {
+            0 => do_with_ordered(&mut chart, last, true),
+            1 => simple(&mut chart, last, Construct::SINGLE),
+            _ => simple(
+                &mut chart,
+                last,
+                Construct::MASTER + u8::from(place % 2 == 0),
+            ),
+        };
+        last = chart.plain(NONE);
+        chart.edge(end, last);
+    }
+    let finish = chart.barrier();
+    chart.edge(last, finish);
+    for construct in 0..chart.constructs.len() as u8 {
+        let is_own = |kind: u8| {
+            let mut nodes = chart.nodes.iter();
+            nodes.position(|x| x.kind == kind && x.construct == construct)
+        };
+        let (begin, end) = (is_own(2).unwrap(), is_own(3).unwrap());
+        chart.edge(end, begin);
+    }
+    chart.bytes()
+}

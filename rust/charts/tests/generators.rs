@@ -1,0 +1,108 @@
+//! The generators keep their promises: valid charts are admitted, every refusal is hit, the
+//! benchmark's charts have the sizes they are named after.
+
+use charts::random::Random;
+use charts::{benchmark, damage, draw, large, small, valid, Source};
+use reference::chart::{Chart, Construct};
+use reference::refusals::decode_checked;
+
+#[test]
+fn valid_charts_are_admitted() {
+    for seed in 0..20_000 {
+        let chart = small(&mut Random::new(seed));
+        assert!(decode_checked(&chart).is_ok(), "small, seed {seed}");
+    }
+    for seed in 0..2_000 {
+        let chart = large(&mut Random::new(seed));
+        assert!(decode_checked(&chart).is_ok(), "large, seed {seed}");
+    }
+}
+
+/// How many of some charts have a property.
+fn share(charts: &[Chart], property: impl Fn(&Chart) -> bool) -> usize {
+    charts.iter().filter(|&chart| property(chart)).count()
+}
+
+#[test]
+fn large_charts_meet_the_limits() {
+    let draws = (0..2_000).map(|seed| large(&mut Random::new(seed)));
+    let charts: Vec<Chart> = draws.map(|x| decode_checked(&x).unwrap()).collect();
+    assert!(share(&charts, |x| x.nodes.len() == 192) > 500);
+    assert!(share(&charts, |x| x.edges.len() > 900) > 5);
+    assert!(share(&charts, |x| x.constructs.len() == 48) > 100);
+    assert!(share(&charts, |x| x.barriers().len() == 64) > 50);
+}
+
+#[test]
+fn small_charts_have_every_kind_and_returns() {
+    let draws = (0..2_000).map(|seed| small(&mut Random::new(seed)));
+    let charts: Vec<Chart> = draws.map(|x| decode_checked(&x).unwrap()).collect();
+    for kind in Construct::SINGLE..=Construct::ORDERED {
+        let has_kind = |x: &Chart| x.constructs.iter().any(|c| c.kind == kind);
+        assert!(share(&charts, has_kind) > 100, "kind {kind}");
+    }
+    let returns = |x: &Chart| reference::phases::Phases::of(x).returns.contains(&true);
+    assert!(share(&charts, returns) > 500);
+    assert!(share(&charts, |x| x.nodes.len() > 12) == 0);
+}
+
+#[test]
+fn damage_hits_the_row_it_is_aimed_at() {
+    for row in damage::ROWS {
+        let mut hits = 0;
+        for seed in 0..1_000 {
+            let mut random = Random::new(seed);
+            let shape = match seed % 4 {
+                0 => valid::Shape::large(&mut random),
+                _ => valid::Shape::small(&mut random),
+            };
+            let chart = valid::valid(&mut random, &shape);
+            let bytes = damage::aimed_at(&mut random, &chart, row);
+            hits += usize::from(decode_checked(&bytes) == Err(row));
+        }
+        println!("row {row}: {hits} of 1000");
+        assert!(hits > 400, "row {row}: {hits} of 1000");
+    }
+}
+
+#[test]
+fn draws_hit_every_outcome_many_times() {
+    let mut outcomes = [0usize; 11];
+    let mut noise = 0;
+    let mut random = Random::new(1);
+    for _ in 0..20_000 {
+        let (source, bytes) = draw(&mut random);
+        noise += usize::from(source == Source::Noise);
+        outcomes[usize::from(decode_checked(&bytes).err().unwrap_or(0))] += 1;
+    }
+    println!("admitted, then refusals 1 to 10: {outcomes:?}");
+    assert!(outcomes.iter().all(|&count| count > 400), "{outcomes:?}");
+    assert!(noise > 500);
+}
+
+#[test]
+fn benchmark_charts_are_admitted() {
+    let sizes = [
+        (192, 1024, 0, 64),
+        (192, 191, 0, 2),
+        (192, 1024, 0, 2),
+        (192, 275, 7, 62),
+        (170, 217, 48, 2),
+    ];
+    for ((name, bytes), (nodes, edges, constructs, barriers)) in
+        benchmark::all().into_iter().zip(sizes)
+    {
+        let chart = decode_checked(&bytes).unwrap_or_else(|row| panic!("{name}: refused {row}"));
+        assert_eq!(chart.nodes.len(), nodes, "{name}");
+        assert_eq!(chart.edges.len(), edges, "{name}");
+        assert_eq!(chart.constructs.len(), constructs, "{name}");
+        assert_eq!(chart.barriers().len(), barriers, "{name}");
+    }
+}
+
+#[test]
+fn all_constructs_of_the_returning_chart_return() {
+    let [.., (_, bytes)] = benchmark::all();
+    let phases = reference::phases::Phases::of(&decode_checked(&bytes).unwrap());
+    assert_eq!(phases.returns, vec![true; 48]);
+}

@@ -1,0 +1,102 @@
+//! The comparison: for every pair of non-barrier nodes of a chart, the answer is 0 exactly when the
+//! exploration finds the pair met.
+
+use crate::fault::Fault;
+use crate::search::{met, Met};
+use crate::team::Team;
+use reference::answers::Rules;
+use reference::chart::Chart;
+
+/// How far an exploration goes.
+#[derive(Clone, Copy, Debug)]
+pub struct Bounds {
+    pub threads: usize,
+    /// The first bound on counts; it is raised up to `most_encounters` while a pair that should be
+    /// met is not.
+    pub first_encounters: u8,
+    pub most_encounters: u8,
+    pub most_states: usize,
+}
+
+/// What was compared.
+#[derive(Clone, Copy, Debug, Default)]
+pub struct Tally {
+    /// Charts with every pair decided.
+    pub charts: usize,
+    /// Pairs by their answer.
+    pub answers: [usize; 5],
+    /// Explorations given up for their number of states.
+    pub skipped: usize,
+}
+
+/// A pair whose answer and exploration disagree.
+#[derive(Clone, Copy, Debug)]
+pub struct Mismatch {
+    pub a: usize,
+    pub b: usize,
+    pub answer: u8,
+    pub threads: usize,
+    pub encounters: u8,
+}
+
+/// Compares all pairs of one chart, with or without a planted fault.
+pub fn compare(
+    chart: &Chart,
+    bounds: &Bounds,
+    fault: Option<Fault>,
+    tally: &mut Tally,
+) -> Result<(), Mismatch> {
+    let mut rules = Rules::of(chart.clone());
+    if let Some(fault) = fault {
+        fault.plant(&mut rules);
+    }
+    for encounters in bounds.first_encounters..=bounds.most_encounters {
+        let team = Team::new(chart, bounds.threads, encounters).with_fault(fault);
+        let Some(met) = met(&team, bounds.most_states) else {
+            tally.skipped += 1;
+            return Ok(());
+        };
+        let unlike = |answered_zero: bool| first_unlike(&rules, &met, answered_zero);
+        let missed = unlike(true);
+        let raise = missed.is_some() && encounters < bounds.most_encounters;
+        if let Some((a, b)) = unlike(false).or(missed.filter(|_| !raise)) {
+            return Err(Mismatch {
+                a,
+                b,
+                answer: rules.answer(a, b),
+                threads: bounds.threads,
+                encounters,
+            });
+        }
+        if !raise {
+            break;
+        }
+    }
+    tally.add(&rules);
+    Ok(())
+}
+
+/// The first pair answered 0 and not met, or the first one answered otherwise and met.
+fn first_unlike(rules: &Rules, met: &Met, answered_zero: bool) -> Option<(usize, usize)> {
+    pairs(&rules.chart).find(|&(a, b)| {
+        let is_met = met[a] >> b & 1 == 1;
+        let zero = rules.answer(a, b) == Rules::CONCURRENT;
+        zero == answered_zero && is_met != zero
+    })
+}
+
+/// The pairs a ≤ b of non-barrier nodes.
+fn pairs(chart: &Chart) -> impl Iterator<Item = (usize, usize)> + '_ {
+    let judged = |&x: &usize| !chart.is_barrier(x);
+    let nodes = move || (0..chart.nodes.len()).filter(judged);
+    nodes().flat_map(move |a| nodes().filter(move |&b| a <= b).map(move |b| (a, b)))
+}
+
+impl Tally {
+    fn add(&mut self, rules: &Rules) {
+        self.charts += 1;
+        for (a, b) in pairs(&rules.chart) {
+            self.answers[usize::from(rules.answer(a, b))] += 1;
+        }
+    }
+}

@@ -1,0 +1,7 @@
+//! Explicit-state exploration of the team rules on small charts, to compare what teams can do with
+//! what the pair rules answer: answer 0 exactly when a finished run meets the pair.
+
+pub mod compare;
+pub mod fault;
+pub mod search;
+pub mod team;

@@ -1,0 +1,79 @@
+//! The pair rules: the answer for two non-barrier nodes is the number of the first rule that keeps
+//! two threads of one team from being there together, or 0 (01's "may meet").
+
+use crate::chart::{Chart, Construct};
+use crate::phases::Phases;
+
+/// One rule: whether it applies to two nodes.
+type Rule = fn(&Rules, usize, usize) -> bool;
+
+/// An admitted chart with its phases and, for each node, the constructs around it.
+#[derive(Clone, Debug)]
+pub struct Rules {
+    pub chart: Chart,
+    pub phases: Phases,
+    enclosing: Vec<Vec<usize>>,
+}
+
+impl Rules {
+    pub const CONCURRENT: u8 = 0;
+    /// What Sheet writes where either node is a barrier.
+    pub const BARRIER: u8 = 255;
+
+    pub fn of(chart: Chart) -> Rules {
+        let enclosing = (0..chart.nodes.len()).map(|x| chart.enclosing(x)).collect();
+        Rules {
+            phases: Phases::of(&chart),
+            enclosing,
+            chart,
+        }
+    }
+
+    /// "The answer for nodes A and B, which may be equal, is the first that applies."
+    pub fn answer(&self, a: usize, b: usize) -> u8 {
+        let rules: [(u8, Rule); 4] = [
+            (1, Rules::no_common_phase),
+            (2, Rules::both_in_masters),
+            (3, Rules::both_in_one_single),
+            (4, Rules::both_in_ordereds_of_one_do),
+        ];
+        let first = rules.into_iter().find(|(_, applies)| applies(self, a, b));
+        first.map_or(Rules::CONCURRENT, |(number, _)| number)
+    }
+
+    /// 1: "no common start, or no common end".
+    fn no_common_phase(&self, a: usize, b: usize) -> bool {
+        let Phases { starts, ends, .. } = &self.phases;
+        starts[a] & starts[b] == 0 || ends[a] & ends[b] == 0
+    }
+
+    /// 2: "each is inside some master".
+    fn both_in_masters(&self, a: usize, b: usize) -> bool {
+        let in_master = |node: usize| self.around(node, Construct::MASTER).next().is_some();
+        in_master(a) && in_master(b)
+    }
+
+    /// 3: "both inside one single, which does not return".
+    fn both_in_one_single(&self, a: usize, b: usize) -> bool {
+        self.around(a, Construct::SINGLE)
+            .any(|single| self.enclosing[b].contains(&single) && !self.phases.returns[single])
+    }
+
+    /// 4: "both inside ordered constructs of one do, which does not return".
+    fn both_in_ordereds_of_one_do(&self, a: usize, b: usize) -> bool {
+        self.dos_of_ordereds(a)
+            .any(|own| self.dos_of_ordereds(b).any(|x| x == own) && !self.phases.returns[own])
+    }
+
+    /// The constructs of one kind that a node is inside.
+    fn around(&self, node: usize, kind: u8) -> impl Iterator<Item = usize> + '_ {
+        let is_kind = move |&c: &usize| self.chart.constructs[c].kind == kind;
+        self.enclosing[node].iter().copied().filter(is_kind)
+    }
+
+    /// The dos of whose ordereds a node is inside; an ordered's parent is its do.
+    fn dos_of_ordereds(&self, node: usize) -> impl Iterator<Item = usize> + '_ {
+        self.around(node, Construct::ORDERED)
+            .map(|ordered| self.chart.constructs[ordered].parent.into())
+    }
+}

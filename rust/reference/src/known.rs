@@ -1,0 +1,110 @@
+//! The charts of 01's "Charts with known answers", as bytes: for the tests here, for the exploration
+//! and for the comparison with other implementations.
+
+use crate::builder::ChartBuilder;
+use crate::chart::Construct;
+
+/// Chart K: five nodes, barriers 0, 2 and 4.
+pub fn chart_k() -> Vec<u8> {
+    let mut chart = ChartBuilder::new();
+    chart.barrier();
+    chart.plain(Construct::NONE);
+    chart.barrier();
+    chart.plain(Construct::NONE);
+    chart.barrier();
+    chart.row();
+    chart.edge(3, 1);
+    chart.bytes()
+}
+
+/// Chart S: a construct of one kind around one plain node, with edges added to the row.
+pub fn chart_s(kind: u8, added: &[(usize, usize)]) -> Vec<u8> {
+    let mut chart = one_construct(kind);
+    chart.barrier();
+    chart.row();
+    added.iter().for_each(|&(from, to)| chart.edge(from, to));
+    chart.bytes()
+}
+
+/// Chart S single "with node 4 made a barrier, Finish as 5, edges 3-4, 4-1, 4-5".
+pub fn chart_s_through_barrier() -> Vec<u8> {
+    let mut chart = one_construct(Construct::SINGLE);
+    chart.barrier();
+    chart.barrier();
+    chart.row();
+    chart.edge(4, 1);
+    chart.bytes()
+}
+
+fn one_construct(kind: u8) -> ChartBuilder {
+    let mut chart = ChartBuilder::new();
+    let construct = chart.construct(kind, Construct::NONE, 0);
+    chart.barrier();
+    chart.begin(construct);
+    chart.plain(construct);
+    chart.end(construct);
+    chart
+}
+
+/// Chart D: an ordered in a do, with edges added to the row.
+pub fn chart_d(added: &[(usize, usize)]) -> Vec<u8> {
+    let mut chart = ChartBuilder::new();
+    let outer = chart.construct(Construct::DO, Construct::NONE, 0);
+    let inner = chart.construct(Construct::ORDERED, outer, 0);
+    chart.barrier();
+    chart.begin(outer);
+    chart.begin(inner);
+    chart.plain(inner);
+    chart.end(inner);
+    chart.end(outer);
+    chart.barrier();
+    chart.row();
+    added.iter().for_each(|&(from, to)| chart.edge(from, to));
+    chart.bytes()
+}
+
+/// "The paper's Figure 2(b), node Ni as number i-1."
+pub fn figure_2b() -> Vec<u8> {
+    let mut chart = ChartBuilder::new();
+    for name in 1..=13 {
+        if [1, 3, 4, 10, 11, 13].contains(&name) {
+            chart.barrier();
+        } else {
+            chart.plain(Construct::NONE);
+        }
+    }
+    let named_edges = [
+        (1, 2),
+        (2, 3),
+        (2, 4),
+        (3, 5),
+        (4, 6),
+        (5, 7),
+        (6, 7),
+        (7, 8),
+        (7, 9),
+        (8, 10),
+        (9, 11),
+        (10, 12),
+        (11, 12),
+        (12, 13),
+    ];
+    for (from, to) in named_edges {
+        chart.edge(from - 1, to - 1);
+    }
+    chart.bytes()
+}
+
+/// Nodes in a row, the first `barriers - 1` and the last of which are barriers.
+pub fn row(nodes: usize, barriers: usize) -> Vec<u8> {
+    let mut chart = ChartBuilder::new();
+    for node in 1..=nodes {
+        if node < barriers || node == nodes {
+            chart.barrier();
+        } else {
+            chart.plain(Construct::NONE);
+        }
+    }
+    chart.row();
+    chart.bytes()
+}

@@ -1,0 +1,29 @@
+//! The plain second implementation of document 01: one function a rule or row, no cleverness.
+//! It decides whether two threads of one OpenMP team can be at two nodes of a chart together.
+
+pub mod answers;
+pub mod builder;
+pub mod calls;
+pub mod chart;
+pub mod known;
+pub mod phases;
+pub mod refusals;
+pub mod scopes;
+
+/// What Admit tells of an admitted chart.
+#[derive(Clone, Copy, Debug, PartialEq, Eq)]
+pub struct Counts {
+    pub nodes: usize,
+    pub barriers: usize,
+    pub phases: usize,
+}
+
+/// Admit: a refusal 1 to 10, or the counts.
+pub fn admit(chart: &[u8]) -> Result<Counts, u8> {
+    let chart = refusals::decode_checked(chart)?;
+    Ok(Counts {
+        nodes: chart.nodes.len(),
+        barriers: chart.barriers().len(),
+        phases: phases::Phases::of(&chart).count(),
+    })
+}
