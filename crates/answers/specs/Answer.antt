@@ -7,7 +7,7 @@ use lib.Dec.{eqb}
 use Rattle.lists.specs.Truth.{is}
 use Rattle.lists.specs.Range.{any}
 use Rattle.chart.specs.Region.{Kind, Kind-discrete, single, master, ordered, Region}
-use Rattle.paths.specs.Decide.{noBarrier, reachesFree}
+use Rattle.paths.specs.Decide.{noBarrier, reachesFree, returns}
 
 -- s is a start of x (01: start): a barrier from which a barrier-free path leads to x.
 unfoldable pub isStart : Region → ℕ → ℕ → Bool
@@ -16,10 +16,6 @@ isStart R x s = not (noBarrier (R .role s)) && reachesFree R s x
 -- e is an end of x (01: end): a barrier to which a barrier-free path leads from x.
 unfoldable pub isEnd : Region → ℕ → ℕ → Bool
 isEnd R x e = not (noBarrier (R .role e)) && reachesFree R x e
-
--- The construct returns (01: returns): a barrier-free path leads from its end to its begin.
-unfoldable pub returns : Region → ℕ → Bool
-returns R c = reachesFree R (R .end c) (R .begin c)
 
 -- x is inside c (01: inside, at any depth), a construct of this kind.
 unfoldable pub isIn : Region → Kind → ℕ → ℕ → Bool

@@ -15,8 +15,8 @@ use Rattle.chart.specs.Region.{Role, plain, barrier, opens, closes, Kind, Kind-
 use Rattle.chart.specs.InOrdered.{InOrdered}
 use Rattle.chart.specs.WellFormed.{WellFormed}
 use Rattle.paths.specs.Path.{BarrierFree}
-use Rattle.paths.specs.Decide.{noBarrier, reachesFree, free-path, path-free}
-use Rattle.answers.specs.Answer.{isStart, isEnd, returns, isIn, inOrderedOf, noCommon, noCommonPhase, bothInMasters, bothInSingle, bothInOrdereds, answer}
+use Rattle.paths.specs.Decide.{noBarrier, reachesFree, free-path, path-free, returns}
+use Rattle.answers.specs.Answer.{isStart, isEnd, isIn, inOrderedOf, noCommon, noCommonPhase, bothInMasters, bothInSingle, bothInOrdereds, answer}
 use Rattle.answers.specs.Unexcluded.{Returns, Start, End, Common, In, Rule, by-phase, by-master, by-single, by-ordered, number, Excludes, Unexcluded}
 
 -- What a test stands for, put together from what its parts stand for.
@@ -143,7 +143,7 @@ module _ {R : Region} (W : WellFormed R) where
       found = some-of (R .constructs) _ (λ o. In R ordered x o × (R .parent o ≡ d)) (λ o. both-of (in-of R ordered x o) (equal-of (R .parent o) d))
           (λ o h. W .inside-below (h .0 .1))
 
-  do-below : {x d : ℕ} → InOrdered R x d → d < R .constructs
+  pub do-below : {x d : ℕ} → InOrdered R x d → d < R .constructs
   do-below o = subst (λ (d : ℕ). d < R .constructs) (o .of-do) (W .inside-below (W .ordered-inside (o .within) (o .is-ordered)))
 
   -- Starts and ends alike: `leads` tests the path between a node and its start, or between it and its end.
@@ -163,24 +163,24 @@ module _ {R : Region} (W : WellFormed R) where
     no-common = not-of some-common
 
   module _ (a b : ℕ) where
-    phase-of : (noCommonPhase R a b ≡ true) ↔ Excludes R a b by-phase
+    pub phase-of : (noCommonPhase R a b ≡ true) ↔ Excludes R a b by-phase
     unfolding noCommonPhase isStart isEnd
     phase-of = either-of (no-common (λ x s. reachesFree R s x) (λ x s. BarrierFree R s x) (λ x s. path-of s x) a b)
         (no-common (reachesFree R) (BarrierFree R) path-of a b)
 
-    masters-of : (bothInMasters R a b ≡ true) ↔ Excludes R a b by-master
+    pub masters-of : (bothInMasters R a b ≡ true) ↔ Excludes R a b by-master
     unfolding bothInMasters
     masters-of = some-of (R .constructs) _ (λ c. (d : ℕ) × ((In R master a c × In R master b d) × (R .thread c ≡ R .thread d)))
         (λ c. some-of (R .constructs) _ (λ d. (In R master a c × In R master b d) × (R .thread c ≡ R .thread d))
         (λ d. both-of (both-of (in-of R master a c) (in-of R master b d)) (equal-of (R .thread c) (R .thread d))) (λ d h. W .inside-below (h .0 .1 .1)))
         (λ c h. W .inside-below (h .1 .0 .0 .1))
 
-    single-of : (bothInSingle R a b ≡ true) ↔ Excludes R a b by-single
+    pub single-of : (bothInSingle R a b ≡ true) ↔ Excludes R a b by-single
     unfolding bothInSingle
     single-of = some-of (R .constructs) _ (λ c. (In R single a c × In R single b c) × (Returns R c → ⊥))
         (λ c. both-of (both-of (in-of R single a c) (in-of R single b c)) (not-of (returns-of c))) (λ c h. W .inside-below (h .0 .0 .1))
 
-    ordereds-of : (bothInOrdereds R a b ≡ true) ↔ Excludes R a b by-ordered
+    pub ordereds-of : (bothInOrdereds R a b ≡ true) ↔ Excludes R a b by-ordered
     unfolding bothInOrdereds
     ordereds-of = some-of (R .constructs) _ (λ d. (InOrdered R a d × InOrdered R b d) × (Returns R d → ⊥))
         (λ d. both-of (both-of (ordered-of a d) (ordered-of b d)) (not-of (returns-of d))) (λ d h. do-below (h .0 .0))

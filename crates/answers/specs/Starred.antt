@@ -14,9 +14,9 @@ use Rattle.chart.specs.Nesting.{mayEnclose, sameCritical, excluded, wronglyAbov
 use Rattle.chart.specs.Reading.{edgeIn, insideAt, frameOf, region}
 use Rattle.chart.specs.Refusal.{badMarks, badCounts, badLengths, badNode, badNodeAt, badNodes, badConstruct, badAlone, badConstructs, framesIn, badFrame, badFrames, isBarrier, badBarriers, badEdge, rises, badEdgeAt, badEdges, firstOf, trailerRows, tableRows, chartRows}
 use Rattle.paths.specs.Reach.{marks?, marks, reaches}
-use Rattle.paths.specs.Decide.{reachesFree, reachesAny}
+use Rattle.paths.specs.Decide.{reachesFree, reachesAny, returns}
 use Rattle.paths.specs.Admission.{cutOff, badPaths, admitRows}
-use Rattle.answers.specs.Answer.{isStart, isEnd, returns, isIn, inOrderedOf, noCommon, noCommonPhase, bothInMasters, bothInSingle, bothInOrdereds, answer}
+use Rattle.answers.specs.Answer.{isStart, isEnd, isIn, inOrderedOf, noCommon, noCommonPhase, bothInMasters, bothInSingle, bothInOrdereds, answer}
 
 -- The bytes of records: the four kinds of nodes, an edge, a construct. Tags and names are 0.
 abbrev barrier : List ℕ

@@ -2,7 +2,7 @@
 -- pass is well formed.
 -- Assumes nothing.
 use mathlib.Core.Path.{_≡_, refl}
-use mathlib.Core.Bool.{false, _||_, not}
+use mathlib.Core.Bool.{_||_, not}
 use mathlib.Core.List.{List}
 use mathlib.Core.Option.{none}
 use Prim.Native.Nat.{ℕ, _≤_}
@@ -12,7 +12,7 @@ use lib.ListN.{length}
 use borrow.Author.Tests.{ltb-false}
 use Rattle.lists.specs.Truth.{or-neither, not-eqb}
 use Rattle.chart.specs.Format.{outside, Decoded, decode, size}
-use Rattle.chart.specs.Refusal.{badCounts, badLengths, badNodes, badConstructs, badFrames, badBarriers, badEdges, firstOf, trailerRows, tableRows, chartRows}
+use Rattle.chart.specs.Refusal.{badCounts, badLengths, firstOf, trailerRows, tableRows, chartRows}
 use Rattle.chart.specs.Checked.{Laid, countsOf}
 use Rattle.chart.specs.Reading.{region}
 use Rattle.chart.specs.WellFormed.{WellFormed}
@@ -56,25 +56,26 @@ fit-tables D F = applies-none (tableRows D) (
   ),
 )
 
+pub tables-fit : (D : Decoded) → firstOf (tableRows D) ≡ none → TablesFit D
+unfolding tableRows
+tables-fit D h =
+    let rows = none-applies (tableRows D) h in
+    record {
+      nodes = nodes-fit D (rows .0);
+      constructs = constructs-fit D (rows .1 .0);
+      frames = frames-fit D (rows .1 .1 .0);
+      barriers = barriers-fit D (rows .1 .1 .1 .0);
+      edges = edges-fit D (rows .1 .1 .1 .1 .0);
+    }
+
 -- row 3 gives the bound, which keeps the number `outside` free
 pub well-formed-tables : (D : Decoded) → length (D .constructs) ≤ outside → TablesFit D → WellFormed (region D)
 well-formed-tables D few F = laws (reads D F few)
 
-pub well-formed-decoded : (D : Decoded) → length (D .constructs) ≤ outside
-    → badNodes D ≡ false → badConstructs D ≡ false → badFrames D ≡ false → badBarriers D ≡ false → badEdges D ≡ false → WellFormed (region D)
-well-formed-decoded D few nodes constructs frames barriers edges = well-formed-tables D few (record {
-  nodes = nodes-fit D nodes;
-  constructs = constructs-fit D constructs;
-  frames = frames-fit D frames;
-  barriers = barriers-fit D barriers;
-  edges = edges-fit D edges;
-})
-
 pub well-formed : (s : List ℕ) → firstOf (chartRows s) ≡ none → WellFormed (region (decode s))
-unfolding chartRows tableRows
+unfolding chartRows
 well-formed s h =
     let pass = both-pass (trailerRows s) (tableRows (decode s)) h in
     let bytes = laid s (pass .0) in
     let few : length (decode s .constructs) ≤ outside = omega (arith, constructs-length s (countsOf s) bytes, bytes .constructs-most) in
-    let rows = none-applies (tableRows (decode s)) (pass .1) in
-    well-formed-decoded (decode s) few (rows .0) (rows .1 .0) (rows .1 .1 .0) (rows .1 .1 .1 .0) (rows .1 .1 .1 .1 .0)
+    well-formed-tables (decode s) few (tables-fit (decode s) (pass .1))

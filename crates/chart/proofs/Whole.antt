@@ -91,7 +91,7 @@ module _ (D : Decoded) where
     parents : (c : ℕ) → c < size → Below c (parent c)
     parents = parents-lower (D .constructs) (F .constructs .alone)
 
-    lies-below : (x : ℕ) → Below size (lies x)
+    pub lies-below : (x : ℕ) → Below (length (D .constructs)) (lies x)
     unfolding liesAt
     lies-below x = go (decLt (kind x) beginNode)
       where

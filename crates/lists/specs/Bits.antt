@@ -9,14 +9,13 @@ use native.Mathlib.Decide.{ℕ-discrete, decLt}
 use native.Mathlib.Nat.{one-mul}
 use native.Mathlib.Numerals.{add-one}
 use lib.Dec.{eqb}
-use lib.Bits.{bitOr, or-lt, or-shifted}
+use lib.Bits.{bitOr, or-shifted}
 use lib.Count.{ones, onesIn, ones-cat}
 use lib.Pow.{pow-lt}
 use borrow.Author.Tests.{eqb-true, eq-eqb}
 use Rattle.lists.specs.Truth.{same-truth, or-left, or-right, or-cases}
 use Rattle.lists.specs.Range.{count}
-use Rattle.lists.specs.Mask as mask
-use Rattle.lists.specs.Mask.{Has, Mask, maskOf, mask-of, mask-is, has-above}
+use Rattle.lists.specs.Mask.{Has, maskOf, mask-of, mask-is, mask-either, has-above}
 
 -- bit b of m is set
 abbrev pub has : ℕ → ℕ → Bool
@@ -56,17 +55,8 @@ mask-next f k = rw (add-one k, maskOf) (go (f k))
     go false = omega arith
 
 pub or-mask : (f g : ℕ → Bool) (k : ℕ) → bitOr (maskOf f k) (maskOf g k) ≡ maskOf (λ b. f b || g b) k
-or-mask f g k =
-    let F = mask-of f k in
-    let G = mask-of g k in
-    let union : Mask (λ b. (f b || g b) ≡ true) k (bitOr (maskOf f k) (maskOf g k)) = record {
-      small = or-lt k (maskOf f k) (maskOf g k) (F .small) (G .small);
-      only = λ b l h.
-          ⊎-elim (λ p. or-left (f b) (g b) (F .only b l p)) (λ p. or-right (f b) (g b) (G .only b l p)) (mask.or-cases (maskOf f k) (maskOf g k) b h);
-      all = λ b l h.
-          ⊎-elim (λ p. mask.or-left (maskOf f k) (maskOf g k) b (F .all b l p)) (λ p. mask.or-right (maskOf f k) (maskOf g k) b (G .all b l p)) (or-cases (f b) (g b) h);
-    } in
-    mask-is (λ b. f b || g b) (λ b l p. p) (λ b l p. p) union
+or-mask f g k = mask-is (λ b. f b || g b)
+    (λ b l h. ⊎-elim (λ p. or-left (f b) (g b) p) (λ p. or-right (f b) (g b) p) h) (λ b l h. or-cases (f b) (g b) h) (mask-either (mask-of f k) (mask-of g k))
 
 pub ones-mask : (f : ℕ → Bool) (k : ℕ) → ones (maskOf f k) ≡ count k f
 unfolding maskOf count

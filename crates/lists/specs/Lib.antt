@@ -3,6 +3,7 @@ pub mod Range
 pub mod Counting
 pub mod Mask
 pub mod Bits
+pub mod Common
 pub mod Select
 pub mod Store
 pub mod Tab

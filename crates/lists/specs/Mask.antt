@@ -8,7 +8,7 @@ use native.Mathlib.Omega.{arith}
 use native.Mathlib.Decide.{ℕ-discrete, decLt}
 use native.Mathlib.Nat.{pow-suc, mod-eq-of-lt, one-mul, zero-add, div-eq-of-lt}
 use native.Mathlib.Numerals.{one-add}
-use lib.Bits.{bitOr, or-step, or-shr, or-add-and, and-le-r, or-shifted}
+use lib.Bits.{bitOr, or-step, or-shr, or-lt, or-add-and, and-le-r, or-shifted}
 use lib.Pow.{pow-pos, pow-lt, pow-add, mod-pow-add, shl-shr}
 use Rattle.lists.specs.Truth.{bad, truth}
 
@@ -101,6 +101,13 @@ pub mask-unique : {P : ℕ → Type 0} {k m n : ℕ} → Mask P k m → Mask P k
 mask-unique {k = k} {m = m} {n = n} v w =
     let e = same-mod m n k (λ b l h. w .all b l (v .only b l h)) (λ b l h. v .all b l (w .only b l h)) in
     sym (mod-eq-of-lt (v .small)) ∙ e ∙ mod-eq-of-lt (w .small)
+
+pub mask-either : {P Q : ℕ → Type 0} {k m n : ℕ} → Mask P k m → Mask Q k n → Mask (λ b. P b ⊎ Q b) k (bitOr m n)
+mask-either {k = k} {m = m} {n = n} v w = record {
+  small = or-lt k m n (v .small) (w .small);
+  only = λ b l h. ⊎-elim (λ p. inl (v .only b l p)) (λ p. inr (w .only b l p)) (or-cases m n b h);
+  all = λ b l h. ⊎-elim (λ p. or-left m n b (v .all b l p)) (λ p. or-right m n b (w .all b l p)) h;
+}
 
 -- and `maskOf` is the mask of the numbers that pass
 

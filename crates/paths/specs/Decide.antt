@@ -24,6 +24,10 @@ reachesFree R x y = reaches (R .nodes) (R .edge) (λ z. noBarrier (R .role z)) x
 unfoldable pub reachesAny : Region → ℕ → ℕ → Bool
 reachesAny R x y = reaches (R .nodes) (R .edge) (λ z. true) x y
 
+-- A barrier-free path leads from the end of construct c to its begin (01: c returns).
+unfoldable pub returns : Region → ℕ → Bool
+returns R c = reachesFree R (R .end c) (R .begin c)
+
 pub no-barrier : (r : Role) → noBarrier r ≡ true → r ≢ barrier
 no-barrier plain h e = bad (cc)
 no-barrier barrier h e = bad (cc)

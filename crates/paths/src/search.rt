@@ -19,7 +19,7 @@ fn index(x: u8) -> usize
 }
 
 // The number whose one bit is bit b.
-fn bit(b: usize) -> u64
+pub fn bit(b: usize) -> u64
     requires { ⌜ b < 64 ⌝ }
     ensures { λ r. ⌜ r ≡ 2 ^ b ⌝ }
 {

@@ -13,10 +13,9 @@ use Rattle.chart.specs.Checked.{Laid, countsOf, checked}
 use Rattle.chart.specs.declared.format.Chart.{Chart}
 use Rattle.chart.specs.declared.format.Checked.the-variants.{Passed}
 use Rattle.chart.proofs.Records.{constructs-length}
-use Rattle.chart.proofs.Rows.{none-applies, both-pass}
-use Rattle.chart.proofs.NestingFacts.{constructs-fit}
-use Rattle.chart.proofs.Facts.{TablesFit, nodes-fit, frames-fit, barriers-fit, edges-fit}
-use Rattle.chart.proofs.Accepted.{laid, well-formed-tables}
+use Rattle.chart.proofs.Rows.{both-pass}
+use Rattle.chart.proofs.Facts.{TablesFit}
+use Rattle.chart.proofs.Accepted.{laid, tables-fit, well-formed-tables}
 use Rattle.refusals.proofs.Outcome.{passed-none}
 use Rattle.phases.specs.Tables.{Accepted}
 
@@ -32,17 +31,7 @@ accepted s chart h =
 
 module _ (s : List ℕ) (chart : Chart) (A : Accepted s chart) where
   pub tables : TablesFit (decode s)
-  unfolding tableRows
-  tables =
-      let D = decode s in
-      let rows = none-applies (tableRows D) (A .passes) in
-      record {
-        nodes = nodes-fit D (rows .0);
-        constructs = constructs-fit D (rows .1 .0);
-        frames = frames-fit D (rows .1 .1 .0);
-        barriers = barriers-fit D (rows .1 .1 .1 .0);
-        edges = edges-fit D (rows .1 .1 .1 .1 .0);
-      }
+  tables = tables-fit (decode s) (A .passes)
 
   pub well-formed : WellFormed (region (decode s))
   well-formed = well-formed-tables (decode s) (omega (arith, constructs-length s chart (A .laid), A .laid .constructs-most)) tables

@@ -19,12 +19,12 @@ use Rattle.chart.specs.Scope.{beginNode, endNode}
 use Rattle.chart.specs.Reading.{region, frameOf}
 use Rattle.chart.specs.WellFormed.{WellFormed}
 use Rattle.paths.specs.Path.{Any, Open}
-use Rattle.paths.specs.Decide.{noBarrier, no-barrier, barrier-no, reachesFree, any-path, path-any}
+use Rattle.paths.specs.Decide.{noBarrier, no-barrier, barrier-no, reachesFree, any-path, path-any, returns}
 use Rattle.paths.specs.Graph.{Listed}
 use Rattle.paths.specs.Found.{Clear, Found}
 use Rattle.paths.specs.FoundLaws.{found-carry, found-to}
 use Rattle.paths.specs.Admission.{cutOff, badPaths}
-use Rattle.phases.specs.Phases.{Direction, forward, backward, leads, barriers, marked, marks, returns, returning}
+use Rattle.phases.specs.Phases.{Direction, forward, backward, leads, barriers, marked, marks, returning}
 use Rattle.phases.specs.PhasesLaws.{leads-free, free-leads}
 use Rattle.phases.specs.Tables.{Along, leadsAny, Tabled, Stops, Barriers, kept, Framed}
 

@@ -9,7 +9,7 @@ use Rattle.lists.specs.Range.{any, countPairs}
 use Rattle.lists.specs.Mask.{maskOf}
 use Rattle.lists.specs.Select.{select}
 use Rattle.chart.specs.Region.{Region}
-use Rattle.paths.specs.Decide.{noBarrier, reachesFree}
+use Rattle.paths.specs.Decide.{noBarrier, reachesFree, returns}
 
 -- Along the edges, or against them. Starts are read forward, ends backward.
 pub data Direction : Type 0 where
@@ -50,10 +50,6 @@ phase R b c = any (R .nodes) (λ x. marked forward R x b && marked backward R x 
 unfoldable pub phaseCount : Region → ℕ
 phaseCount R = countPairs (length (barriers R)) (length (barriers R)) (phase R)
 
--- A barrier-free path leads from the end of construct c to its begin (01: c returns).
-unfoldable pub returns : Region → ℕ → Bool
-returns R c = reachesFree R (R .end c) (R .begin c)
-
--- As a mask, with bit c for construct c.
+-- The constructs that return, as a mask with bit c for construct c.
 unfoldable pub returning : Region → ℕ
 returning R = maskOf (returns R) (R .constructs)

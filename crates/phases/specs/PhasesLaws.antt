@@ -15,8 +15,8 @@ use Rattle.lists.specs.Select.{select-passes, select-at}
 use Rattle.chart.specs.Region.{Role, plain, barrier, opens, closes, Region}
 use Rattle.chart.specs.WellFormed.{WellFormed}
 use Rattle.paths.specs.Path.{Path, last, next, Edge, Open, BarrierFree}
-use Rattle.paths.specs.Decide.{noBarrier, no-barrier, barrier-no, free-path, path-free}
-use Rattle.phases.specs.Phases.{Direction, forward, backward, leads, barriers, barrierAt, marked, marks, phase, returns}
+use Rattle.paths.specs.Decide.{noBarrier, no-barrier, barrier-no, free-path, path-free, returns}
+use Rattle.phases.specs.Phases.{Direction, forward, backward, leads, barriers, barrierAt, marked, marks, phase}
 
 -- A barrier-free path from x to y; backward: from y to x.
 abbrev pub Free : Direction → Region → ℕ → ℕ → Type 0

@@ -15,7 +15,7 @@ use chart::format::Edge;
 use chart::format::Node;
 
 // The scope of node x: where it lies, or its own construct where its kind is `own`.
-fn scope(s: &[u8], chart: Chart, x: usize, own: u8) -> u8
+pub fn scope(s: &[u8], chart: Chart, x: usize, own: u8) -> u8
     requires { ⌜ Laid (now s) chart × (x < chart .nodes) × (badNodes (decode (now s)) ≡ false) ⌝ }
     ensures { λ r. ⌜ r ≡ scopeAt own (decode (now (s .entry)) .nodes) (decode (now (s .entry)) .constructs) x ⌝ }
 {

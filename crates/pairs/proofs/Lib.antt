@@ -1,0 +1,4 @@
+mod Facts
+mod Constructs
+mod Nodes
+mod Entries

@@ -1,0 +1,4 @@
+pub mod Marks
+pub mod Rules
+pub mod Chains
+pub mod Sheet
