@@ -18,7 +18,7 @@ use crate::rules::common;
 use chart::format::Chart;
 use chart::format::Construct;
 use chart::format::Node;
-use refusals::edges::scope;
+use flow::edges::scope;
 
 // The constructs that the rules speak of: all masters, and the singles and the dos that do not return.
 pub struct Sets {

@@ -1,5 +1,3 @@
-mod Frames
 mod Ancestors
 mod Table
 pub mod Outcome
-mod Sides

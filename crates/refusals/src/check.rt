@@ -1,18 +1,17 @@
 // Rows 1 to 9 of the refusals over any bytes.
 ghost use mathlib.Core.Path.{_≡_};
-ghost use lib.ListN.{length};
 ghost use Rattle.chart.specs.Format.{decode};
 ghost use Rattle.chart.specs.Refusal.{firstOf, tableRows};
 ghost use Rattle.chart.specs.Checked.{Laid, answer, checked, numberOf};
 use crate::constructs::bad_constructs;
-use crate::edges::bad_edges;
-use crate::nodes::bad_barriers;
-use crate::nodes::bad_frames;
-use crate::nodes::bad_nodes;
 use crate::trailer::read_trailer;
 use chart::format::Chart;
 use chart::format::Checked;
 use chart::format::Refusal;
+use flow::edges::bad_edges;
+use flow::nodes::bad_barriers;
+use flow::nodes::bad_frames;
+use flow::nodes::bad_nodes;
 
 // Rows 5 to 9.
 fn check_tables(s: &[u8], chart: Chart) -> Checked

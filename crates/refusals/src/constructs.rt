@@ -1,10 +1,9 @@
 // Row 6 of the refusals, over the constructs.
 ghost use mathlib.Core.Path.{_≡_};
 ghost use mathlib.Core.Bool.{true, false, _&&_, not};
-ghost use mathlib.Core.List.{List, [], _∷_};
-ghost use Prim.Native.Nat.{ℕ, _+_, _*_, _-_, _≤_, _<_};
+ghost use Prim.Native.Nat.{_-_, _≤_, _<_};
 ghost use lib.Dec.{eqb, ltb};
-ghost use lib.ListN.{getD, length};
+ghost use lib.ListN.{length};
 ghost use Rattle.lists.specs.Range.{any};
 ghost use Rattle.chart.specs.Format.{outside, decode};
 ghost use Rattle.chart.specs.Scope.{criticalByte};

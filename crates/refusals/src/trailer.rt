@@ -1,7 +1,7 @@
 // Rows 1 to 4 of the refusals, over the trailer.
 ghost use mathlib.Core.Path.{_≡_};
-ghost use Prim.Native.Nat.{ℕ, _+_, _*_, _-_, _≤_, _<_};
-ghost use lib.ListN.{getD, length};
+ghost use Prim.Native.Nat.{_+_, _*_, _≤_, _<_};
+ghost use lib.ListN.{length};
 ghost use Rattle.chart.specs.Format.{decode};
 ghost use Rattle.chart.specs.Refusal.{badMarks, badCounts, badLengths, firstOf, trailerRows};
 ghost use Rattle.chart.specs.Checked.{countsOf, answer};

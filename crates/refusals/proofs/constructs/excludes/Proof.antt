@@ -8,7 +8,7 @@ use native.Mathlib.Omega.{arith}
 use lib.ListN.{getD}
 use borrow.Author.Tests.{eq-eqb, ne-eqb, not-true, not-false}
 use borrow.Author.Needs.{needs}
-use Rattle.chart.specs.Scope.{kindOf}
+use Rattle.chart.specs.Scope.{criticalByte, kindOf}
 use Rattle.chart.specs.Nesting.{excluded, sameCritical, mayEnclose}
 use Rattle.refusals.proofs.constructs.excludes.Statement.{statement}
 use Rattle.refusals.proofs.constructs.excludes.Tie as tie
@@ -53,22 +53,22 @@ returns c = rw (sym (entry (c .before)) ∙ not-true _ (c .if1 .taken))
 
 returns-2 : tie.Need-returns-2
 unfolding excluded sameCritical
-returns-2 c = rw (sym (entry (c .before .before)) ∙ not-false _ (c .before .if1 .left), ne-eqb _ _ (c .if2 .taken))
+returns-2 c = rw (sym (entry (c .before .before)) ∙ not-false _ (c .before .if1 .left), ne-eqb _ criticalByte (c .if2 .taken))
 
 returns-3 : tie.Need-returns-3
 unfolding excluded sameCritical
 returns-3 c = let k = c .before in rw (
   sym (entry (k .before .before)) ∙ not-false _ (k .before .if1 .left),
-  eq-eqb _ _ (k .if2 .left),
-  ne-eqb _ _ (c .if3 .taken),
+  eq-eqb _ criticalByte (k .if2 .left),
+  ne-eqb _ criticalByte (c .if3 .taken),
 )
 
 returns-4 : tie.Need-returns-4
 unfolding excluded sameCritical
 returns-4 c = let l = c .before .before in let k = l .before in rw (
   sym (entry (k .before .before)) ∙ not-false _ (k .before .if1 .left),
-  eq-eqb _ _ (k .if2 .left),
-  eq-eqb _ _ (l .if3 .left),
+  eq-eqb _ criticalByte (k .if2 .left),
+  eq-eqb _ criticalByte (l .if3 .left),
 )
 
 pub excludes-spec : {M : Type 1} → statement M
