@@ -1,12 +1,12 @@
 -- Masks computed with: the test of a bit, one bit more, the union of two masks, how many bits are set.
 -- Assumes nothing.
 use mathlib.Core.Path.{_≡_, refl, sym, _∙_}
-use mathlib.Core.Logic.{⊎-elim}
+use mathlib.Core.Logic.{inl, inr, ⊎-elim}
 use mathlib.Core.Bool.{Bool, true, false, _||_, cond}
 use Prim.Native.Nat.{ℕ, zero, suc, _+_, _*_, _/_, _%_, _^_, _<_}
 use native.Mathlib.Omega.{arith}
 use native.Mathlib.Decide.{ℕ-discrete, decLt}
-use native.Mathlib.Nat.{one-mul}
+use native.Mathlib.Nat.{one-mul, pow-suc}
 use native.Mathlib.Numerals.{add-one}
 use lib.Dec.{eqb}
 use lib.Bits.{bitOr, or-shifted}
@@ -15,7 +15,7 @@ use lib.Pow.{pow-lt}
 use borrow.Author.Tests.{eqb-true, eq-eqb}
 use Rattle.lists.specs.Truth.{same-truth, or-left, or-right, or-cases}
 use Rattle.lists.specs.Range.{count}
-use Rattle.lists.specs.Mask.{Has, maskOf, mask-of, mask-is, mask-either, has-above}
+use Rattle.lists.specs.Mask.{Has, Mask, mask-carry, mask-unique, maskOf, mask-of, mask-is, mask-either, has-above}
 
 -- bit b of m is set
 abbrev pub has : ℕ → ℕ → Bool
@@ -69,3 +69,18 @@ ones-mask f (suc k) = go (f k) (ones-mask f k)
     go : (b : Bool) → ones (maskOf f k) ≡ count k f → ones (cond b (2 ^ k) 0 + maskOf f k) ≡ count k f + cond b 1 0
     go true e = omega (arith, rw one-mul at single)
     go false e = let z : 0 + maskOf f k ≡ maskOf f k = omega arith in rw z (omega arith)
+
+-- a union with what is in it already
+
+pow-more : (n : ℕ) → n < 2 ^ n
+pow-more zero = omega arith
+pow-more (suc n) = omega (arith, pow-more n, pow-suc 2 n)
+
+pub or-again : (a b : ℕ) → bitOr (bitOr a b) b ≡ bitOr a b
+or-again a b =
+    let l = pow-more (a + b) in
+    let both = mask-either (own a (omega arith)) (own b (omega arith)) in
+    mask-unique (mask-either both (own b (omega arith))) (mask-carry (λ i q p. inl p) (λ i q p. ⊎-elim (λ r. r) inr p) both)
+  where
+    own : (n : ℕ) → n < 2 ^ (a + b) → Mask (Has n) (a + b) n
+    own n h = record { small = h; only = λ i q p. p; all = λ i q p. p }

@@ -22,10 +22,10 @@ and-has a b i = rw (and-shr a b i) (omega (arith, and-step (a / 2 ^ i) (b / 2 ^ 
 min-both : (x y : ℕ) → x < 2 → y < 2 → min x y ≡ 1 → (x ≡ 1) × (y ≡ 1)
 min-both x y l m e = (omega arith, omega arith)
 
-and-both : (a b i : ℕ) → Has (bitAnd a b) i → Has a i × Has b i
+pub and-both : (a b i : ℕ) → Has (bitAnd a b) i → Has a i × Has b i
 and-both a b i h = min-both (a / 2 ^ i % 2) (b / 2 ^ i % 2) (omega arith) (omega arith) (sym (and-has a b i) ∙ h)
 
-both-and : (a b i : ℕ) → Has a i → Has b i → Has (bitAnd a b) i
+pub both-and : (a b i : ℕ) → Has a i → Has b i → Has (bitAnd a b) i
 both-and a b i h g = omega (arith, and-has a b i)
 
 pub mask-none : (k : ℕ) → Mask (λ b. ⊥) k 0

@@ -4,6 +4,7 @@ pub mod Counting
 pub mod Mask
 pub mod Bits
 pub mod Common
+pub mod Lowest
 pub mod Select
 pub mod Store
 pub mod Tab

@@ -5,7 +5,7 @@ use mathlib.Core.Logic.{_⊎_, inl, inr, ⊎-elim, _≢_}
 use mathlib.Core.Bool.{Bool, true, false, _&&_, _||_, cond}
 use Prim.Native.Nat.{ℕ, zero, suc, _+_, _≤_, _<_}
 use native.Mathlib.Omega.{arith}
-use native.Mathlib.Decide.{ℕ-discrete}
+use native.Mathlib.Decide.{ℕ-discrete, decLt}
 use native.Mathlib.Numerals.{add-one}
 use Rattle.lists.specs.Truth.{bad, clash, truth, false-if, and-both, both-and, or-cases, or-left, or-right, same-truth}
 
@@ -110,6 +110,28 @@ first-passes (suc n) f h = go (truth (any n f)) (λ g. first-passes n f g) (trut
     go (inl g) r p = rw g (let b = r g in let l = b .0 in (omega arith, b .1))
     go (inr g) r (inl p) = rw (g, p) (omega arith, p)
     go (inr g) r (inr p) = absurd (bad (cc))
+
+-- none before it does
+pub first-least : (n : ℕ) (f : ℕ → Bool) (k : ℕ) → k < first n f → f k ≡ false
+unfolding first
+first-least zero f k l = absurd (none-below l)
+first-least (suc n) f k l = go (truth (any n f)) (truth (f n)) (ℕ-discrete k n) (first-least n f k) l
+  where
+    go : (any n f ≡ true) ⊎ (any n f ≡ false) → (f n ≡ true) ⊎ (f n ≡ false) → Dec (k ≡ n) → (k < first n f → f k ≡ false)
+        → k < cond (any n f) (first n f) (cond (f n) n (suc n)) → f k ≡ false
+    go (inl g) p d r l = r (rw g at l)
+    go (inr g) (inl p) d r l = none-passes n f g k (rw (g, p) at l)
+    go (inr g) (inr p) (yes q) r l = ap f q ∙ p
+    go (inr g) (inr p) (no q) r l = let below : k < suc n = rw (g, p) at l in none-passes n f g k (omega arith)
+
+-- one that passes, and none before it does, is the first
+pub first-is : (n : ℕ) (f : ℕ → Bool) (k : ℕ) → k < n → f k ≡ true → any k f ≡ false → first n f ≡ k
+first-is n f k l p h = go (decLt k (first n f)) (decLt (first n f) k) (first-passes n f (at-any n f k l p))
+  where
+    go : Dec (k < first n f) → Dec (first n f < k) → (first n f < n) × (f (first n f) ≡ true) → first n f ≡ k
+    go (yes a) b c = absurd (clash p (first-least n f k a))
+    go (no a) (yes b) c = absurd (clash (c .1) (none-passes k f h (first n f) b))
+    go (no a) (no b) c = omega arith
 
 pub count-most : (n : ℕ) (f : ℕ → Bool) → count n f ≤ n
 unfolding count

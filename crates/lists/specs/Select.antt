@@ -83,3 +83,18 @@ select-at (suc n) f x l h = go (truth (f n)) (ℕ-discrete x n) (λ l. select-at
         rw (t, append-off (select n f) n (count x f) (λ q. omega arith)) (omega (arith, length-append (select n f) (n ∷ [])), e)
     go (inr t) (yes e) r = absurd (clash h (rw (← e) at t))
     go (inr t) (no d) r = rw t (r (omega arith))
+
+-- so the number of an element is its place
+pub select-number : (n : ℕ) (f : ℕ → Bool) (k : ℕ) → k < length (select n f) → count (getD (select n f) k 0) f ≡ k
+unfolding select
+select-number zero f k l = absurd (omega arith)
+select-number (suc n) f k l = go (truth (f n)) (ℕ-discrete k (length (select n f))) (λ l. select-number n f k l)
+  where
+    go : (f n ≡ true) ⊎ (f n ≡ false) → Dec (k ≡ length (select n f)) → (k < length (select n f) → count (getD (select n f) k 0) f ≡ k)
+        → count (getD (cond (f n) (select n f ++ (n ∷ [])) (select n f)) k 0) f ≡ k
+    go (inl h) (yes e) r = rw (h, e, append-at (select n f) n, select-length n f)
+    go (inl h) (no d) r = rw (h, append-off (select n f) n k d) (r (last (rw h at l) d))
+      where
+        last : k < length (select n f ++ (n ∷ [])) → (k ≡ length (select n f) → ⊥) → k < length (select n f)
+        last b d = omega (arith, length-append (select n f) (n ∷ []))
+    go (inr h) d r = rw h (r (rw h at l))

@@ -2,7 +2,7 @@
 -- Assumes nothing.
 use mathlib.Core.Path.{_≡_}
 use mathlib.Core.Logic.{_≢_}
-use mathlib.Core.Bool.{false, _&&_, not}
+use mathlib.Core.Bool.{Bool, true, false, _&&_, not}
 use mathlib.Core.List.{List, [], _∷_}
 use Prim.Native.Nat.{ℕ, _<_}
 use lib.Dec.{eqb}
@@ -22,17 +22,20 @@ use Rattle.paths.specs.Connected.{Connected}
 use Rattle.paths.specs.Admission.{cutOff, badPaths, admitRows, Admitted}
 
 module _ (R : Region) (W : WellFormed R) (h : badPaths R ≡ false) where
-  from-start : (x : ℕ) → x < R .nodes → x ≢ R .start → Path (Edge R) Any (R .start) x
+  -- one half of row 10, of one node: y is x itself, or a path leads there
+  joins : (x : ℕ) (y : ℕ) (reached : Bool) → (not (eqb x y) && not reached) ≡ false → x ≢ y → reached ≡ true
+  joins x y reached c n = not-false _ (and-fails (not (eqb x y)) _ c (rw (ne-eqb x y n)))
+
+  halves : (x : ℕ) → x < R .nodes
+      → ((not (eqb x (R .start)) && not (reachesAny R (R .start) x)) ≡ false) × ((not (eqb x (R .finish)) && not (reachesAny R x (R .finish))) ≡ false)
   unfolding badPaths cutOff
-  from-start x l n =
-      let c = or-neither (not (eqb x (R .start)) && not (reachesAny R (R .start) x)) _ (none-passes (R .nodes) (cutOff R) h x l) in
-      any-path R W (R .start) x (not-false _ (and-fails (not (eqb x (R .start))) _ (c .0) (rw (ne-eqb x (R .start) n))))
+  halves x l = or-neither (not (eqb x (R .start)) && not (reachesAny R (R .start) x)) _ (none-passes (R .nodes) (cutOff R) h x l)
+
+  from-start : (x : ℕ) → x < R .nodes → x ≢ R .start → Path (Edge R) Any (R .start) x
+  from-start x l n = any-path R W (R .start) x (joins x (R .start) _ (halves x l .0) n)
 
   to-finish : (x : ℕ) → x < R .nodes → x ≢ R .finish → Path (Edge R) Any x (R .finish)
-  unfolding badPaths cutOff
-  to-finish x l n =
-      let c = or-neither (not (eqb x (R .start)) && not (reachesAny R (R .start) x)) _ (none-passes (R .nodes) (cutOff R) h x l) in
-      any-path R W x (R .finish) (not-false _ (and-fails (not (eqb x (R .finish))) _ (c .1) (rw (ne-eqb x (R .finish) n))))
+  to-finish x l n = any-path R W x (R .finish) (joins x (R .finish) _ (halves x l .1) n)
 
   pub connected : Connected R
   connected = record {

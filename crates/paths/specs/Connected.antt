@@ -2,9 +2,9 @@
 -- Assumes nothing.
 use mathlib.Core.Path.{_≡_}
 use mathlib.Core.Logic.{_≢_}
-use mathlib.Core.Bool.{Bool, true}
+use mathlib.Core.Bool.{true}
 use Prim.Native.Nat.{ℕ}
-use Rattle.chart.specs.Region.{Role, opens, closes, Region}
+use Rattle.chart.specs.Region.{opens, closes, Region}
 use Rattle.paths.specs.Path.{Path, Edge, Any}
 
 pub record Connected (R : Region) : Type 0 where

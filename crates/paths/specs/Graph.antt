@@ -32,6 +32,17 @@ pub record Tally (keys : List ℕ) (e : ℕ) (tally : List ℕ) : Type 0 where
   pub first : getD tally 0 0 ≡ 0
   pub at : (x : ℕ) → x < 192 → getD tally (x + 1) 0 ≡ count e (equal keys x)
 
+-- Keys that rise. Their values are their heads as they stand.
+abbrev pub Rising : List ℕ → ℕ → Type 0
+Rising keys e = (i j : ℕ) → i ≤ j → j < e → getD keys i 0 ≤ getD keys j 0
+
+-- Where the edges of each node end, told at the node after it, for keys that rise. A node that has no edges may be told less.
+pub record Ends (keys : List ℕ) (e : ℕ) (ends : List ℕ) : Type 0 where
+  pub long : length ends ≡ 193
+  pub first : getD ends 0 0 ≡ 0
+  pub most : (x : ℕ) → x < 192 → getD ends (x + 1) 0 ≤ count e (lower keys (x + 1))
+  pub at : (x i : ℕ) → x < 192 → i < e → getD keys i 0 ≡ x → getD ends (x + 1) 0 ≡ count e (lower keys (x + 1))
+
 -- For each node the place where its edges begin: the number of edges that leave lower nodes. Where they end, those of the next node begin.
 pub record Places (keys : List ℕ) (e : ℕ) (places : List ℕ) : Type 0 where
   pub long : length places ≡ 193
@@ -52,10 +63,6 @@ pub record Table (keys values : List ℕ) (e : ℕ) (heads places : List ℕ) : 
   pub key : (j : ℕ) → getD keys j 0 < 192
   pub begins : Places keys e places
   pub sorted : Heads keys values e heads
-
--- Keys that rise. Their values are their heads as they stand.
-abbrev pub Rising : List ℕ → ℕ → Type 0
-Rising keys e = (i j : ℕ) → i ≤ j → j < e → getD keys i 0 ≤ getD keys j 0
 
 -- An edge leads from x to y, by the table.
 pub record Leads (heads places : List ℕ) (x y : ℕ) : Type 0 where

@@ -5,7 +5,6 @@ pub mod Reach
 pub mod ReachLaws
 pub mod Decide
 pub mod Graph
-pub mod Examples
 pub mod Found
 pub mod FoundLaws
 pub mod Steps

@@ -2,9 +2,9 @@
 -- Assumes nothing.
 use mathlib.Core.Path.{_≡_}
 use mathlib.Core.Logic.{_≢_}
-use mathlib.Core.Bool.{Bool, true}
+use mathlib.Core.Bool.{true}
 use Prim.Native.Nat.{ℕ, suc}
-use Rattle.chart.specs.Region.{Role, barrier, Region}
+use Rattle.chart.specs.Region.{barrier, Region}
 
 -- A path (01: a way): one or more edges, and every node strictly between its ends has P. By position: an end may come up between too,
 -- and then P is asked of it there.

@@ -1,9 +1,9 @@
--- Laws of paths: joined, carried over to another graph, and reversed, each with its number of edges.
+-- Laws of paths: joined, carried over to another graph, and reversed, each with its number of edges; and cut at the last node that stops.
 -- Assumes nothing.
 use mathlib.Core.Path.{_≡_, refl, ap, _∙_}
 use Prim.Native.Nat.{ℕ, suc, _+_, _≤_}
 use native.Mathlib.Omega.{arith}
-use Rattle.paths.specs.Path.{Path, last, next, edges}
+use Rattle.paths.specs.Path.{Path, last, next, edges, Any}
 
 pub edges-some : {E : ℕ → ℕ → Type 0} {P : ℕ → Type 0} {x y : ℕ} (w : Path E P x y) → 1 ≤ edges w
 unfolding edges
@@ -41,3 +41,23 @@ pub edges-reverse : {E : ℕ → ℕ → Type 0} {P : ℕ → Type 0} {x y : ℕ
 unfolding edges reverse
 edges-reverse (last e) = refl
 edges-reverse (next e p w) = edges-append (reverse w) p (last e) ∙ omega (arith, edges-reverse w)
+
+-- Let J have some nodes, and each node without P to which a path leads from one of J, past nodes with P. Then whatever a path leads to
+-- from one of J, a path past nodes with P leads to from one of J: what is left of the path behind its last node without P.
+module _ {E : ℕ → ℕ → Type 0} {P : ℕ → Type 0} (P? : (z : ℕ) → Dec (P z)) (J : ℕ → Type 0)
+    (closed : (x z : ℕ) → J x → Path E P x z → (P z → ⊥) → J z) where
+  pub record From (y : ℕ) : Type 0 where
+    pub node : ℕ
+    pub member : J node
+    pub path : Path E P node y
+
+  one-more : (x : ℕ) → From x → Dec (P x) → (y : ℕ) → E x y → From y
+  one-more x f (yes p) y e = record { node = f .node; member = f .member; path = append (f .path) p (last e) }
+  one-more x f (no p) y e = record { node = x; member = closed (f .node) x (f .member) (f .path) p; path = last e }
+
+  along : {x y : ℕ} → ((z : ℕ) → E x z → From z) → Path E Any x y → From y
+  along step (last e) = step _ e
+  along step (next {z = z} e p w) = along (one-more z (step z e) (P? z)) w
+
+  pub cut-last : {x y : ℕ} → J x → Path E Any x y → From y
+  cut-last {x} j w = along (λ z e. record { node = x; member = j; path = last e }) w

@@ -1,17 +1,17 @@
 -- What phases mean: barriers have their numbers, a bit of a mask is a barrier-free path, whichever the direction, and the phases counted
 -- are the pairs of a start and an end that some node has.
 -- Assumes nothing.
-use mathlib.Core.Path.{_≡_, refl}
+use mathlib.Core.Path.{_≡_, refl, ap, sym, _∙_}
 use mathlib.Core.Logic.{_↔_}
-use mathlib.Core.Bool.{true, false, _&&_, not}
+use mathlib.Core.Bool.{Bool, true, false, _&&_, not}
 use Prim.Native.Nat.{ℕ, _<_}
 use lib.ListN.{length}
 use borrow.Author.Tests.{not-true}
 use Rattle.lists.specs.Truth.{bad, and-both, both-and}
-use Rattle.lists.specs.Range.{any-at, at-any}
+use Rattle.lists.specs.Range.{any-at, at-any, count}
 use Rattle.lists.specs.Mask.{Has, mask-of}
 use Rattle.lists.specs.Bits.{has-below}
-use Rattle.lists.specs.Select.{select-passes, select-at}
+use Rattle.lists.specs.Select.{select-passes, select-at, select-number}
 use Rattle.chart.specs.Region.{Role, plain, barrier, opens, closes, Region}
 use Rattle.chart.specs.WellFormed.{WellFormed}
 use Rattle.paths.specs.Path.{Path, last, next, Edge, Open, BarrierFree}
@@ -35,7 +35,7 @@ pub record Phase (R : Region) (b c : ℕ) : Type 0 where
   pub start : Marked forward R node b
   pub end : Marked backward R node c
 
-is-barrier : (r : Role) → noBarrier r ≡ false → r ≡ barrier
+pub is-barrier : (r : Role) → noBarrier r ≡ false → r ≡ barrier
 is-barrier plain h = absurd (bad (cc))
 is-barrier barrier h = refl
 is-barrier (opens c) h = absurd (bad (cc))
@@ -50,7 +50,7 @@ module _ (R : Region) (W : WellFormed R) where
   free-leads forward x y w = path-free R W x y w
   free-leads backward x y w = path-free R W y x w
 
-  -- each number is that of a barrier, and each barrier has a number
+  -- each number is that of a barrier, and each barrier has one number
   pub number-barrier : (b : ℕ) → b < length (barriers R) → R .role (barrierAt R b) ≡ barrier
   unfolding barriers
   number-barrier b l = is-barrier _ (not-true _ (select-passes (R .nodes) (λ x. not (noBarrier (R .role x))) b l .1))
@@ -61,6 +61,12 @@ module _ (R : Region) (W : WellFormed R) where
       let is : not (noBarrier (R .role x)) ≡ true = rw h in
       let (l, e) = select-at (R .nodes) (λ x. not (noBarrier (R .role x))) x (W .barrier-below h) is in
       (_, l, e)
+
+  pub number-unique : (b c : ℕ) → b < length (barriers R) → c < length (barriers R) → barrierAt R b ≡ barrierAt R c → b ≡ c
+  unfolding barriers
+  number-unique b c l m e =
+      let f : ℕ → Bool = λ x. not (noBarrier (R .role x)) in
+      sym (select-number (R .nodes) f b l) ∙ ap (λ (x : ℕ). count x f) e ∙ select-number (R .nodes) f c m
 
   pub marked-means : (d : Direction) (x b : ℕ) → ((b < length (barriers R)) × (marked d R x b ≡ true)) ↔ Marked d R x b
   unfolding marked

@@ -5,7 +5,7 @@ use mathlib.Core.Path.{_≡_}
 use mathlib.Core.Bool.{Bool, cond}
 use mathlib.Core.List.{List}
 use mathlib.Core.Option.{none}
-use Prim.Native.Nat.{ℕ, zero, suc, _+_, _<_}
+use Prim.Native.Nat.{ℕ, _+_, _<_}
 use lib.ListN.{length, getD, set}
 use Rattle.chart.specs.Format.{Decoded, decode, edgeAt}
 use Rattle.chart.specs.Region.{Region}
@@ -60,10 +60,10 @@ pub record Barriers (R : Region) (nodes : List ℕ) (total : ℕ) : Type 0 where
 abbrev pub Masks : Direction → Region → List ℕ → Type 0
 Masks d R masks = (x : ℕ) → x < 192 → getD masks x 0 ≡ marks d R x
 
--- A mask, 0 where a stop stands.
-abbrev pub kept : ℕ → ℕ → ℕ
-kept zero mask = mask
-kept (suc n) mask = 0
+-- The masks of the first `total` nodes of a list become 0, and the others stay.
+pub record Cleared (nodes : List ℕ) (total : ℕ) (old new : List ℕ) : Type 0 where
+  pub gone : (b : ℕ) → b < total → getD new (getD nodes b 0) 0 ≡ 0
+  pub rest : (y : ℕ) → ((b : ℕ) → b < total → getD nodes b 0 ≡ y → ⊥) → getD new y 0 ≡ getD old y 0
 
 -- One node more for the list of the first `total` barriers: no stop stands on it, or it is put behind the others.
 pub data Noted (stop x : ℕ) (nodes : List ℕ) (total : ℕ) : List ℕ → ℕ → Type 0 where

@@ -8,7 +8,7 @@ ghost use Rattle.paths.specs.Admission.{badPaths};
 ghost use Rattle.phases.specs.Tables.{Accepted};
 ghost use Rattle.phases.specs.Admission.{countsIn, answer, admitted};
 use crate::count::count;
-use crate::mark::mark;
+use crate::mark::mark_phases;
 use chart::format::Chart;
 use chart::format::Checked;
 use chart::format::Refusal;
@@ -33,7 +33,7 @@ fn admit_chart(s: &[u8], chart: Chart) -> Admission
 {
     let mut starts = [0u64; 192];
     let mut ends = [0u64; 192];
-    let found = mark(s, chart, &mut starts, &mut ends);
+    let found = mark_phases(s, chart, &mut starts, &mut ends);
     if found.refused {
         return Admission::Refused(Refusal::PATHS);
     }

@@ -1,74 +1,130 @@
-// Row 10 of the refusals: every node is reached from start and reaches finish, along edges.
+// Row 10 of the refusals: every node is reached from start and reaches finish, along edges. The masks of a search past no barrier tell
+// it: first which barriers are joined to start (to finish), then whether some barrier leads to each other node, which has a level then.
 ghost use mathlib.Core.Path.{_≡_};
-ghost use mathlib.Core.Bool.{_&&_, not};
-ghost use Prim.Native.Nat.{_≤_, _<_};
+ghost use mathlib.Core.Bool.{_&&_, _||_, cond};
+ghost use Prim.Native.Nat.{ℕ, _^_, _≤_, _<_};
+ghost use lib.Bits.{bitAnd, bitOr};
 ghost use lib.Dec.{eqb};
 ghost use lib.ListN.{getD};
 ghost use Rattle.lists.specs.Range.{any};
-ghost use Rattle.chart.specs.Format.{decode};
+ghost use Rattle.lists.specs.Mask.{Has, Mask};
 ghost use Rattle.chart.specs.Region.{Region};
-ghost use Rattle.chart.specs.Reading.{region};
 ghost use Rattle.chart.specs.WellFormed.{WellFormed};
-ghost use Rattle.paths.specs.Graph.{Bounded};
-ghost use Rattle.paths.specs.Admission.{badPaths};
-ghost use Rattle.phases.specs.Phases.{Direction, forward, backward};
-ghost use Rattle.phases.specs.Tables.{Accepted, Tabled, leadsAny};
-use chart::format::Chart;
-use paths::search::search;
+ghost use Rattle.paths.specs.Path.{Open};
+ghost use Rattle.paths.specs.Found.{Found};
+ghost use Rattle.phases.specs.Phases.{Direction, barrierAt};
+ghost use Rattle.phases.specs.Tables.{Along, Stops, Barriers};
+ghost use Rattle.phases.specs.Joined.{Joined, fromSource, Passed, lost};
+use crate::count::ones;
+use chart::cursor::wide;
+use paths::search::bit;
 
-// Whether node x is another than the source, and its mask has no bit.
-fn missed(mask: u64, x: usize, source: usize) -> bool
-    ensures { λ r. ⌜ r ≡ (not (eqb x source) && eqb mask 0) ⌝ }
+// The k-th barrier from the source on, so that one pass will do for a chart in program order.
+fn from_source(source: usize, total: usize, k: usize) -> usize
+    requires { ⌜ k < total ⌝ }
+    ensures { λ r. ⌜ (r ≡ fromSource source total k) × (r < total) ⌝ }
 {
-    if x == source {
-        return false;
+    if source == 0 {
+        return k;
     }
-    mask == 0
+    total - 1 - k
 }
 
-// Whether one of the first n nodes was missed.
-fn any_missed(masks: &[u64; 192], source: usize, n: usize) -> bool
-    requires { ⌜ n ≤ 192 ⌝ }
-    ensures { λ r. ⌜ r ≡ any n (λ x. not (eqb x source) && eqb (getD (now (masks .entry)) x 0) 0) ⌝ }
+// Barrier b is joined, where its mask has a barrier that is.
+fn join(mask: u64, b: usize, all: u64) -> u64
+    requires { ⌜ b < 64 ⌝ }
+    ensures { λ r. ⌜ r ≡ cond (eqb (bitAnd mask all) 0) all (bitOr (2 ^ b) all) ⌝ }
 {
-    let mut x = 0;
-    while x < n {
-        if missed(masks[x], x, source) {
-            return true;
+    if mask & all == 0 {
+        return all;
+    }
+    bit(b) | all
+}
+
+// One pass over the barriers.
+fn pass(masks: &[u64; 192], nodes: &[u8; 64], total: usize, source: usize, before: u64) -> u64
+    requires { ⌜ (total ≤ 64) × (before < 2 ^ total) ⌝ }
+    requires { ⌜ ((b : ℕ) → getD (now nodes) b 0 < 192) ⌝ }
+    requires { ⌜ ((b : ℕ) → Has before b → Joined (now masks) (now nodes) total source b) ⌝ }
+    ensures { λ r. ⌜ Passed (now (masks .entry)) (now (nodes .entry)) total source before total r ⌝ }
+{
+    let mut all = before;
+    let mut k = 0;
+    while k < total {
+        let b = from_source(source, total, k);
+        all = join(masks[wide(nodes[b])], b, all);
+        k += 1;
+    }
+    all
+}
+
+// The barriers that are joined to the source: passes, until all are joined or one brings nothing more.
+fn joined(masks: &[u64; 192], nodes: &[u8; 64], total: usize, source: usize) -> u64
+    requires { ⌜ (total ≤ 64) × (source < total) ⌝ }
+    requires { ⌜ ((b : ℕ) → getD (now nodes) b 0 < 192) ⌝ }
+    ensures { λ r. ⌜ Mask (Joined (now (masks .entry)) (now (nodes .entry)) total source) total r ⌝ }
+{
+    let mut all = bit(source);
+    while ones(all) < total {
+        let before = all;
+        all = pass(masks, nodes, total, source, before);
+        if all == before {
+            return all;
         }
-        x += 1;
+    }
+    all
+}
+
+// Whether no stop stands on a node, and it has no level.
+fn missed(stop: u8, level: u8) -> bool
+    ensures { λ r. ⌜ r ≡ (eqb stop 0 && eqb level 0) ⌝ }
+{
+    if stop == 0 {
+        return level == 0;
     }
     false
 }
 
-// Whether to one of the first n nodes, other than the source, no path leads from there: one source, and nothing stops.
-fn cut_off(heads: &[u8; 1024], places: &[usize; 193], source: usize, n: usize) -> bool
-    requires { ⌜ (n ≤ 192) × (source < 192) × Bounded (now heads) (now places) ⌝ }
-    ensures { λ r. ⌜ ((d : Direction) (R : Region) → WellFormed R → Tabled d R (now (heads .entry)) (now (places .entry)) → r ≡ any n (λ x. not (eqb x source) && not (leadsAny d R source x))) ⌝ }
+// One of two tests.
+pub fn either(a: bool, b: bool) -> bool
+    ensures { λ r. ⌜ r ≡ (a || b) ⌝ }
 {
-    let stops = [0u8; 192];
-    let sources = [(source % 256) as u8; 64];
-    let mut masks = [0u64; 192];
-    let mut levels = [0u8; 192];
-    search(heads, places, &stops, &sources, 1, &mut masks, &mut levels);
-    any_missed(&masks, source, n)
-}
-
-// Row 10, by the table of the edges and the turned table.
-pub fn bad_paths(
-    s: &[u8],
-    chart: Chart,
-    heads: &[u8; 1024],
-    places: &[usize; 193],
-    turned_heads: &[u8; 1024],
-    turned_places: &[usize; 193],
-) -> bool
-    requires { ⌜ Accepted (now s) chart × Tabled forward (region (decode (now s))) (now heads) (now places) × Tabled backward (region (decode (now s))) (now «turned_heads») (now «turned_places») ⌝ }
-    ensures { λ r. ⌜ r ≡ badPaths (region (decode (now (s .entry)))) ⌝ }
-{
-    let n = chart.nodes;
-    if cut_off(heads, places, 0, n) {
+    if a {
         return true;
     }
-    cut_off(turned_heads, turned_places, n - 1, n)
+    b
+}
+
+// Whether one of the first n nodes was missed. No turn leaves the loop, so that several are taken at once.
+fn any_missed(stops: &[u8; 192], levels: &[u8; 192], n: usize) -> bool
+    requires { ⌜ n ≤ 192 ⌝ }
+    ensures { λ r. ⌜ r ≡ any n (λ x. eqb (getD (now (stops .entry)) x 0) 0 && eqb (getD (now (levels .entry)) x 0) 0) ⌝ }
+{
+    let mut found = false;
+    let mut x = 0;
+    while x < n {
+        found = either(found, missed(stops[x], levels[x]));
+        x += 1;
+    }
+    found
+}
+
+// Whether to one of the n nodes, other than the source, no path leads from there, by the masks and levels of all nodes.
+pub fn cut_off(
+    stops: &[u8; 192],
+    masks: &[u64; 192],
+    levels: &[u8; 192],
+    nodes: &[u8; 64],
+    total: usize,
+    source: usize,
+    n: usize,
+) -> bool
+    requires { ⌜ (total ≤ 64) × (source < total) × (n ≤ 192) ⌝ }
+    requires { ⌜ ((b : ℕ) → getD (now nodes) b 0 < 192) ⌝ }
+    ensures { λ r. ⌜ ((d : Direction) (R : Region) → WellFormed R → n ≡ R .nodes → Stops R (now (stops .entry)) → Barriers R (now (nodes .entry)) total → Found (Along d R) (Open R) (now (nodes .entry)) total (now (masks .entry)) (now (levels .entry)) → r ≡ lost d R (barrierAt R source) n) ⌝ }
+{
+    if ones(joined(masks, nodes, total, source)) < total {
+        return true;
+    }
+    any_missed(stops, levels, n)
 }

@@ -1,15 +1,16 @@
-// The phase count: for each start the union of the ends of the nodes that have it, and how many these are.
+// The phase count: for each start the union of the ends of the nodes that have it, in one pass over the nodes, and how many these are.
 ghost use mathlib.Core.Path.{_≡_};
 ghost use mathlib.Core.Bool.{cond};
 ghost use Prim.Native.Nat.{_≤_, _<_};
-ghost use lib.Bits.{bitOr};
 ghost use lib.Count.{ones as Count·ones};
+ghost use lib.Dec.{eqb};
 ghost use lib.ListN.{length};
-ghost use Rattle.lists.specs.Mask.{maskOf};
 ghost use Rattle.lists.specs.Bits.{has as Bits·has};
+ghost use Rattle.lists.specs.Lowest.{Lowest};
 ghost use Rattle.chart.specs.Region.{Region};
-ghost use Rattle.phases.specs.Phases.{forward, backward, barriers, phase, phaseCount};
+ghost use Rattle.phases.specs.Phases.{forward, backward, barriers, phaseCount};
 ghost use Rattle.phases.specs.Tables.{Masks};
+ghost use Rattle.phases.specs.Unions.{Added, United};
 
 // Whether bit b of the mask is set.
 pub fn has(mask: u64, b: usize) -> bool
@@ -20,35 +21,71 @@ pub fn has(mask: u64, b: usize) -> bool
 }
 
 // How many bits are set.
-fn ones(mask: u64) -> usize
+pub fn ones(mask: u64) -> usize
     ensures { λ r. ⌜ (r ≡ Count·ones mask) × (r ≤ 64) ⌝ }
 {
     u64::count_ones(mask) as usize
 }
 
-// The ends so far, with those of one node more where it has the start b.
-fn join(start: u64, end: u64, b: usize, all: u64) -> u64
-    requires { ⌜ b < 64 ⌝ }
-    ensures { λ r. ⌜ r ≡ cond (Bits·has start b) (bitOr all end) all ⌝ }
+// The place of the lowest bit.
+fn lowest(mask: u64) -> usize
+    requires { ⌜ 0 < mask ⌝ }
+    ensures { λ r. ⌜ Lowest mask r 64 ⌝ }
 {
-    if has(start, b) {
-        return all | end;
-    }
-    all
+    u64::trailing_zeros(mask) as usize
 }
 
-// The ends of the nodes that have the start b.
-fn ends_with(starts: &[u64; 192], ends: &[u64; 192], n: usize, b: usize) -> u64
-    requires { ⌜ (n ≤ 192) × (b < 64) ⌝ }
-    ensures { λ r. ⌜ ((R : Region) → n ≡ R .nodes → b < length (barriers R) → Masks forward R (now (starts .entry)) → Masks backward R (now (ends .entry)) → r ≡ maskOf (phase R b) (length (barriers R))) ⌝ }
+// The ends are added for each of the starts, lowest first.
+fn add(unions: &mut [u64; 64], starts: u64, ends: u64)
+    requires { ⌜ length (now unions) ≡ 64 ⌝ }
+    ensures { λ _. ⌜ Added (now (unions .entry)) starts ends (now (unions .exit)) ⌝ }
 {
-    let mut all = 0;
+    let mut rest = starts;
+    while rest != 0 {
+        let b = lowest(rest);
+        unions[b] = unions[b] | ends;
+        rest = rest & (rest - 1);
+    }
+}
+
+// The same, but nothing is done where starts and ends are those that were added last.
+fn add_new(unions: &mut [u64; 64], starts: u64, ends: u64, last_starts: u64, last_ends: u64)
+    requires { ⌜ Added (now unions) «last_starts» «last_ends» (now unions) ⌝ }
+    ensures { λ _. ⌜ Added (now (unions .entry)) starts ends (now (unions .exit)) ⌝ }
+{
+    if starts == last_starts {
+        if ends == last_ends {
+            return;
+        }
+    }
+    add(unions, starts, ends);
+}
+
+// What was added last: where a node has no starts, as before.
+fn latest(starts: u64, new: u64, old: u64) -> u64
+    ensures { λ r. ⌜ r ≡ cond (eqb starts 0) old new ⌝ }
+{
+    if starts == 0 {
+        return old;
+    }
+    new
+}
+
+// For each start the ends of the nodes that have it.
+fn unite(starts: &[u64; 192], ends: &[u64; 192], n: usize, unions: &mut [u64; 64])
+    requires { ⌜ n ≤ 192 ⌝ }
+    ensures { λ _. ⌜ ((R : Region) → n ≡ R .nodes → Masks forward R (now (starts .entry)) → Masks backward R (now (ends .entry)) → United R (R .nodes) (now (unions .exit))) ⌝ }
+{
+    *unions = [0u64; 64];
+    let mut last_starts = 0;
+    let mut last_ends = 0;
     let mut x = 0;
     while x < n {
-        all = join(starts[x], ends[x], b, all);
+        add_new(unions, starts[x], ends[x], last_starts, last_ends);
+        last_starts = latest(starts[x], starts[x], last_starts);
+        last_ends = latest(starts[x], ends[x], last_ends);
         x += 1;
     }
-    all
 }
 
 // How many phases there are.
@@ -56,10 +93,12 @@ pub fn count(starts: &[u64; 192], ends: &[u64; 192], n: usize, total: usize) -> 
     requires { ⌜ (n ≤ 192) × (total ≤ 64) ⌝ }
     ensures { λ r. ⌜ ((R : Region) → n ≡ R .nodes → total ≡ length (barriers R) → Masks forward R (now (starts .entry)) → Masks backward R (now (ends .entry)) → r ≡ phaseCount R) ⌝ }
 {
+    let mut unions = [0u64; 64];
+    unite(starts, ends, n, &mut unions);
     let mut sum = 0;
     let mut b = 0;
     while b < total {
-        sum += ones(ends_with(starts, ends, n, b));
+        sum += ones(unions[b]);
         b += 1;
     }
     sum

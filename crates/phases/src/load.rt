@@ -5,6 +5,7 @@ ghost use Prim.Native.Nat.{_≤_, _<_};
 ghost use lib.Dec.{eqb};
 ghost use lib.ListN.{length, set};
 ghost use Rattle.chart.specs.Format.{decode};
+ghost use Rattle.chart.specs.Scope.{beginNode, endNode};
 ghost use Rattle.chart.specs.Reading.{region};
 ghost use Rattle.chart.specs.Checked.{Laid};
 ghost use Rattle.phases.specs.Tables.{Accepted, Columns, Stops, Barriers, Noted, Framed};
@@ -41,7 +42,7 @@ fn stop(node: Node) -> u8
 }
 
 // A stop on each barrier.
-fn load_stops(s: &[u8], chart: Chart, stops: &mut [u8; 192])
+pub fn load_stops(s: &[u8], chart: Chart, stops: &mut [u8; 192])
     requires { ⌜ Laid (now s) chart ⌝ }
     ensures { λ _. ⌜ Stops (region (decode (now (s .entry)))) (now (stops .exit)) ⌝ }
 {
@@ -112,16 +113,19 @@ fn frame(node: Node, kind: u8, x: usize, frames: &mut [u8; 64])
     }
 }
 
-// For each construct its node of this kind: its begin, or its end.
-pub fn frames(s: &[u8], chart: Chart, kind: u8, frames: &mut [u8; 64])
-    requires { ⌜ Accepted (now s) chart × (2 ≤ kind) × (kind ≤ 3) ⌝ }
-    ensures { λ _. ⌜ Framed (decode (now (s .entry))) kind (now (frames .exit)) ⌝ }
+// For each construct its begin, and its end.
+pub fn frames(s: &[u8], chart: Chart, begins: &mut [u8; 64], ends: &mut [u8; 64])
+    requires { ⌜ Accepted (now s) chart ⌝ }
+    ensures { λ _. ⌜ Framed (decode (now (s .entry))) beginNode (now (begins .exit)) × Framed (decode (now (s .entry))) endNode (now (ends .exit)) ⌝ }
 {
-    *frames = [0u8; 64];
+    *begins = [0u8; 64];
+    *ends = [0u8; 64];
     let n = chart.nodes;
     let mut x = 0;
     while x < n {
-        frame(Node::read(s, chart, x), kind, x, frames);
+        let node = Node::read(s, chart, x);
+        frame(node, Node::BEGIN, x, begins);
+        frame(node, Node::END, x, ends);
         x += 1;
     }
 }

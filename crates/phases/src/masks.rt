@@ -5,45 +5,45 @@ ghost use lib.ListN.{getD, length};
 ghost use Rattle.chart.specs.Region.{Region};
 ghost use Rattle.chart.specs.WellFormed.{WellFormed};
 ghost use Rattle.paths.specs.Graph.{Bounded};
-ghost use Rattle.phases.specs.Phases.{Direction};
-ghost use Rattle.phases.specs.Tables.{Tabled, Stops, Barriers, Masks, kept};
+ghost use Rattle.phases.specs.Phases.{Direction, barrierAt};
+ghost use Rattle.phases.specs.Tables.{Tabled, Stops, Barriers, Masks, Cleared};
+ghost use Rattle.phases.specs.Joined.{lost as Joined·lost};
+use crate::connected::cut_off;
+use chart::cursor::wide;
 use paths::search::search;
 
-// The mask of a node, 0 where a stop stands on it.
-fn keep(stop: u8, mask: u64) -> u64
-    ensures { λ r. ⌜ r ≡ kept stop mask ⌝ }
+// The masks of the barriers become 0.
+fn clear(nodes: &[u8; 64], total: usize, masks: &mut [u64; 192])
+    requires { ⌜ total ≤ 64 ⌝ }
+    requires { ⌜ ((b : ℕ) → getD (now nodes) b 0 < 192) ⌝ }
+    ensures { λ _. ⌜ Cleared (now (nodes .entry)) total (now (masks .entry)) (now (masks .exit)) ⌝ }
 {
-    if stop == 0 {
-        return mask;
-    }
-    0
-}
-
-// The masks of the stops become 0.
-fn clear(stops: &[u8; 192], masks: &mut [u64; 192])
-    ensures { λ _. ⌜ ((y : ℕ) → y < 192 → getD (now (masks .exit)) y 0 ≡ kept (getD (now (stops .entry)) y 0) (getD (now (masks .entry)) y 0)) ⌝ }
-{
-    let mut y = 0;
-    while y < 192 {
-        masks[y] = keep(stops[y], masks[y]);
-        y += 1;
+    let mut b = 0;
+    while b < total {
+        masks[wide(nodes[b])] = 0;
+        b += 1;
     }
 }
 
-// The masks by one search from all barriers, past no barrier.
+// The masks by one search from all barriers, past no barrier; and whether one of the n nodes is cut off from the source.
 pub fn fill(
     heads: &[u8; 1024],
     places: &[usize; 193],
     stops: &[u8; 192],
     nodes: &[u8; 64],
     total: usize,
+    source: usize,
+    n: usize,
     masks: &mut [u64; 192],
-)
-    requires { ⌜ (total ≤ 64) × Bounded (now heads) (now places) × (length (now stops) ≡ 192) ⌝ }
+) -> bool
+    requires { ⌜ (total ≤ 64) × (source < total) × (n ≤ 192) × Bounded (now heads) (now places) × (length (now stops) ≡ 192) ⌝ }
     requires { ⌜ ((b : ℕ) → getD (now nodes) b 0 < 192) ⌝ }
+    ensures { λ r. ⌜ ((d : Direction) (R : Region) → WellFormed R → Tabled d R (now (heads .entry)) (now (places .entry)) → Stops R (now (stops .entry)) → Barriers R (now (nodes .entry)) total → n ≡ R .nodes → r ≡ Joined·lost d R (barrierAt R source) n) ⌝ }
     ensures { λ _. ⌜ ((d : Direction) (R : Region) → WellFormed R → Tabled d R (now (heads .entry)) (now (places .entry)) → Stops R (now (stops .entry)) → Barriers R (now (nodes .entry)) total → Masks d R (now (masks .exit))) ⌝ }
 {
     let mut levels = [0u8; 192];
     search(heads, places, stops, nodes, total, masks, &mut levels);
-    clear(stops, masks);
+    let lost = cut_off(stops, masks, &levels, nodes, total, source, n);
+    clear(nodes, total, masks);
+    lost
 }

@@ -14,7 +14,6 @@ use crate::count::has;
 use crate::load::frames;
 use chart::cursor::wide;
 use chart::format::Chart;
-use chart::format::Node;
 use paths::search::search;
 
 // One bit more, where the mask has it.
@@ -54,11 +53,13 @@ pub fn returns(
     requires { ⌜ Accepted (now s) chart × Tabled forward (region (decode (now s))) (now heads) (now places) × Stops (region (decode (now s))) (now stops) ⌝ }
     ensures { λ r. ⌜ r ≡ returning (region (decode (now (s .entry)))) ⌝ }
 {
+    let n = chart.constructs;
+    if n == 0 {
+        return 0;
+    }
     let mut begins = [0u8; 64];
     let mut ends = [0u8; 64];
-    frames(s, chart, Node::BEGIN, &mut begins);
-    frames(s, chart, Node::END, &mut ends);
-    let n = chart.constructs;
+    frames(s, chart, &mut begins, &mut ends);
     let mut masks = [0u64; 192];
     let mut levels = [0u8; 192];
     search(heads, places, stops, &ends, n, &mut masks, &mut levels);

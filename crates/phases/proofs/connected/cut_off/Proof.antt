@@ -1,29 +1,40 @@
--- `phases::connected::cut_off` meets its contract, whichever the direction of the table.
+-- `phases::connected::cut_off` meets its contract, whichever the direction of the masks.
 -- Assumes nothing.
-use mathlib.Core.Path.{_≡_, refl, _∙_}
-use Prim.Native.Nat.{_%_}
+use mathlib.Core.Path.{sym, _∙_}
+use Prim.Native.Nat.{_≤_, _<_}
 use native.Mathlib.Omega.{arith}
+use lib.Count.{ones}
 use borrow.Author.Needs.{needs}
-use Rattle.phases.proofs.Searching.{missed-any, same-source}
+use Rattle.phases.proofs.Joining.{few-lost, all-joined}
 use Rattle.phases.proofs.connected.cut_off.Statement.{statement}
 use Rattle.phases.proofs.connected.cut_off.Tie as tie
 
-cast-sources : tie.Need-cast-sources
-cast-sources c = search needs
+joined-requires : tie.Need-joined-requires
+joined-requires c κs = ((c .pre .0 .0, c .pre .0 .1), c .pre .1)
 
-search-requires : tie.Need-search-requires
-search-requires c κs =
-    let start = c .before .before .before .before in
-    ((omega arith, start .pre .2, refl), λ b. same-source 64 _ b (omega (arith, start .pre .1)))
-
-any-missed-requires : tie.Need-any-missed-requires
-any-missed-requires c κs = search needs
+ones-requires : tie.Need-ones-requires
+ones-requires c κs = search needs
 
 returns : tie.Need-returns
-returns c = λ d R W T.
-    let start = c .before .before .before .before .before .before .before in
-    let q : start .args .source % 256 ≡ start .args .source = omega (arith, start .pre .1) in
-    c .any-missed .ensures ∙ missed-any W d T (start .args .source) (start .args .n) q (c .before .before .search .ensures _ _ _ (T .table))
+returns c = λ d R W q S B w.
+    let joined = c .before .before in
+    let start = joined .before in
+    let few : ones (joined .joined .result) < start .args .total = omega (arith, c .before .ones .ensures .0) in
+    sym (rw (q, ← B .at (start .args .source)) (few-lost W d B w (start .args .source) (start .pre .0 .1) (joined .joined .result) (joined .joined .ensures) few))
+
+any-missed-requires : tie.Need-any-missed-requires
+any-missed-requires c κs = c .before .before .before .pre .0 .2
+
+returns-2 : tie.Need-returns-2
+returns-2 c = λ d R W q S B w.
+    let counted = c .before .before in
+    let joined = counted .before in
+    let start = joined .before in
+    let all : start .args .total ≤ ones (joined .joined .result) = omega (arith, counted .ones .ensures .0) in
+    let same = all-joined W d B w (start .args .source) (start .pre .0 .1) (joined .joined .result) (joined .joined .ensures) all S (start .args .n) in
+    c .any-missed .ensures ∙ rw (← B .at (start .args .source)) same
 
 pub cut-off-spec : {M : Type 1} → statement M
-cut-off-spec = tie.close (tie.spec cast-sources search-requires any-missed-requires returns)
+cut-off-spec =
+    tie.close
+    (tie.spec joined-requires ones-requires returns any-missed-requires returns-2)

@@ -14,20 +14,26 @@ use Rattle.phases.proofs.count.count.Statement.{statement}
 use Rattle.phases.proofs.count.count.Tie as tie
 
 abbrev Inv-loop : tie.InvT-loop
-Inv-loop starts ends n total sum₀ b₀ sum b =
+Inv-loop starts ends n total unions sum₀ b₀ sum b =
     (b ≤ total) × (sum ≤ 64 * b)
     × ((R : Region) → n ≡ R .nodes → total ≡ length (barriers R) → Masks forward R starts → Masks backward R ends
     → sum ≡ countPairs b (length (barriers R)) (phase R))
 
 abbrev μ-loop : tie.MeasureT-loop
-μ-loop starts ends n total sum₀ b₀ sum b = total - b
+μ-loop starts ends n total unions sum₀ b₀ sum b = total - b
+
+unite-requires : tie.Need-unite-requires Inv-loop μ-loop
+unite-requires c κs = c .before .pre .0
 
 loop-holds : tie.Need-loop-holds Inv-loop μ-loop
 unfolding countPairs
 loop-holds c = (omega arith, omega arith, λ R q t S E. refl)
 
-ends-with-requires : tie.Need-ends-with-requires Inv-loop μ-loop
-ends-with-requires c κs = (c .before .before .pre .0, omega arith)
+mul-ones : tie.Need-mul-ones Inv-loop μ-loop
+mul-ones c = omega arith
+
+array-read-ones : tie.Need-array-read-ones Inv-loop μ-loop
+array-read-ones c = omega arith
 
 ones-requires : tie.Need-ones-requires Inv-loop μ-loop
 ones-requires c κs = search needs
@@ -42,11 +48,13 @@ loop-less : tie.Need-loop-less Inv-loop μ-loop
 loop-less c = omega arith
 
 loop-again : tie.Need-loop-again Inv-loop μ-loop
+unfolding phase
 loop-again c =
-    let l = c .before .before .before in (
+    let l = c .before .before in
+    let united = l .before in (
       omega arith,
       omega (arith, c .ones .ensures .1),
-      λ R q t S E. rw (c .ones .ensures .0) (pairs-more R _ _ _ (l .loop .inv .2 R q t S E) (c .before .ends-with .ensures R q (omega arith) S E)),
+      λ R q t S E. rw (c .ones .ensures .0) (pairs-more R _ _ _ (l .loop .inv .2 R q t S E) (united .unite .ensures R q S E (l .loop .b) (omega arith) (omega arith))),
     )
 
 returns : tie.Need-returns Inv-loop μ-loop
@@ -62,8 +70,10 @@ count-spec =
     (tie.spec
     Inv-loop
     μ-loop
+    unite-requires
     loop-holds
-    ends-with-requires
+    mul-ones
+    array-read-ones
     ones-requires
     add-sum
     add-b

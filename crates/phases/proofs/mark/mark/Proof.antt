@@ -1,31 +1,21 @@
--- `phases::mark::mark` meets its contract: what is loaded and built is the region's.
+-- `phases::mark::mark` meets its contract.
 -- Assumes nothing.
 use borrow.Author.Needs.{needs}
-use Rattle.phases.proofs.Loading.{ends-below, tabled-forward, tabled-backward}
 use Rattle.phases.proofs.mark.mark.Statement.{statement}
 use Rattle.phases.proofs.mark.mark.Tie as tie
 
-load-requires : tie.Need-load-requires
-load-requires c κs = search needs
+mark-along-requires : tie.Need-mark-along-requires
+mark-along-requires c κs = search needs
 
-build-requires : tie.Need-build-requires
-build-requires c κs =
-    let loaded = c .before .before .before .before .before in
-    let A = loaded .before .before .before .before .before .before .pre in
-    let C = loaded .load .ensures .0 in
-    (A .laid .edges-most, ((λ i. ends-below _ _ A C i .0), λ i. ends-below _ _ A C i .1))
-
-search-all-requires : tie.Need-search-all-requires
-search-all-requires c κs =
-    let built = c .before .before .before .before .before .before .before .before in
-    let loaded = built .before .before .before .before .before .before in
-    let A = loaded .before .before .before .before .before .before .pre in
-    let (C, (S, N)) = loaded .load .ensures in
-    let (F, (B, H)) = built .build .ensures in
-    (A, tabled-forward _ _ A C _ F, tabled-backward _ _ A C _ _ B H, S, N)
+returns-requires : tie.Need-returns-requires
+returns-requires c κs =
+    let (found, (starts, (ends, (T, S)))) = c .before .before .before .mark-along .ensures in
+    (c .before .before .before .before .before .before .before .before .before .before .pre, T, S)
 
 returns : tie.Need-returns
-returns c = search needs
+returns c =
+    let (found, (starts, (ends, tables))) = c .before .before .before .before .mark-along .ensures in
+    ((found .0, c .returns .ensures), (starts, ends))
 
 pub mark-spec : {M : Type 1} → statement M
-mark-spec = tie.close (tie.spec load-requires build-requires search-all-requires returns)
+mark-spec = tie.close (tie.spec mark-along-requires returns-requires returns)

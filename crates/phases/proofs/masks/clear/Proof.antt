@@ -1,84 +1,75 @@
--- `phases::masks::clear` meets its contract: after y turns the first y masks are kept or 0, and the others are as they were.
+-- `phases::masks::clear` meets its contract: after b turns the masks of the first b nodes of the list are 0.
 -- Assumes nothing.
 use mathlib.Core.Path.{_≡_, refl, ap, sym, _∙_}
 use mathlib.Core.List.{List}
-use Prim.Native.Nat.{ℕ, zero, suc, _≤_, _<_, _-_, _+_}
+use Prim.Native.Nat.{ℕ, _+_, _-_, _≤_, _<_}
 use native.Mathlib.Omega.{arith}
 use native.Mathlib.Decide.{ℕ-discrete, decLt}
-use borrow.Author.Needs.{needs}
-use lib.ListN.{getD, length, length-set, set, List·getD-eq-default}
+use lib.ListN.{length, getD, set, length-set, List·getD-eq-default}
 use lib.Seq.{getD-set-same, getD-set-other}
-use Rattle.phases.specs.Tables.{kept}
+use borrow.Author.Needs.{needs}
+use Rattle.phases.specs.Tables.{Cleared}
 use Rattle.phases.proofs.masks.clear.Statement.{statement}
 use Rattle.phases.proofs.masks.clear.Tie as tie
 
-record Cleared (stops old : List ℕ) (y : ℕ) (masks : List ℕ) : Type 0 where
-  done : (z : ℕ) → z < y → getD masks z 0 ≡ kept (getD stops z 0) (getD old z 0)
-  rest : (z : ℕ) → y ≤ z → getD masks z 0 ≡ getD old z 0
+-- a store past the end is none, and there every mask is 0
+stored : (l : List ℕ) (i : ℕ) → getD (set l i 0) i 0 ≡ 0
+stored l i = elim (decLt i (length l)) [
+  | yes b ↦ getD-set-same l i 0 0 b
+  | no b ↦ List·getD-eq-default (set l i 0) 0 (omega (arith, length-set l i 0))
+]
 
-kept-zero : (n : ℕ) → kept n 0 ≡ 0
-kept-zero zero = refl
-kept-zero (suc n) = refl
-
-cleared-more : (stops old : List ℕ) (y : ℕ) (masks : List ℕ) (v : ℕ) → Cleared stops old y masks
-    → v ≡ kept (getD stops y 0) (getD masks y 0) → Cleared stops old (y + 1) (set masks y v)
-cleared-more stops old y masks v i e =
-    record {
-      done = λ z m. of z m (ℕ-discrete z y);
-      rest = λ z m. getD-set-other masks y z v 0 (λ q. omega arith) ∙ i .rest z (omega arith);
-    }
+cleared-more : (nodes : List ℕ) (b : ℕ) (old masks : List ℕ) → Cleared nodes b old masks → Cleared nodes (b + 1) old (set masks (getD nodes b 0) 0)
+cleared-more nodes b old masks i = record {
+  gone = λ c l. elim (ℕ-discrete (getD nodes c 0) (getD nodes b 0)) [
+    | yes e ↦ rw e (stored masks (getD nodes b 0))
+    | no n ↦ getD-set-other masks (getD nodes b 0) (getD nodes c 0) 0 0 n ∙ i .gone c (before c l n)
+  ];
+  rest = λ y n. getD-set-other masks (getD nodes b 0) y 0 0 (λ e. n b (omega arith) (sym e)) ∙ i .rest y (λ c l. n c (omega arith));
+}
   where
-    -- a store past the end is none, and there every mask is 0
-    own : Dec (y < length masks) → getD (set masks y v) y 0 ≡ v
-    own (yes b) = getD-set-same masks y v 0 b
-    own (no b) =
-        List·getD-eq-default (set masks y v) 0 (omega (arith, length-set masks y v))
-        ∙ sym (e ∙ ap (kept (getD stops y 0)) (List·getD-eq-default masks 0 (omega arith)) ∙ kept-zero (getD stops y 0))
-
-    of : (z : ℕ) → z < y + 1 → Dec (z ≡ y) → getD (set masks y v) z 0 ≡ kept (getD stops z 0) (getD old z 0)
-    of z m (yes q) = rw (q, own (decLt y (length masks)), e, i .rest y (omega arith))
-    of z m (no n) = getD-set-other masks y z v 0 n ∙ i .done z (omega arith)
+    before : (c : ℕ) → c < b + 1 → (getD nodes c 0 ≡ getD nodes b 0 → ⊥) → c < b
+    before c l n = elim (ℕ-discrete c b) [ yes e ↦ absurd (n (ap (λ (k : ℕ). getD nodes k 0) e)) | no d ↦ omega arith ]
 
 abbrev Inv-loop : tie.InvT-loop
-Inv-loop stops masks₀ y₀ masks y = (y ≤ 192) × Cleared stops masks₀ y masks
+Inv-loop nodes total masks₀ b₀ masks b = (b ≤ total) × Cleared nodes b masks₀ masks
 
 abbrev μ-loop : tie.MeasureT-loop
-μ-loop stops masks₀ y₀ masks y = 192 - y
+μ-loop nodes total masks₀ b₀ masks b = total - b
 
 loop-holds : tie.Need-loop-holds Inv-loop μ-loop
-loop-holds c = (omega arith, record { done = λ z l. absurd (omega arith); rest = λ z l. refl })
+loop-holds c = (omega arith, record { gone = λ b l. absurd (omega arith); rest = λ y n. refl })
 
-element-copy-out-keep : tie.Need-element-copy-out-keep Inv-loop μ-loop
-element-copy-out-keep c = omega arith
+element-copy-out-wide : tie.Need-element-copy-out-wide Inv-loop μ-loop
+element-copy-out-wide c = omega arith
 
-mul-keep : tie.Need-mul-keep Inv-loop μ-loop
-mul-keep c = omega arith
-
-element-copy-out-keep-2 : tie.Need-element-copy-out-keep-2 Inv-loop μ-loop
-element-copy-out-keep-2 c = omega arith
-
-keep-requires : tie.Need-keep-requires Inv-loop μ-loop
-keep-requires c κs = search needs
+wide-requires : tie.Need-wide-requires Inv-loop μ-loop
+wide-requires c κs = search needs
 
 mul-masks : tie.Need-mul-masks Inv-loop μ-loop
 mul-masks c = omega arith
 
 element-write-masks : tie.Need-element-write-masks Inv-loop μ-loop
-element-write-masks c = omega arith
+element-write-masks c =
+    let l = c .before .before .before in
+    omega (arith, c .wide .ensures .0, l .before .pre .1 (l .loop .b))
 
-add-y : tie.Need-add-y Inv-loop μ-loop
-add-y c = omega arith
+add-b : tie.Need-add-b Inv-loop μ-loop
+add-b c = omega arith
 
 loop-less : tie.Need-loop-less Inv-loop μ-loop
 loop-less c = omega arith
 
 loop-again : tie.Need-loop-again Inv-loop μ-loop
 loop-again c =
-    let l = c .before .before .before .before in
-    (omega arith, cleared-more _ _ _ _ (c .keep .result) (l .loop .inv .1) (c .keep .ensures))
+    let l = c .before .before .before in
+    (omega arith, rw (c .wide .ensures .0) (cleared-more _ (l .loop .b) _ (l .loop .masks) (l .loop .inv .1)))
 
 returns : tie.Need-returns Inv-loop μ-loop
-returns c = λ y h. c .before .loop .inv .1 .done y (omega (arith, c .loop-test .left))
+returns c =
+    let l = c .before in
+    let q : l .loop .b ≡ l .before .args .total = omega arith in
+    rw q at (l .loop .inv .1)
 
 pub clear-spec : {M : Type 1} → statement M
 clear-spec =
@@ -87,13 +78,11 @@ clear-spec =
     Inv-loop
     μ-loop
     loop-holds
-    element-copy-out-keep
-    mul-keep
-    element-copy-out-keep-2
-    keep-requires
+    element-copy-out-wide
+    wide-requires
     mul-masks
     element-write-masks
-    add-y
+    add-b
     loop-less
     loop-again
     returns)
