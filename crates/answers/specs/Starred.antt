@@ -9,7 +9,7 @@ use Rattle.lists.specs.Truth.{is}
 use Rattle.lists.specs.Range.{any, count, first}
 use Rattle.lists.specs.Tab.{tab}
 use Rattle.chart.specs.Format.{outside, size, field, nodeOf, edgeOf, constructOf, trailerOf, records, lastTrailer, decode, nodeAt, edgeAt, constructAt}
-use Rattle.chart.specs.Scope.{criticalByte, loopByte, orderedByte, roleOf, kindOf, liesIn, scope, encloses, parentOf, roleAt, liesAt, scopeAt}
+use Rattle.chart.specs.Scope.{singleByte, masterByte, criticalByte, loopByte, orderedByte, roleOf, kindOf, liesIn, scope, encloses, parentOf, roleAt, liesAt, scopeAt}
 use Rattle.chart.specs.Nesting.{mayEnclose, sameCritical, excluded, wronglyAbove, strayOrdered, misnested}
 use Rattle.chart.specs.Reading.{edgeIn, insideAt, frameOf, region}
 use Rattle.chart.specs.Refusal.{badMarks, badCounts, badLengths, badNode, badNodeAt, badNodes, badConstruct, badAlone, badConstructs, framesIn, badFrame, badFrames, isBarrier, badBarriers, badEdge, rises, badEdgeAt, badEdges, firstOf, trailerRows, tableRows, chartRows}
@@ -36,12 +36,6 @@ edge from to = from ∷ to ∷ []
 
 abbrev construct : ℕ → ℕ → List ℕ
 construct kind parent = kind ∷ parent ∷ 0 ∷ 0 ∷ []
-
-abbrev singleByte : ℕ
-singleByte = 1
-
-abbrev masterByte : ℕ
-masterByte = 2
 
 -- The trailer of a chart of fewer than 256 bytes, and such a chart.
 abbrev trailer : ℕ → ℕ → ℕ → List ℕ

@@ -3,19 +3,19 @@
 use mathlib.Core.Path.{_≡_, refl, _∙_}
 use mathlib.Core.Logic.{inl, inr}
 use mathlib.Core.Bool.{cond}
-use mathlib.Core.List.{List}
+use mathlib.Core.List.{List, _++_}
 use Prim.Native.Nat.{ℕ, _+_, _*_, _-_, _/_, _%_, _≤_, _<_}
 use native.Mathlib.Omega.{arith}
 use native.Mathlib.Decide.{decLt}
 use lib.Dec.{ltb}
-use lib.ListN.{length, getD}
+use lib.ListN.{length, getD, drop}
 use borrow.Author.Tests.{lt-ltb, le-ltb}
-use Rattle.lists.specs.Tab.{filled-front}
+use Rattle.lists.specs.Tab.{tab-length, filled-front}
 use Rattle.chart.specs.Region.{Region}
 use Rattle.phases.specs.Phases.{forward, backward}
 use Rattle.phases.specs.Tables.{Masks}
 use Rattle.bohrali.specs.Bytes.{byteOf, Put}
-use Rattle.bohrali.specs.Phases.{phaseByte, phasesContent}
+use Rattle.bohrali.specs.Phases.{phaseByte, phasesResult}
 
 -- byte j, by the tables of masks
 pub byteBy : List ℕ → List ℕ → ℕ → ℕ
@@ -61,10 +61,10 @@ module _ {starts ends old l m r : List ℕ} {x : ℕ} (f : Filled starts ends x 
   }
 
 pub filled-all : {starts ends old new : List ℕ} {n : ℕ} → n ≤ 192 → 16 * n ≤ length old → Filled starts ends n old new
-    → (R : Region) → R .nodes ≡ n → Masks forward R starts → Masks backward R ends → new ≡ phasesContent R old
-unfolding phasesContent phaseByte byteBy
+    → (R : Region) → R .nodes ≡ n → Masks forward R starts → Masks backward R ends → new ≡ phasesResult R ++ drop (length (phasesResult R)) old
+unfolding phasesResult phaseByte byteBy
 filled-all {starts} {ends} {old} {new} {n} small room f R q s e =
-    filled-front (16 * R .nodes) (phaseByte R) old new (omega arith) (f .long) (λ j h. f .done j (omega arith) ∙ same j (omega arith)) (λ j h. f .kept j (omega arith))
+    rw (tab-length (16 * R .nodes) (phaseByte R)) (filled-front (16 * R .nodes) (phaseByte R) old new (omega arith) (f .long) (λ j h. f .done j (omega arith) ∙ same j (omega arith)) (λ j h. f .kept j (omega arith)))
   where
     same : (j : ℕ) → j / 16 < 192 → byteBy starts ends j ≡ phaseByte R j
     same j h = rw (s (j / 16) h, e (j / 16) h)

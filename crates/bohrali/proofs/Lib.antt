@@ -1,4 +1,5 @@
 mod Negation
 mod Writes
 mod Filling
-mod Rules
+mod Outputs
+pub mod Counts

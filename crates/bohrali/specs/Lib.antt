@@ -1,4 +1,6 @@
 pub mod Bytes
+pub mod Output
 pub mod Phases
-pub mod Calls
+pub mod Sheet
+pub mod Pair
 pub mod Bounds

@@ -1,8 +1,6 @@
 // A mask as eight bytes, little-endian.
-ghost use mathlib.Core.Path.{_≡_};
-ghost use mathlib.Core.Logic.{_⊎_};
-ghost use Prim.Native.Nat.{ℕ, _+_, _/_, _%_, _^_, _≤_, _<_};
-ghost use lib.ListN.{getD, length};
+ghost use Prim.Native.Nat.{_+_, _/_, _%_, _≤_, _<_};
+ghost use lib.ListN.{length};
 ghost use Rattle.bohrali.specs.Bytes.{Put};
 
 // Writes the mask to the eight bytes of out that begin at `at`.

@@ -2,6 +2,8 @@
 // hold afterwards, for all inputs.
 pub mod bytes;
 pub mod c;
-pub mod calls;
 pub mod fill;
+pub mod output;
+pub mod pair;
 pub mod signed;
+pub mod verdicts;

@@ -7,7 +7,7 @@ use Prim.Native.Nat.{ℕ, zero, suc, _≤_, _<_}
 use native.Mathlib.Omega.{arith}
 use lib.Dec.{eqb}
 use borrow.Author.Tests.{eqb-true, eqb-false, eq-eqb, ne-eqb, not-true}
-use Rattle.lists.specs.Truth.{bad, and-both, or-cases, or-left, or-right}
+use Rattle.lists.specs.Truth.{bad, and-both, both-and, or-cases, or-left, or-right}
 use Rattle.chart.specs.Format.{outside}
 use Rattle.chart.specs.Scope.{encloses, Encloses, here, up}
 
@@ -33,6 +33,18 @@ computed parent (suc fuel) p c h =
       | inl g ↦ subst (λ (k : ℕ). Encloses parent p k) (eqb-true p c g) (here n)
       | inr g ↦ up n (computed parent fuel (parent p) c g)
     ]
+
+-- more levels than are needed find the same
+pub more-fuel : (parent : ℕ → ℕ) (fuel more p c : ℕ) → fuel ≤ more → encloses parent fuel p c ≡ true → encloses parent more p c ≡ true
+unfolding encloses
+more-fuel parent zero more p c f h = absurd (bad (cc))
+more-fuel parent (suc fuel) zero p c f h = absurd (omega arith)
+more-fuel parent (suc fuel) (suc more) p c f h =
+    let b = and-both (not (eqb p outside)) (eqb p c || encloses parent fuel (parent p) c) h in
+    both-and (not (eqb p outside)) (eqb p c || encloses parent more (parent p) c) (b .0) (elim (or-cases (eqb p c) (encloses parent fuel (parent p) c) (b .1)) [
+      | inl g ↦ or-left (eqb p c) (encloses parent more (parent p) c) g
+      | inr g ↦ or-right (eqb p c) (encloses parent more (parent p) c) (more-fuel parent fuel more (parent p) c (omega arith) g)
+    ])
 
 module _ (parent : ℕ → ℕ) (size : ℕ) (low : (k : ℕ) → k < size → Below k (parent k)) where
   one-level : (fuel p c : ℕ) → p ≢ outside → (eqb p c || encloses parent fuel (parent p) c) ≡ true → encloses parent (suc fuel) p c ≡ true

@@ -28,6 +28,10 @@ answer (some number) chart = Refused (record { number = number })
 unfoldable pub checked : List ℕ → Checked
 checked s = answer (firstOf (chartRows s)) (countsOf s)
 
+pub checked-number : (s : List ℕ) (number : ℕ) → firstOf (chartRows s) ≡ some number → numberOf (checked s) ≡ number
+unfolding checked answer numberOf
+checked-number s number h = rw h
+
 -- Bytes that rows 1 to 4 let pass, with their counts.
 pub record Laid (s : List ℕ) (chart : Chart) : Type 0 where
   pub counts : chart ≡ countsOf s

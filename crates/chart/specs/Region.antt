@@ -23,7 +23,7 @@ Outermost loop = Unit {0}
 Outermost ordered = ⊥
 
 pub record Region : Type 0 where
-  -- node numbers and construct numbers that occur are below these; nothing else is read off them
+  -- node numbers and construct numbers that occur are below these
   pub nodes : ℕ
   pub constructs : ℕ
   pub role : ℕ → Role

@@ -1,6 +1,6 @@
 // A reading position in the bytes of a chart, and the records that stand there.
 ghost use mathlib.Core.Path.{_≡_};
-ghost use Prim.Native.Nat.{ℕ, _+_, _*_, _-_, _≤_, _<_};
+ghost use Prim.Native.Nat.{_+_, _*_, _-_, _≤_, _<_};
 ghost use lib.ListN.{getD, length};
 ghost use Rattle.chart.specs.Format.{field, decode, nodeAt, edgeAt, constructAt};
 ghost use Rattle.chart.specs.Checked.{Laid, countsOf};

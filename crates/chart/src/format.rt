@@ -25,6 +25,8 @@ impl Chart {
     pub const CLOSING: usize = 0x434f;
 
     pub const TRAILER_BYTES: usize = 16;
+    // The length of a chart at all limits.
+    pub const MOST_BYTES: usize = 3024;
     // A row for each kind of construct, a column for each kind above it: single, master, critical, do, ordered.
     pub const NESTING: [[bool; 5]; 5] = [
         [false, false, false, false, false],
@@ -111,6 +113,10 @@ impl Refusal {
     pub const PATHS: Refusal = Refusal { number: 10 };
 
     pub const ROOM: Refusal = Refusal { number: 11 };
+
+    pub const CLAIMS: Refusal = Refusal { number: 12 };
+
+    pub const NUMBERS: Refusal = Refusal { number: 13 };
 }
 
 // What checking a chart answers.

@@ -11,11 +11,12 @@ use Rattle.chart.specs.InOrdered.{InOrdered}
 use Rattle.chart.specs.WellFormed.{WellFormed}
 use Rattle.paths.specs.Path.{Path, Edge, Open}
 use Rattle.paths.specs.Connected.{Connected}
+use Rattle.paths.specs.PathLaws.{carry}
 use Rattle.team.specs.State.{State, initial}
 use Rattle.team.specs.Step.{NoneOrdered}
 use Rattle.team.specs.Run.{Run, done, ConcurrentIn}
 use Rattle.answers.specs.Unexcluded.{Returns, Unexcluded}
-use Rattle.exact.specs.Paths.{weaken, first-edge, last-edge}
+use Rattle.exact.specs.Paths.{first-edge, last-edge}
 use Rattle.exact.specs.Constructs.{entry, part}
 use Rattle.exact.specs.Nesting.{Within, Without, in-ordered, single-outermost, within, inside-do, do-outermost, single-or-ordered}
 use Rattle.exact.specs.Hops.{EndsAt}
@@ -62,7 +63,7 @@ module _ {R : Region} (W : WellFormed R) {m : ℕ} where
     in-one {c} u i ret =
         let bar : R .role (D .start) ≡ barrier = D .start-barrier in
         let g = entry W (W .barrier-outside bar c) (λ q. bad (cc)) (D .start-b) (inl i) in
-        rendezvous W X oa bar (D .end-a) (λ z h. h) (D .start-a) (g .0) (second-rounds W X u i ret (weaken (λ z h. h .0) (g .1))) all
+        rendezvous W X oa bar (D .end-a) (λ z h. h) (D .start-a) (g .0) (second-rounds W X u i ret (carry (λ x y e. e) (λ z h. h .0) (g .1))) all
 
     two-singles : {c d : ℕ} → R .kind c ≡ single → R .inside a c ≡ true → R .kind d ≡ single → R .inside b d ≡ true → Dec (c ≡ d) → Rendezvous X σ (D .end)
     two-singles {d = d} k i l j (yes z) = in-one (single-outermost l) j (D .singles d l (subst (λ (n : ℕ). R .inside a n ≡ true) z i) j)

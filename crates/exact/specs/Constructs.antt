@@ -9,7 +9,8 @@ use Rattle.chart.specs.Region.{barrier, opens, closes, Outermost, Region}
 use Rattle.chart.specs.WellFormed.{WellFormed}
 use Rattle.paths.specs.Path.{Path, Edge, Open, BarrierFree}
 use Rattle.paths.specs.Connected.{Connected}
-use Rattle.exact.specs.Paths.{Both, Not, join, turn, weaken, avoid, by-door}
+use Rattle.paths.specs.PathLaws.{append, reverse, carry}
+use Rattle.exact.specs.Paths.{Both, Not, avoid, by-door}
 
 -- past the begin of c and not past its end: inside c, or at the end; and its mirror image
 abbrev pub AfterBegin : Region → ℕ → ℕ → Type 0
@@ -44,21 +45,21 @@ module _ {R : Region} (W : WellFormed R) where
       → Path (Edge R) (Both P (Inside R c)) x (R .end c) × Path (Edge R) P (R .end c) y
   exit {c = c} out n w a =
       let h = by-door (Inside R c) (λ z. R .role z ≡ closes c) (λ z. R .role z ≡ opens c) (λ z o. W .closes-end o) (λ u v e b. forth e b)
-      (λ i. clash i out) n (turn w) a in
-      (turn (h .1), turn (h .0))
+      (λ i. clash i out) n (reverse w) a in
+      (reverse (h .1), reverse (h .0))
 
   -- so a path from the begin to finish leads inside c to its end, past no barrier
   pub through : Connected R → {x c : ℕ} → R .role x ≡ opens c → BarrierFree R x (R .end c)
   through C {c = c} h =
       let b = W .finish-barrier in
-      weaken (λ z i. inside-open (i .1)) (exit (W .barrier-outside b c) (λ q. bad (cc)) (C .begin-to-finish h) (inr h) .0)
+      carry (λ x y e. e) (λ z i. inside-open (i .1)) (exit (W .barrier-outside b c) (λ q. bad (cc)) (C .begin-to-finish h) (inr h) .0)
 
   -- a path to t's begin that does not pass s's begin can go on inside t, for two outermost constructs s and t
   on-inside : {x y s t : ℕ} → R .role (R .begin s) ≡ opens s → R .role (R .begin t) ≡ opens t → Outermost (R .kind s) → s ≢ t
       → Path (Edge R) (Both (Open R) (Not (R .begin s))) x (R .begin t) → Path (Edge R) (Both (Open R) (Inside R t)) (R .begin t) y
       → Path (Edge R) (Both (Open R) (Not (R .begin s))) x y
-  on-inside {s = s} {t} os ot us n w v = join w ((λ q. bad (cc)), λ q. n (same (sym os ∙ ap (R .role) (sym q) ∙ ot)))
-      (weaken (λ z i. (i .0, λ q. clash (i .1) (ap (λ (u : ℕ). R .inside u t) q ∙ W .outermost os us t))) v)
+  on-inside {s = s} {t} os ot us n w v = append w ((λ q. bad (cc)), λ q. n (same (sym os ∙ ap (R .role) (sym q) ∙ ot)))
+      (carry (λ x y e. e) (λ z i. (i .0, λ q. clash (i .1) (ap (λ (u : ℕ). R .inside u t) q ∙ W .outermost os us t))) v)
     where
       same : {i j : ℕ} → opens i ≡ opens j → i ≡ j
       same h = cc
@@ -71,8 +72,8 @@ module _ {R : Region} (W : WellFormed R) where
   part {x} {a} {b} {s} {t} h wa wb ia ib us ut n = elim (avoid (R .begin t) wa) [
     | inl w ↦ inl w
     | inr w ↦ elim (avoid (R .begin s) w) [
-      | inl v ↦ inr (on-inside (W .inside-begun ia) (W .inside-begun ib) us n (weaken (λ z p. (p .0 .0, p .1)) v) (inner wb ib))
-      | inr v ↦ inl (on-inside (W .inside-begun ib) (W .inside-begun ia) ut (λ q. n (sym q)) (weaken (λ z p. p .0) v) (inner wa ia))
+      | inl v ↦ inr (on-inside (W .inside-begun ia) (W .inside-begun ib) us n (carry (λ x y e. e) (λ z p. (p .0 .0, p .1)) v) (inner wb ib))
+      | inr v ↦ inl (on-inside (W .inside-begun ib) (W .inside-begun ia) ut (λ q. n (sym q)) (carry (λ x y e. e) (λ z p. p .0) v) (inner wa ia))
     ]
   ]
     where

@@ -97,9 +97,9 @@ module _ {R : Region} (W : WellFormed R) (C : Connected R) {a b : ℕ} (oa : Ope
 
   -- all teams
   pub exactness : Unexcluded R a b ↔ Concurrent R a b
-  exactness = (some-team (size-for W (within W master a)) (size-for W (within W master b)), λ M. soundness (M .1) .3)
+  exactness = (some-team (size-for W (within W master a)) (size-for W (within W master b)), λ M. exactness-in (M .0) .1 (M .1) .3)
     where
       some-team : (n : ℕ) × ((m : ℕ) → n ≤ m → Fits R m a) → (n : ℕ) × ((m : ℕ) → n ≤ m → Fits R m b) → Unexcluded R a b → Concurrent R a b
       some-team x y D =
           let m = 2 + (x .0 + y .0) in
-          (m, completeness (omega arith) (x .1 m (omega arith)) (y .1 m (omega arith)) D)
+          (m, exactness-in m .0 (omega arith, x .1 m (omega arith), y .1 m (omega arith), D))

@@ -9,11 +9,11 @@ use Rattle.chart.specs.Region.{barrier, opens, closes, loop, Outermost, Region}
 use Rattle.chart.specs.WellFormed.{WellFormed}
 use Rattle.paths.specs.Path.{last, next, Open, BarrierFree}
 use Rattle.paths.specs.Connected.{Connected}
+use Rattle.paths.specs.PathLaws.{append}
 use Rattle.team.specs.State.{State}
 use Rattle.team.specs.Step.{ThreadStep, move, enter, pass, again}
 use Rattle.team.specs.Laws.{one-construct, ordinary-no-barrier}
 use Rattle.answers.specs.Unexcluded.{Returns}
-use Rattle.exact.specs.Paths.{join}
 use Rattle.exact.specs.Constructs.{AfterBegin, BeforeEnd, back, forth, inside-open, entry, exit, through}
 
 pub data Hop (R : Region) (x v : ℕ) : Type 0 where
@@ -102,17 +102,18 @@ module _ {R : Region} (W : WellFormed R) where
   module _ (C : Connected R) where
     -- a barrier-free path from a node at top level goes on with the thread
     pub hop-from : {s x v : ℕ} → TopLevel R s → BarrierFree R s x → Hop R x v → BarrierFree R s v
-    hop-from top w (by-edge o e) = join w o (last e)
-    hop-from {s} top w (by-pass h q) = subst (BarrierFree R s) (sym q) (join w (λ z. bad (cc)) (through W C h))
-    hop-from top w (by-again {c} h k e) = join (entry W (top c .0) (top c .1) w (inr h) .0) (λ z. bad (cc (W .closes-begun h))) (last e)
+    hop-from top w (by-edge o e) = append w o (last e)
+    hop-from {s} top w (by-pass h q) = subst (BarrierFree R s) (sym q) (append w (λ z. bad (cc)) (through W C h))
+    hop-from top w (by-again {c} h k e) = append (entry W (top c .0) (top c .1) w (inr h) .0) (λ z. bad (cc (W .closes-begun h))) (last e)
 
-    -- and the mirror image: a barrier-free path to a barrier was there before the hop
+    -- A barrier-free path to a barrier was there before the hop. This is not the law above turned round: a thread passes a construct and
+    -- comes to a do's next round in one direction only.
     hop-path : {e x v : ℕ} → R .role e ≡ barrier → Hop R x v → EndsAt R e v → BarrierFree R x e
     hop-path {x = x} b (by-edge o d) (inl q) = subst (BarrierFree R x) q (last d)
     hop-path b (by-edge o d) (inr w) = next d (w .0) (w .1)
     hop-path {e} b (by-pass h q) w =
         let a = ap (R .role) q ∙ W .opens-ended h in
-        join (through W C h) (after-open (inr (W .opens-ended h))) (subst (λ (n : ℕ). BarrierFree R n e) q (ends-path b w (after-open (inr a))))
+        append (through W C h) (after-open (inr (W .opens-ended h))) (subst (λ (n : ℕ). BarrierFree R n e) q (ends-path b w (after-open (inr a))))
     hop-path {e} b (by-again h k d) w =
         let a = W .after-begin d (W .closes-begun h) in
         subst (λ (n : ℕ). BarrierFree R n e) (sym (W .closes-end h)) (from-end b a (ends-path b w (after-open a)))

@@ -1,10 +1,11 @@
--- Paths in any graph: joined, turned round, taken apart, and cut at the door of a set of nodes.
+-- Paths in any graph: taken apart, extended, and cut at the door of a set of nodes.
 -- Assumes nothing.
 use mathlib.Core.Path.{_≡_, refl, subst}
 use mathlib.Core.Logic.{_⊎_, inl, inr, _≢_}
 use Prim.Native.Nat.{ℕ}
 use native.Mathlib.Decide.{ℕ-discrete}
 use Rattle.paths.specs.Path.{Path, last, next}
+use Rattle.paths.specs.PathLaws.{append}
 
 abbrev pub Both : (ℕ → Type 0) → (ℕ → Type 0) → ℕ → Type 0
 Both P Q x = P x × Q x
@@ -17,22 +18,6 @@ abbrev pub Rest : (ℕ → ℕ → Type 0) → (ℕ → Type 0) → ℕ → ℕ 
 Rest E P x y = (x ≡ y) ⊎ (P x × Path E P x y)
 
 module _ {E : ℕ → ℕ → Type 0} {P : ℕ → Type 0} where
-  pub join : {x y z : ℕ} → Path E P x y → P y → Path E P y z → Path E P x z
-  join (last e) p w = next e p w
-  join (next e q v) p w = next e q (join v p w)
-
-  pub turn : {x y : ℕ} → Path E P x y → Path (λ a b. E b a) P y x
-  turn (last e) = last e
-  turn (next e p w) = turn-next (turn w) p e
-    where
-      turn-next : {x y z : ℕ} → Path (λ a b. E b a) P x y → P y → E z y → Path (λ a b. E b a) P x z
-      turn-next (last d) p e = next d p (last e)
-      turn-next (next d q v) p e = next d q (turn-next v p e)
-
-  pub weaken : {Q : ℕ → Type 0} → ((x : ℕ) → P x → Q x) → {x y : ℕ} → Path E P x y → Path E Q x y
-  weaken f (last e) = last e
-  weaken f (next e p w) = next e (f _ p) (weaken f w)
-
   pub first-edge : {x y : ℕ} → Path E P x y → (v : ℕ) × E x v × Rest E P v y
   first-edge {y = y} (last e) = (y, e, inl refl)
   first-edge (next {z = z} e p w) = (z, e, inr (p, w))
@@ -43,7 +28,7 @@ module _ {E : ℕ → ℕ → Type 0} {P : ℕ → Type 0} where
 
   pub extend : {x y z : ℕ} → (y ≡ x) ⊎ (P y × Path E P x y) → E y z → Path E P x z
   extend {z = z} (inl q) e = subst (λ (n : ℕ). Path E P n z) q (last e)
-  extend (inr w) e = join (w .1) (w .0) (last e)
+  extend (inr w) e = append (w .1) (w .0) (last e)
 
   -- a path does not pass z, or a first part of it leads to z and does not pass it before
   pub avoid : (z : ℕ) {x y : ℕ} → Path E P x y → Path E (Both P (Not z)) x y ⊎ Path E (Both P (Not z)) x z

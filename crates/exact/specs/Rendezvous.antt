@@ -12,12 +12,13 @@ use Rattle.chart.specs.Region.{barrier, opens, single, Outermost, Region}
 use Rattle.chart.specs.InOrdered.{InOrdered}
 use Rattle.chart.specs.WellFormed.{WellFormed}
 use Rattle.paths.specs.Path.{Path, Edge, Open, BarrierFree}
+use Rattle.paths.specs.PathLaws.{append as follow, carry}
 use Rattle.team.specs.State.{State, update, released}
 use Rattle.team.specs.Step.{First}
 use Rattle.team.specs.Run.{Run, step}
 use Rattle.team.specs.Laws.{update-at, update-off, released-at, released-count}
 use Rattle.answers.specs.Unexcluded.{Returns}
-use Rattle.exact.specs.Paths.{Rest, join, weaken, first-edge}
+use Rattle.exact.specs.Paths.{Rest, first-edge}
 use Rattle.exact.specs.Nesting.{single-outermost, do-outermost}
 use Rattle.exact.specs.Hops.{EndsAt, released-outside}
 use Rattle.exact.specs.Runs.{append}
@@ -136,7 +137,7 @@ module _ {R : Region} (W : WellFormed R) {m a b : ℕ} (X : Chosen R m a b) {P :
 
       ends : {v : ℕ} → Rest (Edge R) P v a → EndsAt R e v
       ends (inl q) = inr (subst (Open R) (sym q) oa, subst (λ (n : ℕ). BarrierFree R n e) (sym q) end-a)
-      ends {v} (inr w) = inr (free v (w .0), join (weaken free (w .1)) oa end-a)
+      ends {v} (inr w) = inr (free v (w .0), follow (carry (λ x y e. e) free (w .1)) oa end-a)
 
       edges : (k : ℕ) → k < m → R .edge s (to k) ≡ true
       edges k l = elim (ℕ-discrete k (X .q)) [

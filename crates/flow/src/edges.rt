@@ -1,13 +1,12 @@
 // Row 9 of the refusals, over the edges.
 ghost use mathlib.Core.Path.{_≡_};
 ghost use mathlib.Core.Bool.{true, false};
-ghost use Prim.Native.Nat.{_+_, _*_, _-_, _≤_, _<_};
-ghost use lib.ListN.{length};
+ghost use Prim.Native.Nat.{_+_, _*_, _-_, _<_};
 ghost use Rattle.chart.specs.Format.{decode};
 ghost use Rattle.chart.specs.Scope.{beginNode, endNode, scopeAt};
 ghost use Rattle.chart.specs.Refusal.{badNodes, rises, badEdgeAt, badEdges};
 ghost use Rattle.chart.specs.Checked.{Laid};
-ghost use Rattle.flow.specs.Tables.{ScopeTable, badEdgeBy};
+ghost use Rattle.flow.specs.Tables.{noLeaving, noArriving, ScopeTable, Sides};
 use chart::cursor::wide;
 use chart::format::Chart;
 use chart::format::Construct;
@@ -31,40 +30,32 @@ pub fn scope(s: &[u8], chart: Chart, x: usize, own: u8) -> u8
     Construct::read(s, chart, wide(number)).parent
 }
 
-// The scopes of all nodes, by number, on leaving and on arriving.
-fn fill_scopes(s: &[u8], chart: Chart, leave: &mut [u8; 192], arrive: &mut [u8; 192])
-    requires { ⌜ Laid (now s) chart × (badNodes (decode (now s)) ≡ false) × (length (now leave) ≡ 192) × (length (now arrive) ≡ 192) ⌝ }
-    ensures { λ _. ⌜ ScopeTable beginNode (decode (now (s .entry))) (now (leave .exit)) × ScopeTable endNode (decode (now (s .entry))) (now (arrive .exit)) ⌝ }
+// Scopes that no node has: of what no edge may leave, and of what none may come to.
+const NO_LEAVING: u16 = 256;
+
+const NO_ARRIVING: u16 = 257;
+
+// A scope as a number that also has room for these.
+fn widened(scope: u8) -> u16
+    ensures { λ r. ⌜ (r ≡ scope) × (r < 256) ⌝ }
 {
+    scope as u16
+}
+
+// The scopes of all nodes, by number, on leaving and on arriving; a number that no node has gets a scope that no other has.
+fn fill_scopes(s: &[u8], chart: Chart, leave: &mut [u16; 256], arrive: &mut [u16; 256])
+    requires { ⌜ Laid (now s) chart × (badNodes (decode (now s)) ≡ false) ⌝ }
+    ensures { λ _. ⌜ ScopeTable beginNode noLeaving (decode (now (s .entry))) (now (leave .exit)) × ScopeTable endNode noArriving (decode (now (s .entry))) (now (arrive .exit)) ⌝ }
+{
+    *leave = [NO_LEAVING; 256];
+    *arrive = [NO_ARRIVING; 256];
     let n = chart.nodes;
     let mut x = 0;
     while x < n {
-        leave[x] = scope(s, chart, x, Node::BEGIN);
-        arrive[x] = scope(s, chart, x, Node::END);
+        leave[x] = widened(scope(s, chart, x, Node::BEGIN));
+        arrive[x] = widened(scope(s, chart, x, Node::END));
         x += 1;
     }
-}
-
-// Row 9, of an edge by itself: `leave` and `arrive` have the scopes of its two nodes.
-fn bad_edge(n: usize, edge: Edge, leave: &[u8; 192], arrive: &[u8; 192]) -> bool
-    requires { ⌜ (1 ≤ n) × (n ≤ 192) × (length (now leave) ≡ 192) × (length (now arrive) ≡ 192) ⌝ }
-    ensures { λ r. ⌜ r ≡ badEdgeBy n (now (leave .entry)) (now (arrive .entry)) (edge .from) (edge .to) ⌝ }
-{
-    let from = wide(edge.from);
-    let to = wide(edge.to);
-    if n <= from {
-        return true;
-    }
-    if n <= to {
-        return true;
-    }
-    if to == 0 {
-        return true;
-    }
-    if from == n - 1 {
-        return true;
-    }
-    leave[from] != arrive[to]
 }
 
 // The pair (from, to) as one number, so that edges are ordered by one comparison.
@@ -82,12 +73,14 @@ fn rising(a: Edge, b: Edge) -> bool
 }
 
 // Row 9, of edge i.
-fn bad_edge_at(s: &[u8], chart: Chart, i: usize, leave: &[u8; 192], arrive: &[u8; 192]) -> bool
-    requires { ⌜ Laid (now s) chart × (i < chart .edges) × ScopeTable beginNode (decode (now s)) (now leave) × ScopeTable endNode (decode (now s)) (now arrive) ⌝ }
+fn bad_edge_at(s: &[u8], chart: Chart, i: usize, leave: &[u16; 256], arrive: &[u16; 256]) -> bool
+    requires { ⌜ Laid (now s) chart × (i < chart .edges) × Sides (decode (now s)) (now leave) (now arrive) ⌝ }
     ensures { λ r. ⌜ r ≡ badEdgeAt (decode (now (s .entry))) i ⌝ }
 {
     let edge = Edge::read(s, chart, i);
-    if bad_edge(chart.nodes, edge, leave, arrive) {
+    let from = wide(edge.from);
+    let to = wide(edge.to);
+    if leave[from] != arrive[to] {
         return true;
     }
     if i == 0 {
@@ -97,8 +90,8 @@ fn bad_edge_at(s: &[u8], chart: Chart, i: usize, leave: &[u8; 192], arrive: &[u8
 }
 
 // Row 9, given the scopes of all nodes.
-fn bad_edges_by(s: &[u8], chart: Chart, leave: &[u8; 192], arrive: &[u8; 192]) -> bool
-    requires { ⌜ Laid (now s) chart × ScopeTable beginNode (decode (now s)) (now leave) × ScopeTable endNode (decode (now s)) (now arrive) ⌝ }
+fn bad_edges_by(s: &[u8], chart: Chart, leave: &[u16; 256], arrive: &[u16; 256]) -> bool
+    requires { ⌜ Laid (now s) chart × Sides (decode (now s)) (now leave) (now arrive) ⌝ }
     ensures { λ r. ⌜ r ≡ badEdges (decode (now (s .entry))) ⌝ }
 {
     let e = chart.edges;
@@ -112,13 +105,17 @@ fn bad_edges_by(s: &[u8], chart: Chart, leave: &[u8; 192], arrive: &[u8; 192]) -
     false
 }
 
-// Row 9. The scopes are looked up once for each node, not once for each edge.
+// Row 9. The scopes are looked up once for each node, not once for each edge. No edge may come to start or leave finish: there too stand
+// scopes that no other has, so that one comparison is all that an edge takes by itself.
 pub fn bad_edges(s: &[u8], chart: Chart) -> bool
     requires { ⌜ Laid (now s) chart × (badNodes (decode (now s)) ≡ false) ⌝ }
     ensures { λ r. ⌜ r ≡ badEdges (decode (now (s .entry))) ⌝ }
 {
-    let mut leave = [0u8; 192];
-    let mut arrive = [0u8; 192];
+    let mut leave = [0u16; 256];
+    let mut arrive = [0u16; 256];
     fill_scopes(s, chart, &mut leave, &mut arrive);
+    let finish = chart.nodes - 1;
+    leave[finish] = NO_LEAVING;
+    arrive[0] = NO_ARRIVING;
     bad_edges_by(s, chart, &leave, &arrive)
 }

@@ -3,6 +3,7 @@
 -- Assumes nothing.
 use mathlib.Core.Path.{_≡_, refl, ap, sym, _∙_, subst}
 use mathlib.Core.Logic.{_⊎_, inl, inr, ⊎-elim, _≢_}
+use mathlib.Core.Bool.{_&&_, not, cond}
 use mathlib.Core.List.{List}
 use Prim.Native.Nat.{ℕ, zero, suc, _+_, _^_, _≤_, _<_}
 use native.Mathlib.Omega.{arith}
@@ -13,8 +14,9 @@ use lib.ListN.{getD, set, length-set}
 use borrow.Author.Tests.{eqb-true, eq-eqb, ne-eqb, not-true}
 use Rattle.lists.specs.Truth.{clash, and-both, both-and}
 use Rattle.lists.specs.Mask.{Has, Mask, maskOf, mask-of, mask-carry, mask-either, has-none}
+use Rattle.lists.specs.Bits.{has, mask-next}
 use Rattle.lists.specs.Common.{mask-none, mask-one}
-use Rattle.chart.specs.Format.{outside, decode, constructAt}
+use Rattle.chart.specs.Format.{outside, Construct, decode, constructAt}
 use Rattle.chart.specs.Region.{Kind, single, master, critical, loop, ordered, Region}
 use Rattle.chart.specs.Scope.{singleByte, masterByte, loopByte, orderedByte, kindOf, Encloses, here, up, parentOf}
 use Rattle.chart.specs.Reading.{region}
@@ -95,6 +97,12 @@ back (suc (suc (suc zero))) l m = refl
 back (suc (suc (suc (suc zero)))) l m = refl
 back (suc (suc (suc (suc (suc zero))))) l m = refl
 back (suc (suc (suc (suc (suc (suc b)))))) l m = absurd (omega arith)
+
+-- one construct more, whose kind was read
+pub kept-next : (constructs : List Construct) (kind without c : ℕ) {k m n : ℕ} → k ≡ constructAt constructs c .kind → m ≡ maskOf (isKept constructs kind without) c
+    → n ≡ cond (eqb k kind && not (has without c)) (bitOr (2 ^ c) m) m → n ≡ maskOf (isKept constructs kind without) (c + 1)
+unfolding isKept
+kept-next constructs kind without c q e h = rw (mask-next _ c, ← e, ← q) h
 
 module _ (s : List ℕ) (chart : Chart) (A : Accepted s chart) where
   abbrev R : Region

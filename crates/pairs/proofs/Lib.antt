@@ -2,3 +2,4 @@ mod Facts
 mod Constructs
 mod Nodes
 mod Entries
+pub mod Rows

@@ -8,18 +8,19 @@ use Prim.Native.Nat.{ℕ, _+_, _<_}
 use native.Mathlib.Omega.{arith}
 use native.Mathlib.Decide.{ℕ-discrete}
 use lib.Bits.{bitAnd}
-use lib.ListN.{set, length-set}
+use lib.ListN.{getD, set, replicate, length-set, length-replicate}
 use borrow.Author.Tests.{ne-eqb}
 use Rattle.lists.specs.Truth.{truth, clash}
 use Rattle.lists.specs.Mask.{Mask, mask-carry}
 use Rattle.lists.specs.Common.{mask-none, mask-both}
-use Rattle.chart.specs.Format.{Node, Construct, decode, nodeAt}
+use Rattle.lists.specs.Store.{zeros}
+use Rattle.chart.specs.Format.{outside, Node, Construct, decode, nodeAt}
 use Rattle.chart.specs.Region.{master, loop, Region}
 use Rattle.chart.specs.Scope.{Encloses, liesIn, scope, liesAt, scopeAt}
 use Rattle.chart.specs.Reading.{region}
 use Rattle.chart.specs.declared.format.Chart.{Chart}
 use Rattle.chart.proofs.Records.{nodes-length, constructs-length}
-use Rattle.chart.proofs.Tree.{Below, lower}
+use Rattle.chart.proofs.Tree.{Below, outside-encloses, lower}
 use Rattle.chart.proofs.Whole.{lies, lies-below}
 use Rattle.answers.specs.Unexcluded.{Returns, In}
 use Rattle.phases.specs.Phases.{forward, backward}
@@ -39,6 +40,9 @@ plain-scope nodes constructs x = go (ℕ-discrete (nodeAt nodes x .kind) 0)
     go : Dec (nodeAt nodes x .kind ≡ 0) → scopeAt 0 nodes constructs x ≡ liesAt nodes constructs x
     go (yes q) = rw q
     go (no d) = rw (ne-eqb (nodeAt nodes x .kind) 0 d)
+
+no-bit : {P : ℕ → Type 0} {k : ℕ} → ((b : ℕ) → b < k → P b → ⊥) → Mask P k 0
+no-bit {k = k} f = mask-carry (λ b l h. absurd h) f (mask-none k)
 
 module _ (s : List ℕ) (chart : Chart) (A : Accepted s chart) where
   abbrev R : Region
@@ -85,11 +89,20 @@ module _ (s : List ℕ) (chart : Chart) (A : Accepted s chart) where
         go (inl t) =
             let (c, (l, (e, k))) = common-test v (K .is-master) .0 t in
             rw t (mask-carry (λ d m j. (j, (c, ((k, reading s chart A .enclosed-inside e l), refl)))) (λ d m h. h .0) (K .is-master))
-        go (inr t) = rw t (mask-carry (λ d m h. absurd h) (λ d m h. none (h .1 .0) (h .1 .1 .0)) (mask-none (R .constructs)))
+        go (inr t) = rw t (no-bit (λ d m h. none (h .1 .0) (h .1 .1 .0)))
           where
             none : (c : ℕ) → In R master x c → ⊥
             none c i =
                 clash (common-test v (K .is-master) .1 (c, (reading s chart A .inside-counts (i .1), (reading s chart A .inside-enclosed (i .1), i .0)))) t
+
+  -- a node that lies in no construct has no bit
+  pub outside-marks : (x : ℕ) → lies (decode s) x ≡ outside
+      → Mask (MasterOf R x) (R .constructs) 0 × (Mask (SingleOf R x) (R .constructs) 0 × Mask (DoOf R x) (R .constructs) 0)
+  outside-marks x q =
+      (no-bit (λ d l h. out (h .1 .0) (h .1 .1 .0 .1)), (no-bit (λ c l h. out c (h .0 .1)), no-bit (λ d l h. out (h .0 .construct) (h .0 .within))))
+    where
+      out : (c : ℕ) → R .inside x c ≡ true → ⊥
+      out c i = outside-encloses q (reading s chart A .inside-enclosed i)
 
   -- one node more
   pub marks-more : (x m u d : ℕ) {masters singles dos : List ℕ} → x < 192 → NodeMasks R x masters singles dos
@@ -103,6 +116,22 @@ module _ (s : List ℕ) (chart : Chart) (A : Accepted s chart) where
     in-singles = stored (λ y n. Mask (SingleOf R y) (R .constructs) n) singles x u (omega (arith, K .singles-long)) b (K .in-singles);
     in-ordereds = stored (λ y n. Mask (DoOf R y) (R .constructs) n) dos x d (omega (arith, K .dos-long)) e (K .in-ordereds);
   }
+
+  -- no node has a bit where there are no constructs
+  pub no-marks : chart .constructs ≡ 0 → NodeMasks R (chart .nodes) (replicate 192 0) (replicate 192 0) (replicate 192 0)
+  no-marks z = record {
+    masters-long = length-replicate {A = ℕ} 192 0;
+    singles-long = length-replicate {A = ℕ} 192 0;
+    dos-long = length-replicate {A = ℕ} 192 0;
+    in-masters = λ x l. empty (MasterOf R x) x;
+    in-singles = λ x l. empty (SingleOf R x) x;
+    in-ordereds = λ x l. empty (DoOf R x) x;
+  }
+    where
+      empty : (P : ℕ → Type 0) (x : ℕ) → Mask P (R .constructs) (getD (replicate 192 0) x 0)
+      empty P x =
+          let none = constructs-length s chart (A .laid) in
+          rw (zeros 192 x) (no-bit (λ b l h. omega arith))
 
   -- all nodes
   pub all-marks : {starts ends masters singles dos : List ℕ} → Masks forward R starts → Masks backward R ends

@@ -3,7 +3,7 @@
 -- Assumes nothing.
 use mathlib.Core.Path.{_≡_, refl, sym, _∙_}
 use mathlib.Core.Logic.{inl, inr, _↔_}
-use mathlib.Core.Bool.{Bool, true, false, _||_, not, cond}
+use mathlib.Core.Bool.{Bool, true, _||_, not, cond}
 use mathlib.Core.List.{List}
 use Prim.Native.Nat.{ℕ, _<_}
 use native.Mathlib.Omega.{arith}
@@ -23,6 +23,7 @@ use Rattle.answers.specs.AnswerLaws.{do-below, phase-of, masters-of, single-of,
 use Rattle.phases.specs.Phases.{Direction, forward, backward, barriers, barrierAt, marked, marks}
 use Rattle.phases.specs.PhasesLaws.{Marked, marked-means, number-barrier, barrier-number}
 use Rattle.pairs.specs.Marks.{MasterOf, SingleOf, DoOf, Marks}
+use Rattle.pairs.specs.declared.rules.Profile.{Profile}
 
 -- Two masks have a bit in common.
 abbrev pub common : ℕ → ℕ → Bool
@@ -35,13 +36,23 @@ common-test v w = (
   λ h. rw (ne-eqb _ 0 (common-bit v w .1 h)),
 )
 
+-- The masks of node x.
+unfoldable pub profileAt : List ℕ → List ℕ → List ℕ → List ℕ → List ℕ → ℕ → Profile
+profileAt starts ends masters singles dos x = record {
+  starts = getD starts x 0;
+  ends = getD ends x 0;
+  masters = getD masters x 0;
+  singles = getD singles x 0;
+  dos = getD dos x 0;
+}
+
 -- The answer by the masks of the two nodes, the rules in their order.
-unfoldable byMasks : List ℕ → List ℕ → List ℕ → List ℕ → List ℕ → ℕ → ℕ → ℕ
-byMasks starts ends masters singles dos a b =
-    cond (not (common (getD starts a 0) (getD starts b 0)) || not (common (getD ends a 0) (getD ends b 0))) 1
-    (cond (common (getD masters a 0) (getD masters b 0)) 2
-    (cond (common (getD singles a 0) (getD singles b 0)) 3
-    (cond (common (getD dos a 0) (getD dos b 0)) 4
+unfoldable pub answerBy : Profile → Profile → ℕ
+answerBy x y =
+    cond (not (common (x .starts) (y .starts)) || not (common (x .ends) (y .ends))) 1
+    (cond (common (x .masters) (y .masters)) 2
+    (cond (common (x .singles) (y .singles)) 3
+    (cond (common (x .dos) (y .dos)) 4
     0)))
 
 module _ {R : Region} (W : WellFormed R) where
@@ -123,12 +134,11 @@ module _ {R : Region} (W : WellFormed R) where
 -- The answer, read off the masks of two nodes that are no barriers.
 module _ {R : Region} {starts ends masters singles dos : List ℕ} (M : Marks R starts ends masters singles dos)
     (a b : ℕ) (la : a < R .nodes) (lb : b < R .nodes) (oa : Open R a) (ob : Open R b) where
-  -- the masks have a common bit, of one table
-  abbrev pub Shared : List ℕ → Bool → Type 0
-  Shared masks t = common (getD masks a 0) (getD masks b 0) ≡ t
+  abbrev profile : ℕ → Profile
+  profile = profileAt starts ends masters singles dos
 
-  answer-by : answer R a b ≡ byMasks starts ends masters singles dos a b
-  unfolding byMasks answer
+  pub answer-by : answer R a b ≡ answerBy (profile a) (profile b)
+  unfolding profileAt answerBy answer
   answer-by =
       let W = M .well-formed in
       let K = M .constructs in
@@ -142,27 +152,3 @@ module _ {R : Region} {starts ends masters singles dos : List ℕ} (M : Marks R 
         ← single-by W a b _ _ (K .in-singles a la) (K .in-singles b lb),
         ← ordereds-by W a b _ _ (K .in-ordereds a la) (K .in-ordereds b lb),
       )
-
-  pub no-start : Shared starts false → answer R a b ≡ 1
-  unfolding byMasks
-  no-start s = rw (answer-by, s)
-
-  pub no-end : Shared starts true → Shared ends false → answer R a b ≡ 1
-  unfolding byMasks
-  no-end s e = rw (answer-by, s, e)
-
-  pub in-masters : Shared starts true → Shared ends true → Shared masters true → answer R a b ≡ 2
-  unfolding byMasks
-  in-masters s e m = rw (answer-by, s, e, m)
-
-  pub in-single : Shared starts true → Shared ends true → Shared masters false → Shared singles true → answer R a b ≡ 3
-  unfolding byMasks
-  in-single s e m u = rw (answer-by, s, e, m, u)
-
-  pub in-ordereds : Shared starts true → Shared ends true → Shared masters false → Shared singles false → Shared dos true → answer R a b ≡ 4
-  unfolding byMasks
-  in-ordereds s e m u d = rw (answer-by, s, e, m, u, d)
-
-  pub concurrent : Shared starts true → Shared ends true → Shared masters false → Shared singles false → Shared dos false → answer R a b ≡ 0
-  unfolding byMasks
-  concurrent s e m u d = rw (answer-by, s, e, m, u, d)

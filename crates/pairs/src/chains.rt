@@ -1,18 +1,17 @@
-// Masks of constructs: what stands at and above each, and which are of one kind.
+// Masks of constructs: what stands at and above each, and which of them the rules speak of.
 ghost use mathlib.Core.Path.{_≡_};
 ghost use mathlib.Core.Bool.{_&&_, not, cond};
 ghost use Prim.Native.Nat.{_+_, _^_, _<_};
 ghost use lib.Bits.{bitOr};
 ghost use lib.Dec.{eqb};
 ghost use lib.ListN.{length};
-ghost use Rattle.lists.specs.Mask.{maskOf};
 ghost use Rattle.lists.specs.Bits.{has};
 ghost use Rattle.chart.specs.Format.{outside, decode};
 ghost use Rattle.chart.specs.Scope.{orderedByte};
 ghost use Rattle.chart.specs.Reading.{region};
-ghost use Rattle.chart.specs.Checked.{Laid};
+ghost use Rattle.phases.specs.Phases.{returning as returningMask};
 ghost use Rattle.phases.specs.Tables.{Accepted};
-ghost use Rattle.pairs.specs.Chains.{Chains, maskAt, ownDo, isKept};
+ghost use Rattle.pairs.specs.Chains.{Chains, maskAt, ownDo, Kept};
 use chart::cursor::wide;
 use chart::format::Chart;
 use chart::format::Construct;
@@ -79,17 +78,33 @@ fn add_kept(construct: Construct, kind: u8, without: u64, c: usize, mask: u64) -
     bit(c) | mask
 }
 
-// The constructs of a kind that are not among `without`.
-pub fn of_kind(s: &[u8], chart: Chart, kind: u8, without: u64) -> u64
-    requires { ⌜ Laid (now s) chart ⌝ }
-    ensures { λ r. ⌜ r ≡ maskOf (isKept (decode (now (s .entry)) .constructs) kind without) (chart .constructs) ⌝ }
+// The constructs that the rules speak of: all masters, and the singles and the dos that do not return.
+pub struct Sets {
+    pub masters: u64,
+    pub singles: u64,
+    pub dos: u64,
+}
+
+// These constructs of a chart, given the mask of those that return.
+pub fn sets_of(s: &[u8], chart: Chart, returning: u64) -> Sets
+    requires { ⌜ Accepted (now s) chart × (returning ≡ returningMask (region (decode (now s)))) ⌝ }
+    ensures { λ r. ⌜ Kept (region (decode (now (s .entry)))) (r .masters) (r .singles) (r .dos) ⌝ }
 {
     let n = chart.constructs;
-    let mut mask = 0;
+    let mut masters = 0;
+    let mut singles = 0;
+    let mut dos = 0;
     let mut c = 0;
     while c < n {
-        mask = add_kept(Construct::read(s, chart, c), kind, without, c, mask);
+        let construct = Construct::read(s, chart, c);
+        masters = add_kept(construct, Construct::MASTER, 0, c, masters);
+        singles = add_kept(construct, Construct::SINGLE, returning, c, singles);
+        dos = add_kept(construct, Construct::DO, returning, c, dos);
         c += 1;
     }
-    mask
+    Sets {
+        masters,
+        singles,
+        dos,
+    }
 }

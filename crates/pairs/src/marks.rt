@@ -11,21 +11,15 @@ ghost use Rattle.phases.specs.Tables.{Accepted, Masks};
 ghost use Rattle.pairs.specs.Marks.{NodeMasks, Marks};
 ghost use Rattle.pairs.specs.Rules.{common as commonBit};
 ghost use Rattle.pairs.specs.Chains.{Chains, Kept};
+use crate::chains::Sets;
 use crate::chains::fill_chains;
 use crate::chains::mask_at;
-use crate::chains::of_kind;
+use crate::chains::sets_of;
 use crate::rules::common;
 use chart::format::Chart;
 use chart::format::Construct;
 use chart::format::Node;
 use flow::edges::scope;
-
-// The constructs that the rules speak of: all masters, and the singles and the dos that do not return.
-pub struct Sets {
-    pub masters: u64,
-    pub singles: u64,
-    pub dos: u64,
-}
 
 // All masters, where one of them is around.
 fn masters_of(masters: u64, around: u64) -> u64
@@ -37,7 +31,7 @@ fn masters_of(masters: u64, around: u64) -> u64
     0
 }
 
-// One node more, from the masks of the construct that it lies in.
+// One node more, from the masks of the construct that it lies in; most lie in none.
 fn mark_node(
     s: &[u8],
     chart: Chart,
@@ -53,6 +47,12 @@ fn mark_node(
     ensures { λ _. ⌜ NodeMasks (region (decode (now (s .entry)))) (x + 1) (now (masters .exit)) (now (singles .exit)) (now (dos .exit)) ⌝ }
 {
     let p = scope(s, chart, x, Node::PLAIN);
+    if p == Construct::NONE {
+        masters[x] = 0;
+        singles[x] = 0;
+        dos[x] = 0;
+        return;
+    }
     let around = mask_at(above, p);
     masters[x] = masters_of(sets.masters, around);
     singles[x] = around & sets.singles;
@@ -93,13 +93,16 @@ pub fn fill_marks(
     requires { ⌜ Accepted (now s) chart × (returning ≡ returningMask (region (decode (now s)))) × (length (now masters) ≡ 192) × (length (now singles) ≡ 192) × (length (now dos) ≡ 192) ⌝ }
     ensures { λ _. ⌜ ((starts ends : List ℕ) → Masks forward (region (decode (now (s .entry)))) starts → Masks backward (region (decode (now (s .entry)))) ends → Marks (region (decode (now (s .entry)))) starts ends (now (masters .exit)) (now (singles .exit)) (now (dos .exit))) ⌝ }
 {
+    let n = chart.constructs;
+    if n == 0 {
+        *masters = [0u64; 192];
+        *singles = [0u64; 192];
+        *dos = [0u64; 192];
+        return;
+    }
     let mut above = [0u64; 48];
     let mut loops = [0u64; 48];
     fill_chains(s, chart, &mut above, &mut loops);
-    let sets = Sets {
-        masters: of_kind(s, chart, Construct::MASTER, 0),
-        singles: of_kind(s, chart, Construct::SINGLE, returning),
-        dos: of_kind(s, chart, Construct::DO, returning),
-    };
+    let sets = sets_of(s, chart, returning);
     mark_nodes(s, chart, sets, &above, &loops, masters, singles, dos);
 }

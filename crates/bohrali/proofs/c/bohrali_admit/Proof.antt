@@ -4,7 +4,7 @@ use mathlib.Core.Path.{_≡_, ap, sym, _∙_}
 use lib.IntN.{pos}
 use borrow.Author.Needs.{needs}
 use Rattle.phases.specs.Admission.{admitted, numberOf}
-use Rattle.bohrali.proofs.Rules.{small-counts}
+use Rattle.bohrali.proofs.Counts.{small-counts}
 use Rattle.bohrali.proofs.c.bohrali_admit.Statement.{statement}
 use mir.Val.{toZ, ofZ}
 use mir.Syntax.{w64}

@@ -2,13 +2,13 @@
 -- Assumes nothing.
 use mathlib.Core.Path.{_≡_, ap, sym, _∙_}
 use native.Mathlib.Omega.{arith}
-use lib.ListN.{length}
 use borrow.Author.Needs.{needs}
-use Rattle.bohrali.specs.Calls.{phasesWritten, numberOf}
-use Rattle.bohrali.proofs.Rules.{bytes-room}
-use Rattle.bohrali.proofs.c.bohrali_phases.Statement.{statement}
-use mir.Val.{toZ, ofZ}
 use mir.Syntax.{w64}
+use mir.Val.{toZ, ofZ}
+use Rattle.bohrali.specs.Output.{numberOf}
+use Rattle.bohrali.specs.Phases.{phasesResult}
+use Rattle.bohrali.proofs.Outputs.{had-room}
+use Rattle.bohrali.proofs.c.bohrali_phases.Statement.{statement}
 use Rattle.bohrali.proofs.c.bohrali_phases.Tie as tie
 
 phases-requires : tie.Need-phases-requires
@@ -18,11 +18,10 @@ enum-known-count : tie.Need-enum-known-count
 enum-known-count c = search needs
 
 counted-requires : tie.Need-counted-requires
-unfolding phasesWritten
 counted-requires c κs =
     let p = c .before .before .before .before .before in
     let e = p .before .before .before .before in
-    omega (arith, bytes-room (e .args .chart .now) (length (e .args .out .now)) _ (sym (p .phases .ensures .0) ∙ c .before .count .given .1))
+    omega (arith, had-room phasesResult (e .args .chart .now) (e .args .out .now) _ (sym (p .phases .ensures .0) ∙ c .before .count .given .1))
 
 enum-known-refusal : tie.Need-enum-known-refusal
 enum-known-refusal c = search needs

@@ -1,51 +1,67 @@
 -- `flow::edges::bad_edge_at` meets its contract.
 -- Assumes nothing.
-use mathlib.Core.Path.{_≡_, _∙_, sym}
+use mathlib.Core.Bool.{false, not}
+use mathlib.Core.Path.{_≡_, _∙_, ap, sym}
 use native.Mathlib.Omega.{arith}
-use borrow.Author.Tests.{lt-ltb, le-ltb}
+use lib.Dec.{eqb}
+use lib.ListN.{getD}
+use borrow.Author.Tests.{lt-ltb, le-ltb, eq-eqb, ne-eqb}
 use borrow.Author.Needs.{needs}
-use Rattle.chart.proofs.Records.{nodes-length}
 use Rattle.chart.specs.Refusal.{badEdge, badEdgeAt}
 use Rattle.chart.specs.Format.{decode, edgeAt}
-use Rattle.flow.proofs.Sides.{by-tables}
 use Rattle.flow.proofs.edges.bad_edge_at.Statement.{statement}
 use Rattle.flow.proofs.edges.bad_edge_at.Tie as tie
 
-abbrev start : tie.After-bad-edge → tie.Start
-start c = c .before .before .before
+abbrev start : tie.After-wide2 → tie.Start
+start c = c .before .before .before .before
 
--- the test of the edge by itself, in terms of the decoded chart
-tested : (c : tie.After-bad-edge) →
+-- the comparison of the scopes, in terms of the decoded chart
+tested : (c : tie.After-wide2) →
     let e = start c in
     let D = decode (e .args .s .now) in
-    c .bad-edge .result ≡ badEdge (D .nodes) (D .constructs) (edgeAt (D .edges) (e .args .i) .from) (edgeAt (D .edges) (e .args .i) .to)
+    not (eqb (getD (e .args .leave .now) (c .before .wide .result) 0) (getD (e .args .arrive .now) (c .wide2 .result) 0))
+    ≡ badEdge (D .nodes) (D .constructs) (edgeAt (D .edges) (e .args .i) .from) (edgeAt (D .edges) (e .args .i) .to)
 tested c =
-    let e = start c in
-    let D = decode (e .args .s .now) in
-    let r = c .before .read .ensures in
-    cc (
-      c .bad-edge .ensures,
-      r .0,
-      r .1,
-      nodes-length _ (e .args .chart) (e .pre .0),
-      by-tables D (e .args .leave .now) (e .args .arrive .now) (edgeAt (D .edges) (e .args .i) .from) (edgeAt (D .edges) (e .args .i) .to) (e .pre .2) (e .pre .3),
-    )
+    let r = c .before .before .read .ensures in
+    let from = c .before .wide .ensures in
+    let to = c .wide2 .ensures in
+    cc (start c .pre .2 .bad (c .before .wide .result) (c .wide2 .result) (from .1) (to .1), from .0, to .0, r .0, r .1)
 
 read-requires : tie.Need-read-requires
 read-requires c κs = search needs
 
-bad-edge-requires : tie.Need-bad-edge-requires
-bad-edge-requires c κs =
-    let e = c .before .before in
-    (omega (arith, e .pre .0 .two-nodes), e .pre .0 .nodes-most, e .pre .2 .long, e .pre .3 .long)
+wide-requires : tie.Need-wide-requires
+wide-requires c κs = search needs
+
+wide-requires-2 : tie.Need-wide-requires-2
+wide-requires-2 c κs = search needs
+
+mul-if1 : tie.Need-mul-if1
+mul-if1 c = search needs
+
+element-copy-out-if1 : tie.Need-element-copy-out-if1
+element-copy-out-if1 c = search needs
+
+mul-if1-2 : tie.Need-mul-if1-2
+mul-if1-2 c = search needs
+
+element-copy-out-if1-2 : tie.Need-element-copy-out-if1-2
+element-copy-out-if1-2 c = search needs
 
 returns : tie.Need-returns
 unfolding badEdgeAt
-returns c = rw (sym (tested (c .before)) ∙ c .if1 .taken)
+returns c = rw (sym (tested (c .before .before .before)) ∙ ap not (ne-eqb _ _ (c .if1 .taken)))
+
+-- the scopes agree
+agree : (c : tie.Else1) →
+    let e = start (c .before .before .before) in
+    let D = decode (e .args .s .now) in
+    badEdge (D .nodes) (D .constructs) (edgeAt (D .edges) (e .args .i) .from) (edgeAt (D .edges) (e .args .i) .to) ≡ false
+agree c = sym (tested (c .before .before .before)) ∙ ap not (eq-eqb _ _ (c .if1 .left))
 
 returns-2 : tie.Need-returns-2
 unfolding badEdgeAt
-returns-2 c = let k = c .before in rw (sym (tested (k .before)) ∙ k .if1 .left, le-ltb 0 (start (k .before) .args .i) (omega (arith, c .if2 .taken)))
+returns-2 c = let k = c .before in rw (agree k, le-ltb 0 (start (k .before .before .before) .args .i) (omega (arith, c .if2 .taken)))
 
 sub-read : tie.Need-sub-read
 sub-read c = search needs
@@ -62,10 +78,10 @@ returns-3 c =
     let l = c .before .before in
     let k = l .before in
     let r = c .before .read2 .ensures in
-    let q = k .before .before .read .ensures in
+    let q = k .before .before .before .before .before .read .ensures in
     rw (
-      sym (tested (k .before)) ∙ k .if1 .left,
-      lt-ltb 0 (start (k .before) .args .i) (omega (arith, l .if2 .left)),
+      agree k,
+      lt-ltb 0 (start (k .before .before .before) .args .i) (omega (arith, l .if2 .left)),
       ← r .0,
       ← r .1,
       ← q .0,
@@ -78,7 +94,12 @@ bad-edge-at-spec =
     tie.close
     (tie.spec
     read-requires
-    bad-edge-requires
+    wide-requires
+    wide-requires-2
+    mul-if1
+    element-copy-out-if1
+    mul-if1-2
+    element-copy-out-if1-2
     returns
     returns-2
     sub-read

@@ -23,7 +23,7 @@ unfolding any
 loop-holds c = (omega arith, refl)
 
 bad-edge-at-requires : tie.Need-bad-edge-at-requires Inv-loop μ-loop
-bad-edge-at-requires c κs = let e = c .before .before .before in (e .pre .0, omega arith, e .pre .1, e .pre .2)
+bad-edge-at-requires c κs = let e = c .before .before .before in (e .pre .0, omega arith, e .pre .1)
 
 returns : tie.Need-returns Inv-loop μ-loop
 unfolding badEdges

@@ -9,7 +9,7 @@ use Rattle.chart.proofs.Tree.{Below}
 use Rattle.chart.proofs.Whole.{lies}
 use Rattle.pairs.proofs.Facts.{good-nodes}
 use Rattle.pairs.proofs.Constructs.{index-below}
-use Rattle.pairs.proofs.Nodes.{plain-scope, place, node-above, node-dos, masters-at, singles-at, dos-at-node, marks-more}
+use Rattle.pairs.proofs.Nodes.{plain-scope, place, node-above, node-dos, masters-at, singles-at, dos-at-node, outside-marks, marks-more}
 use Rattle.pairs.proofs.marks.mark_node.Statement.{statement}
 use Rattle.pairs.proofs.marks.mark_node.Tie as tie
 
@@ -25,12 +25,6 @@ index c =
 scope-requires : tie.Need-scope-requires
 scope-requires c κs = let e = c .before in (e .pre .0 .laid, e .pre .1, good-nodes _ (e .args .chart) (e .pre .0))
 
-mask-at-requires : tie.Need-mask-at-requires
-mask-at-requires c κs = index c
-
-masters-of-requires : tie.Need-masters-of-requires
-masters-of-requires c κs = search needs
-
 mul-masters : tie.Need-mul-masters
 mul-masters c = search needs
 
@@ -43,9 +37,6 @@ mul-singles c = search needs
 element-write-singles : tie.Need-element-write-singles
 element-write-singles c = search needs
 
-mask-at-requires-2 : tie.Need-mask-at-requires-2
-mask-at-requires-2 c κs = index (c .before .before .before)
-
 mul-dos : tie.Need-mul-dos
 mul-dos c = search needs
 
@@ -54,8 +45,43 @@ element-write-dos c = search needs
 
 returns : tie.Need-returns
 returns c =
+    let p = c .before in
+    let e = p .before .before in
+    let A = e .pre .0 in
+    let none = outside-marks (e .args .s .now) (e .args .chart) A (e .args .x) (sym (there p) ∙ c .if1 .taken) in
+    marks-more (e .args .s .now) (e .args .chart) A (e .args .x) _ _ _ (omega (arith, A .laid .nodes-most, e .pre .1)) (e .pre .4) (none .0) (none .1 .0) (none .1 .1)
+
+mask-at-requires : tie.Need-mask-at-requires
+mask-at-requires c κs = index (c .before)
+
+masters-of-requires : tie.Need-masters-of-requires
+masters-of-requires c κs = search needs
+
+mul-masters-2 : tie.Need-mul-masters-2
+mul-masters-2 c = search needs
+
+element-write-masters-2 : tie.Need-element-write-masters-2
+element-write-masters-2 c = search needs
+
+mul-singles-2 : tie.Need-mul-singles-2
+mul-singles-2 c = search needs
+
+element-write-singles-2 : tie.Need-element-write-singles-2
+element-write-singles-2 c = search needs
+
+mask-at-requires-2 : tie.Need-mask-at-requires-2
+mask-at-requires-2 c κs = index (c .before .before .before .before)
+
+mul-dos-2 : tie.Need-mul-dos-2
+mul-dos-2 c = search needs
+
+element-write-dos-2 : tie.Need-element-write-dos-2
+element-write-dos-2 c = search needs
+
+returns-2 : tie.Need-returns-2
+returns-2 c =
     let a = c .before .before .before .before in
-    let p = a .before in
+    let p = a .before .before in
     let e = p .before .before in
     let s = e .args .s .now in
     let A = e .pre .0 in
@@ -74,13 +100,20 @@ mark-node-spec =
     tie.close
     (tie.spec
     scope-requires
-    mask-at-requires
-    masters-of-requires
     mul-masters
     element-write-masters
     mul-singles
     element-write-singles
-    mask-at-requires-2
     mul-dos
     element-write-dos
-    returns)
+    returns
+    mask-at-requires
+    masters-of-requires
+    mul-masters-2
+    element-write-masters-2
+    mul-singles-2
+    element-write-singles-2
+    mask-at-requires-2
+    mul-dos-2
+    element-write-dos-2
+    returns-2)

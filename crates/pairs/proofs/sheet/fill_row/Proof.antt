@@ -1,71 +1,63 @@
--- `pairs::sheet::fill_row` meets its contract. The loop's invariant: the entries passed are those of the row.
+-- `pairs::sheet::fill_row` meets its contract.
 -- Assumes nothing.
-use mathlib.Core.Path.{_≡_, _∙_}
-use Prim.Native.Nat.{ℕ, _≤_, _<_, _-_}
+use mathlib.Core.Path.{sym, _∙_}
+use mathlib.Core.Logic.{inl}
 use native.Mathlib.Omega.{arith}
-use lib.ListN.{length, getD, length-set}
-use Rattle.chart.specs.Format.{decode}
-use Rattle.chart.specs.Reading.{region}
-use Rattle.chart.proofs.Records.{nodes-length}
-use Rattle.pairs.specs.Sheet.{entry}
-use Rattle.pairs.proofs.Facts.{stored}
-use Rattle.pairs.proofs.Entries.{row-by}
+use borrow.Author.Needs.{needs}
+use Rattle.pairs.proofs.Entries.{entry-barrier, stop-barrier, no-stop, row-by}
 use Rattle.pairs.proofs.sheet.fill_row.Statement.{statement}
 use Rattle.pairs.proofs.sheet.fill_row.Tie as tie
 
-abbrev Inv-loop : tie.InvT-loop
-Inv-loop s chart a starts ends masters singles dos out₀ n b₀ out b =
-    (b ≤ chart .nodes) × (length out ≡ chart .nodes) × ((j : ℕ) → j < b → getD out j 0 ≡ entry (region (decode s)) a j)
+element-copy-out-if1 : tie.Need-element-copy-out-if1
+element-copy-out-if1 c = omega arith
 
-abbrev μ-loop : tie.MeasureT-loop
-μ-loop s chart a starts ends masters singles dos out₀ n b₀ out b = chart .nodes - b
+bar-row-requires : tie.Need-bar-row-requires
+bar-row-requires c κs = search needs
 
-loop-holds : tie.Need-loop-holds Inv-loop μ-loop
-loop-holds c = (omega arith, c .before .before .pre .3, λ j l. absurd (omega arith))
+same-length : tie.Need-same-length
+same-length c = search needs
 
-entry-requires : tie.Need-entry-requires Inv-loop μ-loop
-entry-requires c κs = let e = c .before .before .before .before in (e .pre .0, e .pre .1, omega arith, e .pre .2)
-
-slice-write-out : tie.Need-slice-write-out Inv-loop μ-loop
-slice-write-out c = omega arith
-
-add-b : tie.Need-add-b Inv-loop μ-loop
-add-b c = omega arith
-
-loop-less : tie.Need-loop-less Inv-loop μ-loop
-loop-less c = omega arith
-
-loop-again : tie.Need-loop-again Inv-loop μ-loop
-loop-again c =
-    let l = c .before .before in
-    let e = l .before .before .before in
-    let R = region (decode (e .args .s .now)) in (
-      omega arith,
-      length-set (l .loop .out) (l .loop .b) (c .entry .result) ∙ l .loop .inv .1,
-      stored (λ j v. v ≡ entry R (e .args .a) j) (l .loop .out) (l .loop .b) (c .entry .result) (omega (arith, l .loop .inv .1)) (c .entry .ensures) (l .loop .inv .2),
+returns : tie.Need-returns
+returns c R q M S K =
+    let b = c .before .before in
+    let t = b .before .before in
+    let e = t .before .before .before in
+    let a = e .args .a in (
+      row-by R a _ (b .bar-row .ensures .0 ∙ e .pre .3 ∙ sym q)
+          (λ j h. b .bar-row .ensures .1 j (omega (arith, e .pre .3, q, h)) ∙ sym (entry-barrier R a j (inl (stop-barrier S a (t .if1 .taken))))),
+      K,
     )
 
-same-length : tie.Need-same-length Inv-loop μ-loop
-same-length c = omega arith
+keep-row-requires : tie.Need-keep-row-requires
+keep-row-requires c κs = search needs
 
-returns : tie.Need-returns Inv-loop μ-loop
-returns c =
-    let l = c .before in
-    let e = l .before .before .before in
-    let n = nodes-length _ (e .args .chart) (e .pre .0) in
-    row-by (region (decode (e .args .s .now))) (e .args .a) (l .loop .out) (omega (arith, n)) (λ b h. l .loop .inv .2 b (omega (arith, n)))
+copy-row-requires : tie.Need-copy-row-requires
+copy-row-requires c κs = let e = c .before .before .before .before .before .before .before in omega (arith, e .pre .0, e .pre .3)
+
+same-length-2 : tie.Need-same-length-2
+same-length-2 c = search needs
+
+returns-2 : tie.Need-returns-2
+returns-2 c R q M S K =
+    let y = c .before .before in
+    let k = y .before .before .before in
+    let t = k .before .before in
+    let e = t .before .before .before in
+    let a = e .args .a in
+    let (next, made) = k .keep-row .ensures R q M S (no-stop S a (t .if1 .left)) K in (
+      row-by R a _ (y .copy-row .ensures .0 ∙ e .pre .3 ∙ sym q) (λ j h. y .copy-row .ensures .1 j (omega (arith, e .pre .3, q, h)) ∙ made j (omega (arith, q, h))),
+      next,
+    )
 
 pub fill-row-spec : {M : Type 1} → statement M
 fill-row-spec =
     tie.close
     (tie.spec
-    Inv-loop
-    μ-loop
-    loop-holds
-    entry-requires
-    slice-write-out
-    add-b
-    loop-less
-    loop-again
+    element-copy-out-if1
+    bar-row-requires
     same-length
-    returns)
+    returns
+    keep-row-requires
+    copy-row-requires
+    same-length-2
+    returns-2)

@@ -1,0 +1,83 @@
+-- `judge::claims::bad_numbers` meets its contract: after j turns the first j numbers are looked at.
+-- Assumes nothing.
+use mathlib.Core.Path.{_≡_, refl, _∙_}
+use mathlib.Core.Bool.{Bool}
+use mathlib.Core.List.{List}
+use Prim.Native.Nat.{ℕ, _-_, _≤_}
+use native.Mathlib.Omega.{arith}
+use native.Mathlib.Numerals.{add-one}
+use lib.ListN.{length, getD}
+use borrow.Author.Needs.{needs}
+use Rattle.lists.specs.Range.{any}
+use Rattle.chart.specs.Format.{decode}
+use Rattle.chart.specs.Reading.{region}
+use Rattle.pairs.specs.Numbers.{badNumber}
+use Rattle.judge.specs.Claims.{badNumbers}
+use Rattle.judge.proofs.claims.bad_numbers.Statement.{statement}
+use Rattle.judge.proofs.claims.bad_numbers.Tie as tie
+
+abbrev isBad : List ℕ → List ℕ → ℕ → Bool
+isBad s claims j = badNumber (region (decode s)) (getD claims j 0)
+
+abbrev Inv-loop : tie.InvT-loop
+Inv-loop s claims bad n found₀ j₀ found j = (j ≤ length claims) × (found ≡ any j (isBad s claims))
+
+abbrev μ-loop : tie.MeasureT-loop
+μ-loop s claims bad n found₀ j₀ found j = length claims - j
+
+mark-bad-requires : tie.Need-mark-bad-requires Inv-loop μ-loop
+mark-bad-requires c κs = search needs
+
+loop-holds : tie.Need-loop-holds Inv-loop μ-loop
+unfolding any
+loop-holds c = (omega arith, refl)
+
+shared-slice-read-wide : tie.Need-shared-slice-read-wide Inv-loop μ-loop
+shared-slice-read-wide c = omega arith
+
+wide-requires : tie.Need-wide-requires Inv-loop μ-loop
+wide-requires c κs = search needs
+
+array-read-either : tie.Need-array-read-either Inv-loop μ-loop
+array-read-either c = omega (arith, c .wide .ensures .1)
+
+either-requires : tie.Need-either-requires Inv-loop μ-loop
+either-requires c κs = search needs
+
+add-j : tie.Need-add-j Inv-loop μ-loop
+add-j c = omega arith
+
+loop-less : tie.Need-loop-less Inv-loop μ-loop
+loop-less c = omega arith
+
+loop-again : tie.Need-loop-again Inv-loop μ-loop
+unfolding any
+loop-again c =
+    let w = c .before in
+    let l = w .before .before .before in
+    let marked = l .before .mark-bad .ensures (w .wide .result) (w .wide .ensures .1) in
+    (omega arith, c .either .ensures ∙ rw (marked, w .wide .ensures .0, l .loop .inv .1, add-one (l .loop .j)))
+
+returns : tie.Need-returns Inv-loop μ-loop
+unfolding badNumbers
+returns c =
+    let l = c .before in
+    let q : l .loop .j ≡ length (l .before .before .before .before .before .args .claims .now) = omega arith in
+    rw q at (l .loop .inv .1)
+
+pub bad-numbers-spec : {M : Type 1} → statement M
+bad-numbers-spec =
+    tie.close
+    (tie.spec
+    Inv-loop
+    μ-loop
+    mark-bad-requires
+    loop-holds
+    shared-slice-read-wide
+    wide-requires
+    array-read-either
+    either-requires
+    add-j
+    loop-less
+    loop-again
+    returns)

@@ -1,0 +1,67 @@
+-- `judge::claims::first_false` meets its contract. The loop's invariant: none of the claims passed is false.
+-- Assumes nothing.
+use mathlib.Core.Path.{_≡_, refl, ap, sym, _∙_}
+use mathlib.Core.Bool.{false}
+use Prim.Native.Nat.{ℕ, _-_, _/_, _≤_}
+use native.Mathlib.Omega.{arith}
+use lib.ListN.{length}
+use Rattle.lists.specs.Range.{any, at-any, any-more, first-is}
+use Rattle.chart.specs.Region.{Region}
+use Rattle.pairs.specs.Marks.{Marks}
+use Rattle.judge.specs.Claims.{total, badNumbers, isFalse}
+use Rattle.judge.specs.Judged.{verdict}
+use Rattle.judge.proofs.claims.first_false.Statement.{statement}
+use Rattle.judge.proofs.claims.first_false.Tie as tie
+
+abbrev Inv-loop : tie.InvT-loop
+Inv-loop claims starts ends masters singles dos n k₀ k =
+    (k ≤ length claims / 2) × ((R : Region) → Marks R starts ends masters singles dos → badNumbers R claims ≡ false → any k (isFalse R claims) ≡ false)
+
+abbrev μ-loop : tie.MeasureT-loop
+μ-loop claims starts ends masters singles dos n k₀ k = length claims / 2 - k
+
+loop-holds : tie.Need-loop-holds Inv-loop μ-loop
+unfolding any
+loop-holds c = (omega arith, λ R M h. refl)
+
+is-false-requires : tie.Need-is-false-requires Inv-loop μ-loop
+is-false-requires c κs = (omega arith, c .before .before .before .pre)
+
+returns : tie.Need-returns Inv-loop μ-loop
+unfolding verdict total
+returns c R M h =
+    let l = c .before .before .before in
+    let claims = l .before .before .args .claims .now in
+    let p = sym (c .before .is-false .ensures R M h) ∙ c .if1 .taken in
+    rw (at-any (length claims / 2) (isFalse R claims) (l .loop .k) (omega arith) p, first-is (length claims / 2) (isFalse R claims) (l .loop .k) (omega arith) p (l .loop .inv .1 R M h))
+
+add-k : tie.Need-add-k Inv-loop μ-loop
+add-k c = omega arith
+
+loop-less : tie.Need-loop-less Inv-loop μ-loop
+loop-less c = omega arith
+
+loop-again : tie.Need-loop-again Inv-loop μ-loop
+loop-again c =
+    (omega arith, λ R M h. any-more _ _ (c .before .before .before .loop .inv .1 R M h) (sym (c .before .is-false .ensures R M h) ∙ c .if1 .left))
+
+returns-2 : tie.Need-returns-2 Inv-loop μ-loop
+unfolding verdict total
+returns-2 c R M h =
+    let claims = c .before .before .before .args .claims .now in
+    let q : length claims / 2 ≡ c .before .loop .k = omega arith in
+    rw (ap (λ (n : ℕ). any n (isFalse R claims)) q ∙ c .before .loop .inv .1 R M h)
+
+pub first-false-spec : {M : Type 1} → statement M
+first-false-spec =
+    tie.close
+    (tie.spec
+    Inv-loop
+    μ-loop
+    loop-holds
+    is-false-requires
+    returns
+    add-k
+    loop-less
+    loop-again
+    returns-2)

@@ -1,0 +1,64 @@
+-- `judge::claims::is_false` meets its contract.
+-- Assumes nothing.
+use mathlib.Core.Path.{sym, subst}
+use Prim.Native.Nat.{_+_, _*_}
+use native.Mathlib.Omega.{arith}
+use borrow.Author.Needs.{needs}
+use Rattle.paths.specs.Path.{Open}
+use Rattle.judge.specs.Claims.{left, right, isFalse}
+use Rattle.judge.specs.CorrectLaws.{good-numbers}
+use Rattle.judge.proofs.claims.is_false.Statement.{statement}
+use Rattle.judge.proofs.claims.is_false.Tie as tie
+
+mul-wide : tie.Need-mul-wide
+mul-wide c = search needs
+
+shared-slice-read-wide : tie.Need-shared-slice-read-wide
+shared-slice-read-wide c = search needs
+
+wide-requires : tie.Need-wide-requires
+wide-requires c κs = search needs
+
+mul-wide-2 : tie.Need-mul-wide-2
+mul-wide-2 c = search needs
+
+add-wide : tie.Need-add-wide
+add-wide c = search needs
+
+shared-slice-read-wide-2 : tie.Need-shared-slice-read-wide-2
+shared-slice-read-wide-2 c = search needs
+
+wide-requires-2 : tie.Need-wide-requires-2
+wide-requires-2 c κs = search needs
+
+pair-requires : tie.Need-pair-requires
+pair-requires c κs =
+    let e = c .before .before .before .before .before in
+    let k = e .args .k in
+    (omega (arith, c .before .before .wide .ensures .0, e .pre .1 (2 * k)), omega (arith, c .wide2 .ensures .0, e .pre .1 (2 * k + 1)))
+
+returns : tie.Need-returns
+unfolding isFalse left right
+returns c R M h =
+    let e = c .before .before .before .before .before .before in
+    let k = e .args .k in
+    let a = c .before .before .before .wide .ensures .0 in
+    let b = c .before .wide2 .ensures .0 in
+    let (below-a, open-a) = good-numbers R _ h (2 * k) (omega arith) in
+    let (below-b, open-b) = good-numbers R _ h (2 * k + 1) (omega arith) in
+    let r = c .pair .ensures R M (omega (arith, a, below-a)) (omega (arith, b, below-b)) (subst (Open R) (sym a) open-a) (subst (Open R) (sym b) open-b) in
+    cc (r, a, b)
+
+pub is-false-spec : {M : Type 1} → statement M
+is-false-spec =
+    tie.close
+    (tie.spec
+    mul-wide
+    shared-slice-read-wide
+    wide-requires
+    mul-wide-2
+    add-wide
+    shared-slice-read-wide-2
+    wide-requires-2
+    pair-requires
+    returns)

@@ -1,0 +1,49 @@
+-- `judge::claims::judge_claims` meets its contract: row 12, then row 13, then the verdict.
+-- Assumes nothing.
+use mathlib.Core.Path.{sym, _∙_}
+use Prim.Native.Nat.{_%_}
+use native.Mathlib.Omega.{arith}
+use lib.ListN.{length}
+use borrow.Author.Needs.{needs}
+use borrow.Author.Tests.{eq-eqb, ne-eqb}
+use Rattle.chart.specs.Format.{decode}
+use Rattle.chart.specs.Reading.{region}
+use Rattle.chart.specs.Refusal.{firstOf}
+use Rattle.judge.specs.Claims.{oddBytes}
+use Rattle.judge.specs.Judged.{claimRows, answered}
+use Rattle.judge.proofs.Facts.{numbers-fit}
+use Rattle.judge.proofs.claims.judge_claims.Statement.{statement}
+use Rattle.judge.proofs.claims.judge_claims.Tie as tie
+
+returns : tie.Need-returns
+unfolding answered firstOf claimRows oddBytes
+returns c = rw (eq-eqb (length (c .before .before .before .args .claims .now) % 2) 1 (omega (arith, c .if1 .taken)))
+
+bad-numbers-requires : tie.Need-bad-numbers-requires
+bad-numbers-requires c κs = search needs
+
+returns-2 : tie.Need-returns-2
+unfolding answered firstOf claimRows oddBytes
+returns-2 c =
+    let e = c .before .before .before .before .before in
+    let even = ne-eqb (length (e .args .claims .now) % 2) 1 (omega (arith, c .before .before .if1 .left)) in
+    rw (even, sym (c .before .bad-numbers .ensures) ∙ c .if2 .taken)
+
+first-false-requires : tie.Need-first-false-requires
+first-false-requires c κs =
+    let e = c .before .before .before .before .before in
+    numbers-fit (region (decode (e .args .s .now))) _ (e .pre .1 .few) (sym (c .before .bad-numbers .ensures) ∙ c .if2 .left)
+
+returns-3 : tie.Need-returns-3
+unfolding answered firstOf claimRows oddBytes
+returns-3 c =
+    let b = c .before .before in
+    let e = b .before .before .before .before in
+    let even = ne-eqb (length (e .args .claims .now) % 2) 1 (omega (arith, b .before .if1 .left)) in
+    let good = sym (b .bad-numbers .ensures) ∙ c .before .if2 .left in
+    rw (even, good) (c .first-false .ensures _ (e .pre .1) good)
+
+pub judge-claims-spec : {M : Type 1} → statement M
+judge-claims-spec =
+    tie.close
+    (tie.spec returns bad-numbers-requires returns-2 first-false-requires returns-3)

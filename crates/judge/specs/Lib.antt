@@ -1,0 +1,4 @@
+pub mod Claims
+pub mod Judged
+pub mod Correct
+pub mod CorrectLaws
