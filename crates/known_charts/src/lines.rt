@@ -1,19 +1,22 @@
 // Spelt charts, one on each line: name, nodes, edges and constructs, with a / between them. After one more / comes the trailer in
-// hexadecimal; where it is left out it follows from the parts. A line with a # in front is a comment.
+// hexadecimal; where it is left out it follows from the parts. A line with a ? in front has pairs of nodes of the chart above it, and one
+// with a # in front is a comment.
 use crate::report::report_before;
+use crate::report::report_pair_before;
 use crate::spelling::put;
 use crate::spelling::value;
 use crate::trailer::Ends;
 use crate::trailer::put_trailer;
 
 // How far a line has been read: the part, the place for its next byte, where the nodes and the edges end, and the first half of a byte of
-// the trailer.
+// the trailer or of a pair; and how long the chart above it is.
 struct Line {
     part: u8,
     at: usize,
     nodes: usize,
     edges: usize,
     half: u8,
+    above: usize,
 }
 
 impl Line {
@@ -27,17 +30,20 @@ impl Line {
 
     const TRAILER: u8 = 4;
 
-    const COMMENT: u8 = 5;
-    // No half of a byte has been read.
+    const PAIRS: u8 = 5;
+
+    const COMMENT: u8 = 6;
+    // No half has been read.
     const WHOLE: u8 = 255;
 
-    fn new(part: u8) -> Line {
+    fn new(part: u8, above: usize) -> Line {
         Line {
             part: part,
             at: 0,
             nodes: 0,
             edges: 0,
             half: Line::WHOLE,
+            above: above,
         }
     }
 
@@ -69,9 +75,22 @@ impl Line {
         self.byte(out, self.half % 16 * 16 + digit % 16)
     }
 
+    fn node(mut self, out: &mut [u8], node: u8) -> Line {
+        if self.half == Line::WHOLE {
+            self.half = node;
+            return self;
+        }
+        report_pair_before(out, self.above, self.half, node);
+        self.half = Line::WHOLE;
+        self
+    }
+
     fn letter(self, out: &mut [u8], letter: u8) -> Line {
         if self.part == Line::COMMENT {
             return self;
+        }
+        if self.part == Line::PAIRS {
+            return self.node(out, value(letter));
         }
         if self.part == Line::NAME {
             io::write_all(1, &[letter]);
@@ -83,13 +102,14 @@ impl Line {
         self.byte(out, value(letter))
     }
 
-    fn end(self, out: &mut [u8]) {
+    // The length of the chart that ends with this line, or of the one above it.
+    fn end(self, out: &mut [u8]) -> usize {
         if self.part == Line::TRAILER {
             report_before(out, self.at);
-            return;
+            return self.at;
         }
         if self.part != Line::CONSTRUCTS {
-            return;
+            return self.above;
         }
         let ends = Ends {
             nodes: self.nodes,
@@ -98,15 +118,14 @@ impl Line {
         };
         let length = put_trailer(out, ends);
         report_before(out, length);
+        length
     }
 
     fn read(self, out: &mut [u8], letter: u8) -> Line {
         match letter {
-            b'\n' => {
-                self.end(out);
-                Line::new(Line::NAME)
-            }
-            b'#' => Line::new(Line::COMMENT),
+            b'\n' => Line::new(Line::NAME, self.end(out)),
+            b'#' => Line::new(Line::COMMENT, self.above),
+            b'?' => Line::new(Line::PAIRS, self.above),
             b'/' => self.next(),
             b' ' => self,
             _ => self.letter(out, letter),
@@ -116,7 +135,7 @@ impl Line {
 
 // Writes a line for each chart of a text.
 pub fn read_lines(out: &mut [u8], text: &[u8]) {
-    let mut line = Line::new(Line::NAME);
+    let mut line = Line::new(Line::NAME, 0);
     let mut i = 0;
     while i < text.len() {
         line = line.read(out, text[i]);

@@ -1,5 +1,5 @@
-// Runs the refusals over charts with known answers, whole and damaged, and writes a line for each: those spelt in standard input, then
-// those at the limits.
+// Runs the library over charts with known answers, whole and damaged, and writes a line for each, and one for each pair asked for: those
+// spelt in standard input, then those at the limits.
 mod limits;
 mod lines;
 mod report;

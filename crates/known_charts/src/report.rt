@@ -1,37 +1,58 @@
-// What the refusals answer, as the rest of a chart's line.
+// What the library answers for a chart and for pairs of its nodes, as text.
+use bohrali::pair::Answered;
+use bohrali::pair::pair;
 use chart::cursor::wide;
-use chart::format::Chart;
-use chart::format::Checked;
-use refusals::check::check;
-use refusals::check::number;
+use chart::format::Refusal;
+use phases::admit::Admission;
+use phases::admit::Counts;
+use phases::admit::admit;
 
-fn print_count(count: usize, what: &[u8]) {
-    io::write_all(1, b" ");
-    io::print_decimal(1, count as u64);
-    io::write_all(1, what);
+fn print_number(word: &[u8], number: usize) {
+    io::write_all(1, word);
+    io::print_decimal(1, number as u64);
 }
 
-fn print_counts(chart: Chart) {
-    io::write_all(1, b" passed");
-    print_count(chart.nodes, b" nodes");
-    print_count(chart.edges, b" edges");
-    print_count(chart.constructs, b" constructs\n");
+fn print_counts(counts: Counts) {
+    print_number(b" admitted ", counts.nodes);
+    print_number(b" nodes ", counts.barriers);
+    print_number(b" barriers ", counts.phases);
+    io::write_all(1, b" phases\n");
+}
+
+fn print_refusal(refusal: Refusal) {
+    print_number(b" refused ", wide(refusal.number));
+    io::write_all(1, b"\n");
 }
 
 fn report(s: &[u8]) {
-    let answer = check(s);
-    match answer {
-        Checked::Passed(chart) => print_counts(chart),
-        Checked::Refused(_) => {
-            io::write_all(1, b" refused");
-            print_count(wide(number(answer)), b"\n");
-        }
+    match admit(s) {
+        Admission::Admitted(counts) => print_counts(counts),
+        Admission::Refused(refusal) => print_refusal(refusal),
     }
 }
 
-// The answer for the bytes of a buffer before `end`.
+// The rest of the line for the chart in the bytes of a buffer before `end`.
 pub fn report_before(buffer: &[u8], end: usize) {
     if end <= buffer.len() {
         report(&buffer[0..end]);
+    }
+}
+
+fn report_pair(s: &[u8], a: usize, b: usize) {
+    match pair(s, a, b) {
+        Answered::Answer(answer) => {
+            print_number(b" answered ", wide(answer.number));
+            io::write_all(1, b"\n");
+        }
+        Answered::Refused(refusal) => print_refusal(refusal),
+    }
+}
+
+// A line for a pair of nodes of that chart.
+pub fn report_pair_before(buffer: &[u8], end: usize, a: u8, b: u8) {
+    if end <= buffer.len() {
+        print_number(b"  pair ", wide(a));
+        print_number(b" ", wide(b));
+        report_pair(&buffer[0..end], wide(a), wide(b));
     }
 }

@@ -15,7 +15,7 @@ use Rattle.chart.specs.Format.{outside, Construct, constructAt}
 use Rattle.chart.specs.Scope.{encloses, Encloses, here, up, parentOf}
 use Rattle.chart.specs.Nesting.{excluded, wronglyAbove}
 use Rattle.chart.specs.Refusal.{badAlone}
-use Rattle.chart.proofs.Tree.{Below, below-more, computed, computes, outside-encloses, higher}
+use Rattle.chart.proofs.Tree.{Below, below-more, computed, computes, more-fuel, outside-encloses, higher}
 use Rattle.chart.proofs.NestingFacts.{ConstructFits, construct-fits}
 
 -- past the last construct stands one of no kind
@@ -23,12 +23,13 @@ pub no-construct : (cs : List Construct) → length cs ≤ 48 → constructAt cs
 unfolding constructAt
 no-construct cs h = ap (λ (k : Construct). k .kind) (List·getD-eq-default cs (record { kind = 0; parent = outside; name = 0 }) (omega arith))
 
-module _ (cs : List Construct) (alone : any (length cs) (badAlone cs) ≡ false) where
-  pub fits : (k : ℕ) → k < length cs → ConstructFits k (constructAt cs k .kind) (constructAt cs k .parent) (constructAt cs k .name)
+-- what the first m constructs have that are in order by themselves
+module _ (cs : List Construct) (m : ℕ) (alone : any m (badAlone cs) ≡ false) where
+  pub fits : (k : ℕ) → k < m → ConstructFits k (constructAt cs k .kind) (constructAt cs k .parent) (constructAt cs k .name)
   unfolding badAlone
-  fits k l = construct-fits k (constructAt cs k .kind) (constructAt cs k .parent) (constructAt cs k .name) (none-passes (length cs) (badAlone cs) alone k l)
+  fits k l = construct-fits k (constructAt cs k .kind) (constructAt cs k .parent) (constructAt cs k .name) (none-passes m (badAlone cs) alone k l)
 
-  pub parents : (k : ℕ) → k < length cs → Below k (parentOf cs k)
+  pub parents : (k : ℕ) → k < m → Below k (parentOf cs k)
   unfolding parentOf
   parents k l = fits k l .parent-lower
 
@@ -38,7 +39,7 @@ against cs c k = excluded (constructAt cs c .kind) (constructAt cs c .name) (con
 
 -- The walk upwards from the parent of c has come to p: p stands above c, and what stands above c and not at or above p may stand there.
 pub record Walked (cs : List Construct) (c p : ℕ) : Type 0 where
-  pub place : Below (length cs) p
+  pub place : Below c p
   pub above : p ≢ outside → Encloses (parentOf cs) (parentOf cs c) p
   pub passed : (k : ℕ) → Encloses (parentOf cs) (parentOf cs c) k → Encloses (parentOf cs) p k ⊎ (against cs c k ≡ false)
 
@@ -46,20 +47,23 @@ one-up : (cs : List Construct) (c : ℕ) {p k : ℕ} → against cs c p ≡ fals
 one-up cs c f (here n) = inr f
 one-up cs c f (up n e) = inl e
 
-module _ (cs : List Construct) (alone : any (length cs) (badAlone cs) ≡ false) {c : ℕ} where
-  pub walk-start : c < length cs → Walked cs c (parentOf cs c)
-  walk-start l = record {
-    place = below-more (omega arith) (parents cs alone c l);
+module _ (cs : List Construct) {c : ℕ} (alone : any (c + 1) (badAlone cs) ≡ false) where
+  parent-below : (k : ℕ) → k ≤ c → Below k (parentOf cs k)
+  parent-below k l = parents cs (c + 1) alone k (omega arith)
+
+  pub walk-start : Walked cs c (parentOf cs c)
+  walk-start = record {
+    place = parent-below c (omega arith);
     above = λ n. here n;
     passed = λ k e. inl e;
   }
 
-  pub place-below : {p : ℕ} → Walked cs c p → p ≢ outside → p < length cs
+  pub place-below : {p : ℕ} → Walked cs c p → p ≢ outside → p < c
   place-below w n = elim (w .place) [ inl q ↦ absurd (n q) | inr l ↦ l ]
 
   pub walk-more : {p : ℕ} → Walked cs c p → p ≢ outside → against cs c p ≡ false → Walked cs c (parentOf cs p)
   walk-more {p} w n f = record {
-    place = below-more (omega (arith, place-below w n)) (parents cs alone p (place-below w n));
+    place = below-more (omega (arith, place-below w n)) (parent-below p (omega (arith, place-below w n)));
     above = λ m. higher (w .above n) (here m);
     passed = λ k e. elim (w .passed k e) [ inl g ↦ one-up cs c f g | inr g ↦ inr g ];
   }
@@ -67,8 +71,9 @@ module _ (cs : List Construct) (alone : any (length cs) (badAlone cs) ≡ false)
   pub walk-found : {p : ℕ} → c < length cs → Walked cs c p → p ≢ outside → against cs c p ≡ true → any (length cs) (wronglyAbove cs c) ≡ true
   unfolding wronglyAbove
   walk-found {p} l w n f =
-      let e = computes (parentOf cs) (length cs) (parents cs alone) (w .above n) (length cs) (omega arith) (below-more (omega arith) (parents cs alone c l)) in
-      at-any (length cs) (wronglyAbove cs c) p (place-below w n) (both-and (encloses (parentOf cs) (length cs) (parentOf cs c) p) (against cs c p) e f)
+      let near = computes (parentOf cs) c (λ k h. parent-below k (omega arith)) (w .above n) c (omega arith) (parent-below c (omega arith)) in
+      let e = more-fuel (parentOf cs) c (length cs) (parentOf cs c) p (omega arith) near in
+      at-any (length cs) (wronglyAbove cs c) p (omega (arith, place-below w n)) (both-and (encloses (parentOf cs) (length cs) (parentOf cs c) p) (against cs c p) e f)
 
   pub walk-end : {p : ℕ} → Walked cs c p → p ≡ outside → any (length cs) (wronglyAbove cs c) ≡ false
   unfolding wronglyAbove

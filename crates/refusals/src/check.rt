@@ -2,7 +2,7 @@
 ghost use mathlib.Core.Path.{_≡_};
 ghost use Rattle.chart.specs.Format.{decode};
 ghost use Rattle.chart.specs.Refusal.{firstOf, tableRows};
-ghost use Rattle.chart.specs.Checked.{Laid, answer, checked, numberOf};
+ghost use Rattle.chart.specs.Checked.{Laid, answer, checked};
 use crate::constructs::bad_constructs;
 use crate::trailer::read_trailer;
 use chart::format::Chart;
@@ -43,15 +43,5 @@ pub fn check(s: &[u8]) -> Checked
     match read_trailer(s) {
         Checked::Refused(refusal) => Checked::Refused(refusal),
         Checked::Passed(chart) => check_tables(s, chart),
-    }
-}
-
-// 01's number for what checking answers.
-pub fn number(answer: Checked) -> u8
-    ensures { λ r. ⌜ r ≡ numberOf answer ⌝ }
-{
-    match answer {
-        Checked::Passed(_) => 0,
-        Checked::Refused(refusal) => refusal.number,
     }
 }

@@ -1,7 +1,7 @@
 // Row 6 of the refusals, over the constructs.
 ghost use mathlib.Core.Path.{_≡_};
-ghost use mathlib.Core.Bool.{true, false, _&&_, not};
-ghost use Prim.Native.Nat.{_-_, _≤_, _<_};
+ghost use mathlib.Core.Bool.{false, _&&_, _||_, not};
+ghost use Prim.Native.Nat.{_+_, _-_, _≤_, _<_};
 ghost use lib.Dec.{eqb, ltb};
 ghost use lib.ListN.{length};
 ghost use Rattle.lists.specs.Range.{any};
@@ -51,22 +51,6 @@ fn bad_construct(construct: Construct, c: usize) -> bool
     bad_name(kind, construct.name)
 }
 
-// Row 6, of all constructs by themselves.
-fn bad_alone(s: &[u8], chart: Chart) -> bool
-    requires { ⌜ Laid (now s) chart ⌝ }
-    ensures { λ r. ⌜ r ≡ any (length (decode (now (s .entry)) .constructs)) (badAlone (decode (now (s .entry)) .constructs)) ⌝ }
-{
-    let n = chart.constructs;
-    let mut c = 0;
-    while c < n {
-        if bad_construct(Construct::read(s, chart, c), c) {
-            return true;
-        }
-        c += 1;
-    }
-    false
-}
-
 // Whether `outer` may not stand above `inner`, by the table and the names.
 fn excludes(table: &[[bool; 5]; 5], inner: Construct, outer: Construct) -> bool
     requires { ⌜ NestingTable (now table) × (1 ≤ inner .kind) × (inner .kind ≤ 5) × (1 ≤ outer .kind) × (outer .kind ≤ 5) ⌝ }
@@ -90,7 +74,7 @@ fn excludes(table: &[[bool; 5]; 5], inner: Construct, outer: Construct) -> bool
 
 // Whether some construct above c may not stand there. Parents are lower, so the walk upwards ends.
 fn bad_above(s: &[u8], chart: Chart, table: &[[bool; 5]; 5], c: usize) -> bool
-    requires { ⌜ Laid (now s) chart × NestingTable (now table) × (c < chart .constructs) × (any (length (decode (now s) .constructs)) (badAlone (decode (now s) .constructs)) ≡ false) ⌝ }
+    requires { ⌜ Laid (now s) chart × NestingTable (now table) × (c < chart .constructs) × (any (c + 1) (badAlone (decode (now s) .constructs)) ≡ false) ⌝ }
     ensures { λ r. ⌜ r ≡ any (length (decode (now (s .entry)) .constructs)) (wronglyAbove (decode (now (s .entry)) .constructs) c) ⌝ }
 {
     let inner = Construct::read(s, chart, c);
@@ -107,7 +91,7 @@ fn bad_above(s: &[u8], chart: Chart, table: &[[bool; 5]; 5], c: usize) -> bool
 
 // Whether c is an ordered whose parent is no do.
 fn stray_ordered(s: &[u8], chart: Chart, c: usize) -> bool
-    requires { ⌜ Laid (now s) chart × (c < chart .constructs) × (any (length (decode (now s) .constructs)) (badAlone (decode (now s) .constructs)) ≡ false) ⌝ }
+    requires { ⌜ Laid (now s) chart × (c < chart .constructs) × (any (c + 1) (badAlone (decode (now s) .constructs)) ≡ false) ⌝ }
     ensures { λ r. ⌜ r ≡ strayOrdered (decode (now (s .entry)) .constructs) c ⌝ }
 {
     let construct = Construct::read(s, chart, c);
@@ -121,18 +105,29 @@ fn stray_ordered(s: &[u8], chart: Chart, c: usize) -> bool
     Construct::read(s, chart, wide(parent)).kind != Construct::DO
 }
 
-// Row 6, nesting: whether some construct breaks the table's rule.
+// Row 6, of construct c, given that those below it are in order by themselves.
+fn bad_at(s: &[u8], chart: Chart, table: &[[bool; 5]; 5], c: usize) -> bool
+    requires { ⌜ Laid (now s) chart × NestingTable (now table) × (c < chart .constructs) × (any c (badAlone (decode (now s) .constructs)) ≡ false) ⌝ }
+    ensures { λ r. ⌜ r ≡ (badAlone (decode (now (s .entry)) .constructs) c || misnested (decode (now (s .entry)) .constructs) c) ⌝ }
+{
+    if bad_construct(Construct::read(s, chart, c), c) {
+        return true;
+    }
+    if bad_above(s, chart, table, c) {
+        return true;
+    }
+    stray_ordered(s, chart, c)
+}
+
+// Row 6, by the nesting table.
 fn bad_nesting(s: &[u8], chart: Chart, table: [[bool; 5]; 5]) -> bool
-    requires { ⌜ Laid (now s) chart × NestingTable table × (any (length (decode (now s) .constructs)) (badAlone (decode (now s) .constructs)) ≡ false) ⌝ }
-    ensures { λ r. ⌜ r ≡ any (length (decode (now (s .entry)) .constructs)) (misnested (decode (now (s .entry)) .constructs)) ⌝ }
+    requires { ⌜ Laid (now s) chart × NestingTable table ⌝ }
+    ensures { λ r. ⌜ r ≡ badConstructs (decode (now (s .entry))) ⌝ }
 {
     let n = chart.constructs;
     let mut c = 0;
     while c < n {
-        if bad_above(s, chart, &table, c) {
-            return true;
-        }
-        if stray_ordered(s, chart, c) {
+        if bad_at(s, chart, &table, c) {
             return true;
         }
         c += 1;
@@ -145,8 +140,5 @@ pub fn bad_constructs(s: &[u8], chart: Chart) -> bool
     requires { ⌜ Laid (now s) chart ⌝ }
     ensures { λ r. ⌜ r ≡ badConstructs (decode (now (s .entry))) ⌝ }
 {
-    if bad_alone(s, chart) {
-        return true;
-    }
     bad_nesting(s, chart, Chart::NESTING)
 }

@@ -1,7 +1,7 @@
 -- `refusals::constructs::bad_above` meets its contract.
 -- Assumes nothing.
 use mathlib.Core.Path.{_≡_, sym, subst, _∙_}
-use Prim.Native.Nat.{ℕ, _<_}
+use Prim.Native.Nat.{ℕ, _+_, _<_}
 use native.Mathlib.Omega.{arith}
 use borrow.Author.Needs.{needs}
 use Rattle.chart.specs.Scope.{parentOf}
@@ -25,8 +25,7 @@ unfolding parentOf
 loop-holds c =
     let e = c .before .before in
     let cs = decode (e .args .s .now) .constructs in
-    let n = constructs-length _ (e .args .chart) (e .pre .0) in
-    subst (Walked cs (e .args .c)) (sym (c .read .ensures .1)) (walk-start cs (e .pre .3) (omega (arith, n, e .pre .2)))
+    subst (Walked cs (e .args .c)) (sym (c .read .ensures .1)) (walk-start cs (e .pre .3))
 
 wide-requires : tie.Need-wide-requires Inv-loop μ-loop
 wide-requires c κs = search needs
@@ -36,16 +35,15 @@ read-requires-2 c κs =
     let l = c .before .before in
     let e = l .before .before .before in
     let cs = decode (e .args .s .now) .constructs in
-    (e .pre .0, omega (arith, place-below cs (e .pre .3) (l .loop .inv) (c .before .loop-test .taken), constructs-length _ (e .args .chart) (e .pre .0), c .wide .ensures .0))
+    (e .pre .0, omega (arith, place-below cs (e .pre .3) (l .loop .inv) (c .before .loop-test .taken), e .pre .2, c .wide .ensures .0))
 
 excludes-requires : tie.Need-excludes-requires Inv-loop μ-loop
 excludes-requires c κs =
     let l = c .before .before .before in
     let e = l .before .before .before in
     let cs = decode (e .args .s .now) .constructs in
-    let n = constructs-length _ (e .args .chart) (e .pre .0) in
-    let i = fits cs (e .pre .3) (e .args .c) (omega (arith, n, e .pre .2)) in
-    let o = fits cs (e .pre .3) (l .loop .p) (place-below cs (e .pre .3) (l .loop .inv) (c .before .before .loop-test .taken)) in
+    let i = fits cs (e .args .c + 1) (e .pre .3) (e .args .c) (omega arith) in
+    let o = fits cs (e .args .c + 1) (e .pre .3) (l .loop .p) (omega (arith, place-below cs (e .pre .3) (l .loop .inv) (c .before .before .loop-test .taken))) in
     let r = l .before .read .ensures .0 in
     let q : c .read2 .result .kind ≡ constructAt cs (l .loop .p) .kind = cc (c .read2 .ensures .0, c .before .wide .ensures .0) in
     (e .pre .1, omega (arith, i .least, r), omega (arith, i .most, r), omega (arith, o .least, q), omega (arith, o .most, q))
@@ -82,7 +80,7 @@ loop-less c =
     let cs = decode (e .args .s .now) .constructs in
     let t = c .before .before .before .before .loop-test .taken in
     subst (λ (q : ℕ). height q < height (l .loop .p)) (sym (parent-read (c .before)))
-    (height-falls t (parents cs (e .pre .3) (l .loop .p) (place-below cs (e .pre .3) (l .loop .inv) t)))
+    (height-falls t (parents cs (e .args .c + 1) (e .pre .3) (l .loop .p) (omega (arith, place-below cs (e .pre .3) (l .loop .inv) t))))
 
 loop-again : tie.Need-loop-again Inv-loop μ-loop
 unfolding parentOf

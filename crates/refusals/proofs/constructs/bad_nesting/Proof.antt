@@ -1,20 +1,30 @@
 -- `refusals::constructs::bad_nesting` meets its contract.
 -- Assumes nothing.
-use mathlib.Core.Bool.{false}
 use mathlib.Core.Path.{_≡_, refl, sym, ap, _∙_}
+use mathlib.Core.List.{List}
+use mathlib.Core.Bool.{Bool, false, _||_}
 use Prim.Native.Nat.{ℕ, _≤_, _-_}
 use native.Mathlib.Omega.{arith}
 use lib.ListN.{length}
-use Rattle.lists.specs.Range.{any, at-any, any-more}
-use Rattle.lists.specs.Truth.{or-left, or-right}
-use Rattle.chart.specs.Nesting.{wronglyAbove, strayOrdered, misnested}
+use Rattle.lists.specs.Range.{any, at-any, any-more, any-or}
+use Rattle.lists.specs.Truth.{or-neither}
 use Rattle.chart.specs.Format.{decode}
+use Rattle.chart.specs.Nesting.{misnested}
+use Rattle.chart.specs.Refusal.{badAlone, badConstructs}
 use Rattle.chart.proofs.Records.{constructs-length}
 use Rattle.refusals.proofs.constructs.bad_nesting.Statement.{statement}
 use Rattle.refusals.proofs.constructs.bad_nesting.Tie as tie
 
+abbrev bad : List ℕ → ℕ → Bool
+bad s c = badAlone (decode s .constructs) c || misnested (decode s .constructs) c
+
+-- row 6, construct by construct
+row : (s : List ℕ) → any (length (decode s .constructs)) (bad s) ≡ badConstructs (decode s)
+unfolding badConstructs
+row s = let cs = decode s .constructs in any-or (length cs) (badAlone cs) (misnested cs)
+
 abbrev Inv-loop : tie.InvT-loop
-Inv-loop s chart table n c₀ c = (c ≤ chart .constructs) × (any c (misnested (decode s .constructs)) ≡ false)
+Inv-loop s chart table n c₀ c = (c ≤ chart .constructs) × (any c (bad s) ≡ false)
 
 abbrev μ-loop : tie.MeasureT-loop
 μ-loop s chart table n c₀ c = chart .constructs - c
@@ -23,31 +33,20 @@ loop-holds : tie.Need-loop-holds Inv-loop μ-loop
 unfolding any
 loop-holds c = (omega arith, refl)
 
-bad-above-requires : tie.Need-bad-above-requires Inv-loop μ-loop
-bad-above-requires c κs = let e = c .before .before .before .before in (e .pre .0, e .pre .1, omega arith, e .pre .2)
+bad-at-requires : tie.Need-bad-at-requires Inv-loop μ-loop
+bad-at-requires c κs =
+    let l = c .before .before in
+    let e = l .before .before in
+    let cs = decode (e .args .s .now) .constructs in
+    let k = l .loop .c in
+    (e .pre .0, e .pre .1, omega arith, or-neither (any k (badAlone cs)) _ (sym (any-or k (badAlone cs) (misnested cs)) ∙ l .loop .inv .1) .0)
 
 returns : tie.Need-returns Inv-loop μ-loop
-unfolding misnested
 returns c =
     let l = c .before .before .before .before in
     let e = l .before .before in
-    let cs = decode (e .args .s .now) .constructs in
-    let k = l .loop .c in
-    sym (at-any _ (misnested cs) k (omega (arith, constructs-length _ (e .args .chart) (e .pre .0)))
-    (or-left (any (length cs) (wronglyAbove cs k)) (strayOrdered cs k) (sym (c .before .bad-above .ensures) ∙ c .if1 .taken)))
-
-stray-ordered-requires : tie.Need-stray-ordered-requires Inv-loop μ-loop
-stray-ordered-requires c κs = let e = c .before .before .before .before .before .before in (e .pre .0, omega arith, e .pre .2)
-
-returns-2 : tie.Need-returns-2 Inv-loop μ-loop
-unfolding misnested
-returns-2 c =
-    let l = c .before .before .before .before .before .before in
-    let e = l .before .before in
-    let cs = decode (e .args .s .now) .constructs in
-    let k = l .loop .c in
-    sym (at-any _ (misnested cs) k (omega (arith, constructs-length _ (e .args .chart) (e .pre .0)))
-    (or-right (any (length cs) (wronglyAbove cs k)) (strayOrdered cs k) (sym (c .before .stray-ordered .ensures) ∙ c .if2 .taken)))
+    let s = e .args .s .now in
+    sym (sym (row s) ∙ at-any _ (bad s) (l .loop .c) (omega (arith, constructs-length _ (e .args .chart) (e .pre .0))) (sym (c .before .bad-at .ensures) ∙ c .if1 .taken))
 
 add-c : tie.Need-add-c Inv-loop μ-loop
 add-c c = omega arith
@@ -56,17 +55,16 @@ loop-less : tie.Need-loop-less Inv-loop μ-loop
 loop-less c = omega arith
 
 loop-again : tie.Need-loop-again Inv-loop μ-loop
-unfolding misnested
 loop-again c =
-    let a = c .before .before in
-    let l = a .before .before .before .before in
-    (omega arith, any-more (l .loop .c) _ (l .loop .inv .1) (rw (sym (a .before .bad-above .ensures) ∙ a .if1 .left) (sym (c .before .stray-ordered .ensures) ∙ c .if2 .left)))
+    let l = c .before .before .before .before in
+    (omega arith, any-more (l .loop .c) _ (l .loop .inv .1) (sym (c .before .bad-at .ensures) ∙ c .if1 .left))
 
-returns-3 : tie.Need-returns-3 Inv-loop μ-loop
-returns-3 c =
+returns-2 : tie.Need-returns-2 Inv-loop μ-loop
+returns-2 c =
     let e = c .before .before .before in
-    let q : length (decode (e .args .s .now) .constructs) ≡ c .before .loop .c = omega (arith, constructs-length _ (e .args .chart) (e .pre .0)) in
-    sym (ap (λ (k : ℕ). any k (misnested (decode (e .args .s .now) .constructs))) q ∙ c .before .loop .inv .1)
+    let s = e .args .s .now in
+    let q : length (decode s .constructs) ≡ c .before .loop .c = omega (arith, constructs-length _ (e .args .chart) (e .pre .0)) in
+    sym (sym (row s) ∙ ap (λ (k : ℕ). any k (bad s)) q ∙ c .before .loop .inv .1)
 
 pub bad-nesting-spec : {M : Type 1} → statement M
 bad-nesting-spec =
@@ -75,11 +73,9 @@ bad-nesting-spec =
     Inv-loop
     μ-loop
     loop-holds
-    bad-above-requires
+    bad-at-requires
     returns
-    stray-ordered-requires
-    returns-2
     add-c
     loop-less
     loop-again
-    returns-3)
+    returns-2)

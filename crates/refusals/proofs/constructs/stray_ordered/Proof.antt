@@ -2,6 +2,7 @@
 -- Assumes nothing.
 use mathlib.Core.Logic.{inl, inr}
 use mathlib.Core.Path.{_∙_, sym}
+use Prim.Native.Nat.{_+_}
 use native.Mathlib.Omega.{arith}
 use borrow.Author.Tests.{eq-eqb, ne-eqb}
 use borrow.Author.Needs.{needs}
@@ -38,8 +39,7 @@ read-requires-2 c κs =
     let r = c .before .before .before .before in
     let e = r .before .before in
     let cs = decode (e .args .s .now) .constructs in
-    let n = constructs-length _ (e .args .chart) (e .pre .0) in
-    let low = parents cs (e .pre .2) (e .args .c) (omega (arith, n, e .pre .1)) in
+    let low = parents cs (e .args .c + 1) (e .pre .2) (e .args .c) (omega arith) in
     (e .pre .0, elim low [ inl q ↦ absurd (c .before .if2 .left (r .read .ensures .1 ∙ q)) | inr l ↦ omega (arith, l, r .read .ensures .1, c .wide .ensures .0, e .pre .1) ])
 
 returns-3 : tie.Need-returns-3
