@@ -1,24 +1,97 @@
-//! The calls of the proved archive, as safe functions on slices. What is declared here is what
-//! include/bohrali.h declares.
+//! The archive's calls, through the safe wrapper, as the numbers that C gets. All bytes that are lent
+//! to them stand between pages that may not be touched.
 
-mod archive {
-    extern "C" {
-        pub fn bohrali_admit(chart: *const u8, chart_len: usize) -> i64;
-        pub fn bohrali_phases(
-            chart: *const u8,
-            chart_len: usize,
-            out: *mut u8,
-            out_len: usize,
-        ) -> i64;
+mod guarded;
+
+use bohrali::{Counts, Refusal, Verdict};
+use guarded::Guarded;
+
+/// Longer than any chart, list or result of the tests.
+const ROOM: usize = 80_000;
+
+/// The calls, with the bytes to be lent to them.
+pub struct Archive {
+    chart: Guarded,
+    claims: Guarded,
+    out: Guarded,
+}
+
+impl Default for Archive {
+    fn default() -> Archive {
+        Archive::new()
     }
 }
 
-pub fn admit(chart: &[u8]) -> i64 {
-    // SAFETY: the pointer and the length are those of a slice, which the call only reads.
-    unsafe { archive::bohrali_admit(chart.as_ptr(), chart.len()) }
+impl Archive {
+    pub fn new() -> Archive {
+        Archive {
+            chart: Guarded::new(ROOM),
+            claims: Guarded::new(ROOM),
+            out: Guarded::new(ROOM),
+        }
+    }
+
+    pub fn admit(&mut self, chart: &[u8]) -> i64 {
+        self.chart.with(chart, |lent| {
+            number(bohrali::admit(lent), |counts| {
+                let Counts {
+                    nodes,
+                    barriers,
+                    phases,
+                } = counts;
+                nodes + 256 * barriers + 65_536 * phases
+            })
+        })
+    }
+
+    pub fn judge(&mut self, chart: &[u8], claims: &[u8]) -> i64 {
+        let Archive {
+            chart: charts,
+            claims: lists,
+            ..
+        } = self;
+        charts.with(chart, |chart| {
+            lists.with(claims, |claims| {
+                number(bohrali::judge(chart, claims), |verdict| match verdict {
+                    Verdict::Pass => 0,
+                    Verdict::Fail(index) => index + 1,
+                })
+            })
+        })
+    }
+
+    pub fn pair(&mut self, chart: &[u8], a: usize, b: usize) -> i64 {
+        self.chart.with(chart, |lent| {
+            number(bohrali::pair(lent, a, b), |answer| answer as usize)
+        })
+    }
+
+    /// Phases into a buffer, which afterwards holds what the call left there.
+    pub fn phases(&mut self, chart: &[u8], out: &mut [u8]) -> i64 {
+        self.write(chart, out, bohrali::phases)
+    }
+
+    /// Sheet, in the same way.
+    pub fn sheet(&mut self, chart: &[u8], out: &mut [u8]) -> i64 {
+        self.write(chart, out, bohrali::sheet)
+    }
+
+    fn write(
+        &mut self,
+        chart: &[u8],
+        out: &mut [u8],
+        call: impl Fn(&[u8], &mut [u8]) -> Result<usize, Refusal>,
+    ) -> i64 {
+        let outs = &mut self.out;
+        self.chart.with(chart, |chart| {
+            outs.with_mut(out, |out| number(call(chart, out), |bytes| bytes))
+        })
+    }
 }
 
-pub fn phases(chart: &[u8], out: &mut [u8]) -> i64 {
-    // SAFETY: as above; `out` is borrowed for the call alone and does not overlap `chart`.
-    unsafe { archive::bohrali_phases(chart.as_ptr(), chart.len(), out.as_mut_ptr(), out.len()) }
+fn number<T>(result: Result<T, Refusal>, value: impl Fn(T) -> usize) -> i64 {
+    match result {
+        Ok(given) => value(given) as i64,
+        Err(refusal) => -i64::from(refusal.number()),
+    }
 }

@@ -1,61 +1,124 @@
-//! Admit and Phases of the archive against the second implementation: results, and every lent byte,
-//! on valid, damaged and random charts, with buffers longer and shorter than the result.
+//! Every call of the archive against the second implementation: results, and every lent byte, on
+//! valid, damaged and random charts, with buffers longer and shorter than the result.
 
 use charts::random::Random;
+use compare::Archive;
 use reference::calls;
 use std::io::Write;
 
 const CHARTS: usize = 100_000;
+/// A sheet is asked for of every so many charts: the plain implementation takes its time over one.
+const SHEETS: usize = 8;
 const SEED: u64 = 2_026_111_501;
 
 /// What a lent buffer holds before a call.
 const FILL: u8 = 0xA5;
 
-/// Buffers for a result of `result` bytes: none, one byte short, exact, and with a tail.
+/// A call that writes, by the plain implementation.
+type Writer = fn(&[u8], &mut [u8]) -> i64;
+
+/// The archive and how often each outcome was seen, 0 for what is not refused.
+struct Comparison {
+    archive: Archive,
+    outcomes: [usize; 14],
+}
+
+impl Comparison {
+    fn new() -> Comparison {
+        Comparison {
+            archive: Archive::new(),
+            outcomes: [0; 14],
+        }
+    }
+
+    fn agree(&mut self, call: &str, chart: &[u8], ours: i64, theirs: i64) {
+        assert_eq!(ours, theirs, "{call}, chart {chart:02X?}");
+        self.outcomes[(-ours).max(0) as usize] += 1;
+    }
+
+    /// Admits the chart and gives its nodes, or some number for a chart that is refused.
+    fn admit(&mut self, chart: &[u8]) -> usize {
+        let number = self.archive.admit(chart);
+        self.agree("admit", chart, number, calls::admit(chart));
+        match number {
+            1.. => (number % 256) as usize,
+            _ => 5,
+        }
+    }
+
+    fn phases(&mut self, chart: &[u8], room: usize) {
+        let mut ours = vec![FILL; room];
+        let number = self.archive.phases(chart, &mut ours);
+        self.written("phases", chart, calls::phases, number, &ours);
+    }
+
+    fn sheet(&mut self, chart: &[u8], room: usize) {
+        let mut ours = vec![FILL; room];
+        let number = self.archive.sheet(chart, &mut ours);
+        self.written("sheet", chart, calls::sheet, number, &ours);
+    }
+
+    fn written(&mut self, call: &str, chart: &[u8], plain: Writer, number: i64, ours: &[u8]) {
+        let mut theirs = vec![FILL; ours.len()];
+        self.agree(call, chart, number, plain(chart, &mut theirs));
+        assert_eq!(ours, theirs, "{call}, chart {chart:02X?}");
+    }
+
+    fn pair(&mut self, chart: &[u8], a: usize, b: usize) {
+        let number = self.archive.pair(chart, a, b);
+        let theirs = calls::pair(chart, a as u64, b as u64);
+        self.agree(&format!("pair {a} {b}"), chart, number, theirs);
+    }
+
+    fn judge(&mut self, chart: &[u8], claims: &[u8]) {
+        let number = self.archive.judge(chart, claims);
+        let theirs = calls::judge(chart, claims);
+        self.agree(&format!("judge {claims:?}"), chart, number, theirs);
+    }
+}
+
+/// Buffers for a result of so many bytes: none, one byte short, exact, and with a tail.
 fn rooms(result: usize) -> [usize; 4] {
     [0, result.saturating_sub(1), result, result + 37]
 }
 
-fn compare_phases(chart: &[u8], room: usize, refusals: &mut [usize; 12]) {
-    let mut ours = vec![FILL; room];
-    let mut theirs = vec![FILL; room];
-    let number = compare::phases(chart, &mut ours);
-    assert_eq!(
-        number,
-        calls::phases(chart, &mut theirs),
-        "room {room}, chart {chart:02X?}"
-    );
-    assert_eq!(ours, theirs, "room {room}, chart {chart:02X?}");
-    refusals[(-number).max(0) as usize] += 1;
+/// Claims of which most name nodes of the chart, and some do not.
+fn claims(random: &mut Random, nodes: usize) -> Vec<u8> {
+    let length = random.below(12);
+    let bound = nodes + usize::from(random.percent(10));
+    (0..length).map(|_| random.below(bound) as u8).collect()
 }
 
 #[test]
-fn admit_and_phases_agree() {
+fn all_calls_agree() {
     let mut random = Random::new(SEED);
-    let mut refusals = [0; 12];
-    for _ in 0..CHARTS {
+    let mut comparison = Comparison::new();
+    for index in 0..CHARTS {
         let (_, chart) = charts::draw(&mut random);
-        let number = compare::admit(&chart);
-        assert_eq!(number, calls::admit(&chart), "chart {chart:02X?}");
-        refusals[(-number).max(0) as usize] += 1;
-        let nodes = if number > 0 {
-            (number % 256) as usize
-        } else {
-            5
-        };
+        let nodes = comparison.admit(&chart);
         for room in rooms(calls::PHASE_BYTES * nodes) {
-            compare_phases(&chart, room, &mut refusals);
+            comparison.phases(&chart, room);
+        }
+        comparison.pair(&chart, random.below(nodes), random.below(nodes));
+        comparison.judge(&chart, &claims(&mut random, nodes));
+        if index % SHEETS == 0 {
+            for room in rooms(nodes * nodes) {
+                comparison.sheet(&chart, room);
+            }
         }
     }
-    let line = format!("{CHARTS} charts from seed {SEED}; outcomes 0 to 11: {refusals:?}");
+    let outcomes = comparison.outcomes;
+    let line = format!("{CHARTS} charts from seed {SEED}; outcomes 0 to 13: {outcomes:?}");
     writeln!(std::io::stderr(), "{line}").expect("standard error is open");
-    assert!(refusals.iter().all(|&times| times > 500), "{line}");
+    assert!(outcomes.iter().all(|&times| times > 500), "{line}");
 }
 
 #[test]
 fn benchmark_charts_agree() {
-    for (name, chart) in charts::benchmark::all() {
-        assert_eq!(compare::admit(&chart), calls::admit(&chart), "{name}");
-        compare_phases(&chart, calls::PHASE_BYTES * 192, &mut [0; 12]);
+    let mut comparison = Comparison::new();
+    for (_, chart) in charts::benchmark::all() {
+        let nodes = comparison.admit(&chart);
+        comparison.phases(&chart, calls::PHASE_BYTES * nodes);
+        comparison.sheet(&chart, nodes * nodes);
     }
 }

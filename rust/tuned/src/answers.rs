@@ -1,31 +1,24 @@
 //! The pair rules: two ANDs for common phases, then one comparison of classes, since a node is
 //! inside at most one of a master, a single and an ordered.
 
-use crate::phases::Phases;
+use crate::marks::Marks;
 use crate::read::{Chart, MASTER_CLASS};
 
 /// Starts and ends by node, and the answer for each class of nodes.
 pub struct Rules<'p> {
     chart: &'p Chart<'p>,
-    starts: [u64; 256],
-    ends: [u64; 256],
+    marks: &'p Marks,
     code: [u8; 256],
 }
 
 impl<'p> Rules<'p> {
     #[inline]
-    pub fn of(phases: &'p Phases<'p>) -> Rules<'p> {
-        let mut rules = Rules {
-            chart: &phases.chart,
-            starts: [0; 256],
-            ends: [0; 256],
-            code: codes(phases),
-        };
-        for node in 0..phases.chart.nodes as u8 {
-            rules.starts[usize::from(node)] = phases.starts(node);
-            rules.ends[usize::from(node)] = phases.ends(node);
+    pub fn of(chart: &'p Chart<'p>, marks: &'p Marks) -> Rules<'p> {
+        Rules {
+            chart,
+            marks,
+            code: codes(chart, marks),
         }
-        rules
     }
 
     /// The answer for two nodes that are no barriers.
@@ -33,7 +26,8 @@ impl<'p> Rules<'p> {
     pub fn answer(&self, a: u8, b: u8) -> u8 {
         let (a, b) = (usize::from(a), usize::from(b));
         let class = self.chart.class[a];
-        if self.starts[a] & self.starts[b] == 0 || self.ends[a] & self.ends[b] == 0 {
+        let Marks { starts, ends, .. } = self.marks;
+        if starts[a] & starts[b] == 0 || ends[a] & ends[b] == 0 {
             1
         } else if class == self.chart.class[b] {
             self.code[usize::from(class)]
@@ -59,7 +53,8 @@ impl<'p> Rules<'p> {
                 row.fill(255);
                 continue;
             }
-            let own = Some((self.starts[a & 255], self.ends[a & 255], class[a & 255]));
+            let Marks { starts, ends, .. } = self.marks;
+            let own = Some((starts[a & 255], ends[a & 255], class[a & 255]));
             if own != last {
                 self.fill_row(a, &mut same[..*nodes]);
                 last = own;
@@ -72,9 +67,9 @@ impl<'p> Rules<'p> {
     #[inline]
     fn fill_row(&self, a: usize, row: &mut [u8]) {
         let Chart { class, closed, .. } = self.chart;
-        let (starts, ends, own) = (self.starts[a], self.ends[a], class[a]);
+        let (starts, ends, own) = (self.marks.starts[a], self.marks.ends[a], class[a]);
         let code = self.code[usize::from(own)];
-        let masks = self.starts.iter().zip(&self.ends);
+        let masks = self.marks.starts.iter().zip(&self.marks.ends);
         let others = masks.zip(class.iter().zip(closed));
         for (answer, ((x, y), (class, closed))) in row.iter_mut().zip(others) {
             let apart = (starts & x == 0) | (ends & y == 0);
@@ -84,18 +79,14 @@ impl<'p> Rules<'p> {
     }
 }
 
-/// The answer for two nodes of each class. A construct returns if its end and its begin are on one
-/// loop, since a path without barriers always leads from the begin to the end.
+/// The answer for two nodes of each class, 0 where the class's construct returns.
 #[inline]
-fn codes(phases: &Phases) -> [u8; 256] {
-    let chart = &phases.chart;
-    let slot = |node: u8| phases.slots.of[usize::from(node)];
-    let ports = chart.begins.iter().zip(&chart.ends).take(chart.constructs);
+fn codes(chart: &Chart, marks: &Marks) -> [u8; 256] {
     let mut code = [0; 256];
-    for (construct, (&begin, &end)) in ports.enumerate() {
-        if slot(begin) != slot(end) {
+    for (construct, answer) in code.iter_mut().enumerate().take(chart.constructs) {
+        if marks.returns >> construct & 1 == 0 {
             let single = chart.singles >> construct & 1 == 1;
-            code[construct] = if single { 3 } else { 4 };
+            *answer = if single { 3 } else { 4 };
         }
     }
     code[usize::from(MASTER_CLASS)] = 2;

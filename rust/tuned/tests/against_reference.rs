@@ -4,6 +4,7 @@
 use charts::random::Random;
 use charts::{benchmark, draw};
 use reference::calls;
+use tuned::{Components, Method, Search};
 
 const FILL: u8 = 0xAA;
 
@@ -38,34 +39,43 @@ fn open_claims(random: &mut Random, chart: &[u8]) -> Vec<u8> {
     (0..length).map(|_| random.pick(&open)).collect()
 }
 
-fn assert_alike(chart: &[u8], seed: u64) {
+fn assert_alike<M: Method>(chart: &[u8], seed: u64) {
     let mut random = Random::new(seed);
     let number = calls::admit(chart);
-    assert_eq!(tuned::admit(chart), number, "seed {seed}");
+    assert_eq!(tuned::admit::<M>(chart), number, "seed {seed}");
     let nodes = if number > 0 {
         number as usize & 255
     } else {
         12
     };
     for length in [0, 16 * nodes - 1, 16 * nodes, 16 * nodes + 9] {
-        assert_writes_alike(chart, length, tuned::phases, calls::phases, seed);
+        assert_writes_alike(chart, length, tuned::phases::<M>, calls::phases, seed);
     }
     for length in [0, nodes * nodes - 1, nodes * nodes, nodes * nodes + 9] {
-        assert_writes_alike(chart, length, tuned::sheet, calls::sheet, seed);
+        assert_writes_alike(chart, length, tuned::sheet::<M>, calls::sheet, seed);
     }
     for _ in 0..4 {
         let node = |random: &mut Random| random.below(nodes + 1) as u64;
         let (a, b) = (node(&mut random), node(&mut random));
-        assert_eq!(tuned::pair(chart, a, b), calls::pair(chart, a, b));
+        assert_eq!(tuned::pair::<M>(chart, a, b), calls::pair(chart, a, b));
         let claims = claims(&mut random, nodes);
-        assert_eq!(tuned::judge(chart, &claims), calls::judge(chart, &claims));
+        assert_eq!(
+            tuned::judge::<M>(chart, &claims),
+            calls::judge(chart, &claims)
+        );
     }
     for beyond in [192, 255, 256, 257, u64::MAX] {
-        assert_eq!(tuned::pair(chart, 1, beyond), calls::pair(chart, 1, beyond));
+        assert_eq!(
+            tuned::pair::<M>(chart, 1, beyond),
+            calls::pair(chart, 1, beyond)
+        );
     }
     if number > 0 {
         let claims = open_claims(&mut random, chart);
-        assert_eq!(tuned::judge(chart, &claims), calls::judge(chart, &claims));
+        assert_eq!(
+            tuned::judge::<M>(chart, &claims),
+            calls::judge(chart, &claims)
+        );
     }
 }
 
@@ -73,7 +83,8 @@ fn assert_alike(chart: &[u8], seed: u64) {
 fn drawn_charts() {
     for seed in 0..3_000 {
         let (_, chart) = draw(&mut Random::new(seed));
-        assert_alike(&chart, seed);
+        assert_alike::<Search>(&chart, seed);
+        assert_alike::<Components>(&chart, seed);
     }
 }
 
@@ -82,14 +93,20 @@ fn admit_on_many_charts() {
     let mut random = Random::new(77);
     for index in 0..60_000 {
         let (source, chart) = draw(&mut random);
-        let (tuned, reference) = (tuned::admit(&chart), calls::admit(&chart));
-        assert_eq!(tuned, reference, "draw {index}, {source:?}");
+        let reference = calls::admit(&chart);
+        for tuned in [
+            tuned::admit::<Search>(&chart),
+            tuned::admit::<Components>(&chart),
+        ] {
+            assert_eq!(tuned, reference, "draw {index}, {source:?}");
+        }
     }
 }
 
 #[test]
 fn benchmark_charts() {
     for (seed, (_, chart)) in benchmark::all().into_iter().enumerate() {
-        assert_alike(&chart, seed as u64);
+        assert_alike::<Search>(&chart, seed as u64);
+        assert_alike::<Components>(&chart, seed as u64);
     }
 }

@@ -1,0 +1,104 @@
+//! Whether two threads of one OpenMP team can be at two nodes of a parallel region together: the
+//! calls of the proved library, on slices. What each does is documented in include/bohrali.h; here
+//! C's one number becomes a `Result`.
+
+mod archive;
+mod refusal;
+
+pub use refusal::Refusal;
+
+/// Bytes that `phases` writes for each node.
+pub const PHASES_NODE: usize = 16;
+
+/// What a sheet has where either node is a barrier; every other byte is an `Answer`.
+pub const BARRIER: u8 = 255;
+
+/// The counts of an admitted chart.
+#[derive(Clone, Copy, Debug, PartialEq, Eq)]
+pub struct Counts {
+    pub nodes: usize,
+    pub barriers: usize,
+    pub phases: usize,
+}
+
+/// Whether two nodes are concurrent, or else the first rule by which they never are.
+#[derive(Clone, Copy, Debug, PartialEq, Eq)]
+#[repr(u8)]
+pub enum Answer {
+    Concurrent = 0,
+    NoCommonPhase = 1,
+    Master = 2,
+    Single = 3,
+    Ordered = 4,
+}
+
+impl Answer {
+    pub const ALL: [Answer; 5] = [
+        Answer::Concurrent,
+        Answer::NoCommonPhase,
+        Answer::Master,
+        Answer::Single,
+        Answer::Ordered,
+    ];
+}
+
+/// Whether all claims hold, or else the index of the first that does not.
+#[derive(Clone, Copy, Debug, PartialEq, Eq)]
+pub enum Verdict {
+    Pass,
+    Fail(usize),
+}
+
+/// The counts of a chart that is admitted.
+pub fn admit(chart: &[u8]) -> Result<Counts, Refusal> {
+    // SAFETY: pointer and length are those of a slice, which the call only reads.
+    let number = unsafe { archive::bohrali_admit(chart.as_ptr(), chart.len()) };
+    accepted(number).map(|counts| Counts {
+        nodes: counts % 256,
+        barriers: counts / 256 % 256,
+        phases: counts / 65_536,
+    })
+}
+
+/// Whether all claims, pairs of node numbers that are said never to be concurrent, hold.
+pub fn judge(chart: &[u8], claims: &[u8]) -> Result<Verdict, Refusal> {
+    // SAFETY: as above, for both slices.
+    let number = unsafe {
+        archive::bohrali_judge(chart.as_ptr(), chart.len(), claims.as_ptr(), claims.len())
+    };
+    accepted(number).map(|after| match after.checked_sub(1) {
+        None => Verdict::Pass,
+        Some(index) => Verdict::Fail(index),
+    })
+}
+
+/// The answer for two nodes that are no barriers.
+pub fn pair(chart: &[u8], a: usize, b: usize) -> Result<Answer, Refusal> {
+    // SAFETY: as above; a and b are numbers.
+    let number = unsafe { archive::bohrali_pair(chart.as_ptr(), chart.len(), a, b) };
+    accepted(number).map(|answer| Answer::ALL[answer])
+}
+
+/// Writes the starts and ends of each node, and gives the number of bytes written.
+pub fn phases(chart: &[u8], out: &mut [u8]) -> Result<usize, Refusal> {
+    // SAFETY: as above; `out` is lent for the call alone and does not overlap `chart`.
+    accepted(unsafe {
+        archive::bohrali_phases(chart.as_ptr(), chart.len(), out.as_mut_ptr(), out.len())
+    })
+}
+
+/// Writes the answers of all pairs, row by row, and gives the number of bytes written.
+pub fn sheet(chart: &[u8], out: &mut [u8]) -> Result<usize, Refusal> {
+    // SAFETY: as above.
+    accepted(unsafe {
+        archive::bohrali_sheet(chart.as_ptr(), chart.len(), out.as_mut_ptr(), out.len())
+    })
+}
+
+/// C's number: what a call gives, or a refusal's number negated.
+fn accepted(number: i64) -> Result<usize, Refusal> {
+    usize::try_from(number).map_err(|_| {
+        let row = usize::try_from(-number).expect("a refusal's number, negated");
+        Refusal::ALL[row - 1]
+    })
+}

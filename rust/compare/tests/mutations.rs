@@ -1,0 +1,49 @@
+//! A long walk over charts and claims that change by a few bytes each time, from the known charts on:
+//! the archive and the plain implementation agree at each step.
+
+use charts::damage::scattered;
+use charts::random::Random;
+use compare::Archive;
+use reference::{calls, known};
+
+const STEPS: usize = 60_000;
+const SEED: u64 = 13;
+
+#[test]
+fn mutated_charts_and_claims() {
+    let mut random = Random::new(SEED);
+    let mut archive = Archive::new();
+    let from = [
+        known::chart_k(),
+        known::chart_d(&[(5, 1)]),
+        known::figure_2b(),
+    ];
+    let mut admitted = 0;
+    let mut chart = from[0].clone();
+    let mut claims = vec![1, 3, 3, 3];
+    for step in 0..STEPS {
+        chart = match random.below(6) {
+            0 => from[random.below(from.len())].clone(),
+            _ => scattered(&mut random, chart),
+        };
+        claims = match random.below(4) {
+            0 => vec![1, 3, 3, 3],
+            _ => scattered(&mut random, claims),
+        };
+        let number = archive.admit(&chart);
+        assert_eq!(number, calls::admit(&chart), "step {step}: {chart:02X?}");
+        admitted += usize::from(number > 0);
+        assert_eq!(
+            archive.judge(&chart, &claims),
+            calls::judge(&chart, &claims),
+            "step {step}: {chart:02X?} {claims:?}"
+        );
+        let (a, b) = (claims[0], claims[1]);
+        assert_eq!(
+            archive.pair(&chart, a.into(), b.into()),
+            calls::pair(&chart, a.into(), b.into()),
+            "step {step}: {chart:02X?} {claims:?}"
+        );
+    }
+    assert!(admitted > STEPS / 10, "{admitted} of {STEPS} admitted");
+}
