@@ -1,4 +1,5 @@
-/* Admits chart K and prints the starts and ends of its nodes. */
+/* Admits chart K and prints the starts and ends of its nodes, the answer for two of them, and the
+ * verdict on the claim that these two never meet. */
 #include "bohrali.h"
 
 #include <inttypes.h>
@@ -10,6 +11,8 @@ static const uint8_t chart_k[46] = {
     0, 1,  1, 2,  2, 3,  3, 1,  3, 4,
     1, 0,  5, 0,  5, 0,  0, 0,  46, 0,  26, 0,  16, 0,  0x4F, 0x43,
 };
+
+static const uint8_t claims[2] = {1, 3};
 
 static uint64_t mask_at(const uint8_t *bytes)
 {
@@ -36,5 +39,8 @@ int main(void)
         printf("node %" PRId64 " starts %" PRIu64 " ends %" PRIu64 "\n",
                node, mask_at(record), mask_at(record + 8));
     }
+    printf("pair 1 3 %" PRId64 "\n", bohrali_pair(chart_k, sizeof chart_k, 1, 3));
+    printf("judge %" PRId64 "\n",
+           bohrali_judge(chart_k, sizeof chart_k, claims, sizeof claims));
     return 0;
 }

@@ -1,0 +1,34 @@
+/* Calls with nothing lent: a null pointer with length 0 is refused, or passes, as 01 says. */
+#include "bohrali.h"
+
+#include <stdio.h>
+
+/* Chart K of 01. */
+static const uint8_t chart[46] = {
+    1, 255, 0, 0,  0, 255, 0, 0,  1, 255, 0, 0,  0, 255, 0, 0,  1, 255, 0, 0,
+    0, 1,  1, 2,  2, 3,  3, 1,  3, 4,
+    1, 0,  5, 0,  5, 0,  0, 0,  46, 0,  26, 0,  16, 0,  0x4F, 0x43,
+};
+
+static int failures;
+
+static void expect(const char *call, int64_t got, int64_t wanted)
+{
+    if (got != wanted) {
+        printf("%s: %lld and not %lld\n", call, (long long)got, (long long)wanted);
+        failures++;
+    }
+}
+
+int main(void)
+{
+    expect("admit nothing", bohrali_admit(NULL, 0), -BOHRALI_SHORT);
+    expect("judge nothing", bohrali_judge(NULL, 0, NULL, 0), -BOHRALI_SHORT);
+    expect("pair of nothing", bohrali_pair(NULL, 0, 0, 0), -BOHRALI_SHORT);
+    expect("phases of nothing", bohrali_phases(NULL, 0, NULL, 0), -BOHRALI_SHORT);
+    expect("sheet of nothing", bohrali_sheet(NULL, 0, NULL, 0), -BOHRALI_SHORT);
+    expect("no claims", bohrali_judge(chart, sizeof chart, NULL, 0), 0);
+    expect("no room for phases", bohrali_phases(chart, sizeof chart, NULL, 0), -BOHRALI_ROOM);
+    expect("no room for a sheet", bohrali_sheet(chart, sizeof chart, NULL, 0), -BOHRALI_ROOM);
+    return failures != 0;
+}
