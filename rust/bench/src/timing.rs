@@ -3,7 +3,7 @@
 use std::hint::black_box;
 use std::time::Instant;
 
-const TURNS: usize = 60;
+const TURNS: usize = 400;
 /// A turn repeats a call for about so many nanoseconds.
 const TURN: f64 = 300_000.0;
 
