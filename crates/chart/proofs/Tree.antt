@@ -78,10 +78,6 @@ module _ (parent : ℕ → ℕ) (size : ℕ) (low : (k : ℕ) → k < size → B
   irreflexive {c} l e = let r = lower e c (omega arith) (low c l) in omega arith
 
 module _ {parent : ℕ → ℕ} where
-  pub inner-inside : {p c : ℕ} → Encloses parent p c → c ≢ outside
-  inner-inside (here n) = n
-  inner-inside (up n e) = inner-inside e
-
   -- of two that enclose one thing, one encloses the other
   pub linear : {p c k : ℕ} → Encloses parent p c → Encloses parent p k → (c ≡ k) ⊎ (Encloses parent (parent c) k ⊎ Encloses parent (parent k) c)
   linear (here n) (here m) = inl refl

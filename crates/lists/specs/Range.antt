@@ -7,7 +7,7 @@ use Prim.Native.Nat.{ℕ, zero, suc, _+_, _≤_, _<_}
 use native.Mathlib.Omega.{arith}
 use native.Mathlib.Decide.{ℕ-discrete, decLt}
 use native.Mathlib.Numerals.{add-one}
-use Rattle.lists.specs.Truth.{bad, clash, truth, false-if, and-both, both-and, or-cases, or-left, or-right, same-truth}
+use Rattle.lists.specs.Truth.{bad, clash, truth, false-if, and-both, or-cases, or-left, or-right, same-truth}
 
 -- f passes at each number below n
 unfoldable pub every : ℕ → (ℕ → Bool) → Bool
@@ -45,15 +45,6 @@ every-at (suc n) f h k l = let b = and-both (every n f) (f n) h in go (b .1) (ev
     go : f n ≡ true → (k < n → f k ≡ true) → Dec (k ≡ n) → f k ≡ true
     go h r (yes q) = ap f q ∙ h
     go h r (no q) = r (omega arith)
-
-pub at-every : (n : ℕ) (f : ℕ → Bool) → ((k : ℕ) → k < n → f k ≡ true) → every n f ≡ true
-unfolding every
-at-every zero f h = refl
-at-every (suc n) f h = both-and (every n f) (f n) (at-every n f (λ k l. h k (omega arith))) (h n (omega arith))
-
--- a number that fails makes the test of all fail
-pub fails-every : (n : ℕ) (f : ℕ → Bool) (k : ℕ) → k < n → f k ≡ false → every n f ≡ false
-fails-every n f k l h = elim (truth (every n f)) [ inl g ↦ absurd (bad (cc (every-at n f g k l))) | inr g ↦ g ]
 
 pub any-at : (n : ℕ) (f : ℕ → Bool) → any n f ≡ true → (k : ℕ) × (k < n) × (f k ≡ true)
 unfolding any
