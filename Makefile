@@ -1,28 +1,38 @@
-# make            prove the library and build target/staticlib/libbohrali.a
+# make            prove the library and build it: target/staticlib/libbohrali.a, target/lib/libbohrali.so
 # make demo       the same, then show a chart's answers and judge claims on it
 # make test       the gate: all proofs, must-fail edits and tests
 # make bench      the library's times by those of hand-written Rust
-# make install    header, archive and bohrali.pc, below PREFIX
+# make bench-against BEFORE=path/to/libbohrali.a    by those of another build of it
+# make install    header, archive, shared library and bohrali.pc, below PREFIX
 PREFIX ?= /usr/local
 VERSION := 0.1.0
+SONAME := libbohrali.so.$(firstword $(subst ., ,$(VERSION)))
 ARCHIVE := target/staticlib/libbohrali.a
+SHARED := target/lib/libbohrali.so.$(VERSION)
 SOURCES := crates.txt $(wildcard crates/*/src/*.rt crates/*/specs/*.antt)
 CFLAGS ?= -O2 -Wall -Wextra -Werror
 
-.PHONY: all demo test bench install clean
+.PHONY: all demo test bench bench-against install clean
 
-all: $(ARCHIVE)
+all: $(ARCHIVE) $(SHARED)
 
 $(ARCHIVE): $(SOURCES)
 	rt staticlib bohrali
 	touch $@
 
+# The archive as one shared object. Code that is not position-independent fails the link (text), and so does a name that nothing defines (defs).
+$(SHARED): $(ARCHIVE) bohrali.map
+	install -d $(@D)
+	$(CC) -shared -Wl,-soname,$(SONAME),--version-script=bohrali.map,-z,text,-z,defs -Wl,--whole-archive $< -Wl,--no-whole-archive -o $@
+	ln -sf $(@F) target/lib/$(SONAME)
+	ln -sf $(SONAME) target/lib/libbohrali.so
+
 target/%: examples/%.c include/bohrali.h $(ARCHIVE)
 	$(CC) -std=c11 $(CFLAGS) -Iinclude $< $(ARCHIVE) -o $@
 
-demo: target/judge
-	@echo "Figure 2(b) of the paper on static nonconcurrency. A row for each node that is no barrier: 0 where two threads"
-	@echo "can be there and at that other node together, else the rule by which they never are."
+demo: all target/judge
+	@echo "Figure 2(b) of the paper on static nonconcurrency. A row for each node that is no barrier: 0 where two threads can be"
+	@echo "there and at that other node together, in a run that finishes, else the rule by which they never are."
 	target/judge charts/figure-2b.chart 4 5 7 8
 	@echo "One claim more, which is false:"
 	target/judge charts/figure-2b.chart 4 5 7 8 4 8 || test $$? -eq 1
@@ -33,10 +43,16 @@ test:
 bench: $(ARCHIVE)
 	cd rust && cargo run --offline --locked --quiet --release -p bench
 
-install: $(ARCHIVE)
+bench-against: $(ARCHIVE)
+	@test -f "$(BEFORE)" || { echo "BEFORE names the archive to measure against"; exit 1; }
+	cd rust && BOHRALI_BEFORE=$(abspath $(BEFORE)) cargo run --offline --locked --quiet --release -p bench --features before --bin against
+
+install: $(ARCHIVE) $(SHARED)
 	install -d $(DESTDIR)$(PREFIX)/include $(DESTDIR)$(PREFIX)/lib/pkgconfig
 	install -m 644 include/bohrali.h $(DESTDIR)$(PREFIX)/include
 	install -m 644 $(ARCHIVE) $(DESTDIR)$(PREFIX)/lib
+	install -m 755 $(SHARED) $(DESTDIR)$(PREFIX)/lib
+	cp -P target/lib/$(SONAME) target/lib/libbohrali.so $(DESTDIR)$(PREFIX)/lib
 	sed -e 's|@PREFIX@|$(PREFIX)|' -e 's|@VERSION@|$(VERSION)|' bohrali.pc.in > $(DESTDIR)$(PREFIX)/lib/pkgconfig/bohrali.pc
 
 clean:

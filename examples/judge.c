@@ -3,7 +3,8 @@
  *     judge CHART [A B]...
  *
  * CHART is a file; each claim A B says that two threads of one team are never at nodes A and B
- * together. Ends with 0 when all claims hold, 1 when one does not, 2 when something was refused. */
+ * together, in a run that finishes. Ends with 0 when all claims hold, 1 when one does not, 2 when
+ * something was refused. */
 #include "bohrali.h"
 
 #include <inttypes.h>
@@ -11,8 +12,8 @@
 #include <stdlib.h>
 
 /* One byte more than the longest chart, so that a longer file is seen to be one. */
-static uint8_t chart[BOHRALI_CHART_BYTES + 1];
-static uint8_t sheet[BOHRALI_NODES * BOHRALI_NODES];
+static uint8_t chart[BOHRALI_MOST_CHART_BYTES + 1];
+static uint8_t sheet[BOHRALI_MOST_NODES * BOHRALI_MOST_NODES];
 
 static int refused(int64_t number)
 {
@@ -25,12 +26,12 @@ static void print_sheet(int64_t nodes)
 {
     for (int64_t a = 0; a < nodes; a++) {
         const uint8_t *row = sheet + a * nodes;
-        if (row[a] == BOHRALI_AT_BARRIER) {
+        if (row[a] == BOHRALI_ANSWER_AT_BARRIER) {
             continue;
         }
         printf("node %3" PRId64 ":", a);
         for (int64_t b = 0; b < nodes; b++) {
-            if (row[b] == BOHRALI_AT_BARRIER) {
+            if (row[b] == BOHRALI_ANSWER_AT_BARRIER) {
                 printf(" -");
             } else {
                 printf(" %d", row[b]);

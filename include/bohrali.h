@@ -1,12 +1,17 @@
-/* Bohrali: can two threads of one OpenMP team be at two nodes of a parallel region together?
+/* Bohrali: can two threads of one OpenMP team be at two nodes of a parallel region together, in a
+ * run that finishes?
  *
- * A region is handed over as a chart: node records, edge records, construct records and a 16-byte
- * trailer. Every call takes lent bytes, keeps none of them, allocates nothing and returns one
- * number. Any bytes may be handed over: what is not a chart is refused.
+ * A region is handed over as a chart, in bytes. Every call takes lent bytes, keeps none of them,
+ * allocates nothing, needs less than 64 KiB of stack and returns one number. Any bytes may be
+ * handed over: what is not a chart is refused. The library is for x86-64 only.
  *
- * A pointer may be null only where its length is 0; otherwise it points to so many bytes, which
- * nobody else writes during the call. `out` must not overlap `chart`; `chart` and `claims`, which
- * are only read, may overlap. Calls share nothing, so any number of threads may make them.
+ * A pointer may be null only where its length is 0; otherwise it points to so many bytes. `chart`
+ * and `claims` are only read: they may overlap, and nobody may write them during the call. `out`
+ * must not overlap `chart`, and nobody else may read or write it during the call. Calls share
+ * nothing, so any number of threads may make them.
+ *
+ * The first word of a constant says what it is: LEAST and MOST are limits, BYTES sizes, TRAILER
+ * fields of the trailer, NODE and CONSTRUCT kinds, ANSWER answers, REFUSED refusals.
  */
 #ifndef BOHRALI_H
 #define BOHRALI_H
@@ -18,77 +23,167 @@
 extern "C" {
 #endif
 
-/* Limits of a chart. */
-#define BOHRALI_NODES 192
-#define BOHRALI_EDGES 1024
-#define BOHRALI_CONSTRUCTS 48
-#define BOHRALI_BARRIERS 64
+/* The chart: node records, edge records, construct records and the trailer, one after the other.
+ * Fields of two bytes are unsigned and little-endian. Nodes and constructs are numbered from 0 in
+ * the order of their records. With n nodes, e edges and c constructs:
+ *
+ *     at 0               n nodes, 4 bytes each
+ *         0  kind            BOHRALI_NODE_..
+ *         1  construct       of a plain node the innermost construct around it, or none; of a begin
+ *                            or an end the construct that it opens or closes; of a barrier none
+ *         2  tag             2 bytes of the caller's, which nothing reads
+ *     at 4n              e edges, 2 bytes each
+ *         0  from            a node
+ *         1  to              a node
+ *     at 4n + 2e         c constructs, 4 bytes each
+ *         0  kind            BOHRALI_CONSTRUCT_..
+ *         1  parent          the innermost construct around it, of a lower number, or none
+ *         2  name            2 bytes: of a critical the number of its name, 0 if unnamed; of other
+ *                            kinds 0
+ *     at 4n + 2e + 4c    the trailer, 16 bytes: 8 fields of 2 bytes
+ *         0  edition         BOHRALI_TRAILER_EDITION
+ *         2  nodes           n
+ *         4  edges           e
+ *         6  constructs      c
+ *         8  to nodes        from the chart's end back to the first node: 4n + 2e + 4c + 16
+ *        10  to edges        from the chart's end back to the first edge: 2e + 4c + 16
+ *        12  to constructs   from the chart's end back to the first construct: 4c + 16
+ *        14  closing         BOHRALI_TRAILER_CLOSING, which is the bytes 4F 43 (hexadecimal)
+ *
+ * The length is 4n + 2e + 4c + 16. "None" is BOHRALI_CONSTRUCT_NONE.
+ *
+ * Nodes. Node 0 is Start and node n - 1 is Finish; both are barriers. Barriers, these two among
+ * them, are numbered from 0 by rising node number. Each construct has exactly one begin and one
+ * end.
+ *
+ * Inside. A plain node lies in the construct that its record names, a begin or an end in the parent
+ * of its construct, a barrier in none. A node is inside the construct that it lies in, that one's
+ * parent, and so on. So a construct's own begin and end are not inside it.
+ *
+ * Edges. They rise strictly by (from, to): by `from`, and where that is equal by `to`. None leads
+ * into Start or out of Finish. Each stays in one construct, or outside all: it leads from the
+ * construct's begin, or from a plain node, a barrier or an end that lies there, to the construct's
+ * end, or to a plain node, a barrier or a begin that lies there. Along edges every node other than
+ * Start is reached from Start, and every node other than Finish reaches Finish.
+ *
+ * Nesting. Above a construct are its parent, that one's parent, and so on. Above a single or a do:
+ * nothing. Above a master: criticals only. Above an ordered: a do only, and that is its parent.
+ * Above a critical: any kind, but no critical of the same name; unnamed ones have the same name.
+ *
+ * Edges are for a thread that enters. None is needed for threads that go straight from the begin of
+ * a master, a single or a do to its end, or from a do's end to the next iteration; a path of edges
+ * from a construct's end to its begin brings threads to the whole construct again. A barrier that
+ * OpenMP implies, as after a single or a do without NOWAIT, is a barrier node like any other. */
 
-/* Bytes of the longest chart. */
-#define BOHRALI_CHART_BYTES 3024
+/* Limits of a chart. Barriers are never fewer than 2: Start and Finish. */
+#define BOHRALI_LEAST_NODES 2
+#define BOHRALI_MOST_NODES 192
+#define BOHRALI_LEAST_EDGES 1
+#define BOHRALI_MOST_EDGES 1024
+#define BOHRALI_MOST_CONSTRUCTS 48
+#define BOHRALI_MOST_BARRIERS 64
 
-/* Bytes that bohrali_phases writes for each node. */
-#define BOHRALI_PHASES_NODE 16
+/* The length of the longest chart. */
+#define BOHRALI_MOST_CHART_BYTES 3024
 
-/* Answers for two nodes: whether two threads of one team can be at them together, in a run that
- * finishes. An answer that says no has the number of the rule that says it. */
-enum bohrali_answer {
-    BOHRALI_CONCURRENT = 0,         /* they can */
-    BOHRALI_NO_COMMON_PHASE = 1,    /* never: no common start, or no common end */
-    BOHRALI_MASTER = 2,             /* never: each is inside some master */
-    BOHRALI_SINGLE = 3,             /* never: both inside one single, which does not return */
-    BOHRALI_ORDERED = 4             /* never: both inside ordereds of one do, which does not return */
+/* Sizes of the records, and of what bohrali_phases writes for each node. */
+#define BOHRALI_BYTES_NODE 4
+#define BOHRALI_BYTES_EDGE 2
+#define BOHRALI_BYTES_CONSTRUCT 4
+#define BOHRALI_BYTES_TRAILER 16
+#define BOHRALI_BYTES_PHASES 16
+
+/* Fields of the trailer. */
+#define BOHRALI_TRAILER_EDITION 1
+#define BOHRALI_TRAILER_CLOSING 0x434F
+
+/* Kinds of nodes. */
+enum bohrali_node_kind {
+    BOHRALI_NODE_PLAIN = 0,   /* any other code */
+    BOHRALI_NODE_BARRIER = 1,
+    BOHRALI_NODE_BEGIN = 2,   /* of a construct */
+    BOHRALI_NODE_END = 3      /* of a construct */
 };
 
-/* In a sheet, where either node is a barrier. */
-#define BOHRALI_AT_BARRIER 255
+/* Kinds of constructs. */
+enum bohrali_construct_kind {
+    BOHRALI_CONSTRUCT_SINGLE = 1,
+    BOHRALI_CONSTRUCT_MASTER = 2,
+    BOHRALI_CONSTRUCT_CRITICAL = 3,
+    BOHRALI_CONSTRUCT_DO = 4,
+    BOHRALI_CONSTRUCT_ORDERED = 5
+};
+
+/* In place of a construct's number: none. */
+#define BOHRALI_CONSTRUCT_NONE 255
+
+/* Answers for two nodes, which may be equal and are no barriers: can two threads of one team, of
+ * any size, be at them together, in a run that finishes? A run finishes when all its threads are at
+ * Finish in the end. Other runs count for nothing: in one that hangs, because threads wait at
+ * different barriers, two threads may have been at nodes for which the answer is never.
+ *
+ * A path is one or more edges in a row; it is barrier-free if no node strictly between its two ends
+ * is a barrier. The starts of a node that is no barrier are the barriers from which a barrier-free
+ * path leads to it, its ends those to which one leads from it. A construct returns if a
+ * barrier-free path leads from its end to its begin. A never has the number of the first rule that
+ * gives it; criticals give none. */
+enum bohrali_answer {
+    BOHRALI_ANSWER_CONCURRENT = 0,      /* they can */
+    BOHRALI_ANSWER_NO_COMMON_PHASE = 1, /* never: no common start, or no common end */
+    BOHRALI_ANSWER_MASTER = 2,          /* never: each is inside some master */
+    BOHRALI_ANSWER_SINGLE = 3,          /* never: both inside one single, which does not return */
+    BOHRALI_ANSWER_ORDERED = 4          /* never: both inside ordereds of one do, which does not
+                                           return */
+};
+
+/* In a sheet, in place of an answer: one of the two nodes is a barrier, or both are. */
+#define BOHRALI_ANSWER_AT_BARRIER 255
 
 /* Refusals. A call returns the first that applies, negated, and then has written nothing. Each is
  * checked over the whole chart, or the whole list of claims, before the next. */
 enum bohrali_refusal {
-    BOHRALI_SHORT = 1,      /* fewer than 16 bytes */
-    BOHRALI_MARKS = 2,      /* edition or closing bytes differ */
-    BOHRALI_COUNTS = 3,     /* node, edge or construct count outside its limits */
-    BOHRALI_LENGTHS = 4,    /* length or a distance differs */
-    BOHRALI_NODE = 5,       /* a node's kind or construct number */
-    BOHRALI_CONSTRUCT = 6,  /* a construct's kind, parent or name, or the nesting */
-    BOHRALI_FRAME = 7,      /* not exactly one begin and one end for each construct */
-    BOHRALI_BARRIER = 8,    /* first or last node no barrier, or over 64 barriers */
-    BOHRALI_EDGE = 9,       /* an edge's nodes, order or sides */
-    BOHRALI_PATHS = 10,     /* a node not reached from Start, or not reaching Finish */
-    BOHRALI_ROOM = 11,      /* the buffer is shorter than the result */
-    BOHRALI_CLAIMS = 12,    /* an odd number of bytes */
-    BOHRALI_NUMBERS = 13    /* a node number that no node has, or that of a barrier */
+    BOHRALI_REFUSED_SHORT = 1,     /* fewer than 16 bytes */
+    BOHRALI_REFUSED_MARKS = 2,     /* edition or closing bytes differ */
+    BOHRALI_REFUSED_COUNTS = 3,    /* node, edge or construct count outside its limits */
+    BOHRALI_REFUSED_LENGTHS = 4,   /* length or a distance of the trailer differs */
+    BOHRALI_REFUSED_NODE = 5,      /* a node's kind or construct number */
+    BOHRALI_REFUSED_CONSTRUCT = 6, /* a construct's kind, parent or name, or the nesting */
+    BOHRALI_REFUSED_FRAME = 7,     /* not exactly one begin and one end for each construct */
+    BOHRALI_REFUSED_BARRIER = 8,   /* first or last node no barrier, or over 64 barriers */
+    BOHRALI_REFUSED_EDGE = 9,      /* an edge names no node, is out of order or is not allowed */
+    BOHRALI_REFUSED_PATHS = 10,    /* a node not reached from Start, or not reaching Finish */
+    BOHRALI_REFUSED_ROOM = 11,     /* the buffer is shorter than the result */
+    BOHRALI_REFUSED_CLAIMS = 12,   /* an odd number of bytes */
+    BOHRALI_REFUSED_NUMBERS = 13   /* a node number that no node has, or that of a barrier */
 };
 
 /* Whether the bytes are a chart. Returns nodes + 256 * barriers + 65536 * phases, or a refusal 1 to
- * 10, negated. */
+ * 10, negated. A phase is a pair (start, end) that some node has; equal pairs count once. */
 int64_t bohrali_admit(const uint8_t *chart, size_t chart_len);
 
-/* The answer for nodes a and b, which may be equal: 0 to 4, or a refusal 1 to 10 or 13, negated. Any
- * numbers may be handed over; the order of the two does not matter. */
+/* The answer for nodes a and b: 0 to 4, or a refusal 1 to 10 or 13, negated. Any numbers may be
+ * handed over; the order of the two does not matter. */
 int64_t bohrali_pair(const uint8_t *chart, size_t chart_len, size_t a, size_t b);
 
-/* Judges a list of claims, each a pair of bytes: two node numbers, which may be equal, of which it is
- * claimed that two threads of one team are never there together. Returns 0 where the list passes:
- * no team, of any size, has a run that finishes and brings two threads to the two nodes of a pair
- * together. Otherwise the index, from 0, of the first pair that some team does meet, plus 1; or a
- * refusal 1 to 10, 12 or 13, negated. An empty list passes. */
+/* Judges a list of claims, each a pair of bytes: two node numbers, of which it is claimed that two
+ * threads of one team are never there together, in a run that finishes. Returns 0 where the list
+ * passes: no team, of any size, has a run that finishes and brings two threads to the two nodes of
+ * a pair together. Otherwise the index, from 0, of the first pair for which some team has such a
+ * run, plus 1; or a refusal 1 to 10, 12 or 13, negated. An empty list passes where the chart is not
+ * refused. */
 int64_t bohrali_judge(const uint8_t *chart, size_t chart_len, const uint8_t *claims,
                       size_t claims_len);
 
 /* Writes for each node, by rising number, its starts and its ends: two masks of 8 bytes each,
- * little-endian, with bit b for barrier b; barriers are numbered from 0 by rising node number, and
- * have no starts and no ends. A barrier is a start of a node when a path leads from it to the node
- * past no other barrier, and an end when one leads from the node to it. Returns the number of bytes
- * written, 16 for each node, or a refusal 1 to 11, negated. Bytes past the result keep their
- * values. */
+ * little-endian, with bit b for barrier b. Barriers have no starts and no ends. Returns the number
+ * of bytes written, 16 for each node, or a refusal 1 to 11, negated. Bytes past the result keep
+ * their values. */
 int64_t bohrali_phases(const uint8_t *chart, size_t chart_len, uint8_t *out, size_t out_len);
 
 /* Writes for each node a, by rising number, a row with a byte for each node b: the answer for a and
- * b, or BOHRALI_AT_BARRIER where one of them is a barrier. Byte a * nodes + b is that of a and b.
- * Returns the number of bytes written, nodes * nodes, or a refusal 1 to 11, negated. Bytes past the
- * result keep their values. */
+ * b, or BOHRALI_ANSWER_AT_BARRIER. Byte a * nodes + b is that of a and b. Returns the number of
+ * bytes written, nodes * nodes, or a refusal 1 to 11, negated. Bytes past the result keep their
+ * values. */
 int64_t bohrali_sheet(const uint8_t *chart, size_t chart_len, uint8_t *out, size_t out_len);
 
 #ifdef __cplusplus

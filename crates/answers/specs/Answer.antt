@@ -1,5 +1,5 @@
 -- The pair rules (01: "Phases and pair rules"): the answer for two nodes, which may be equal, by computation. It is asked for nodes that are
--- no barriers; 01 gives barriers no starts and no ends. What it means is in specs/AnswerLaws.antt.
+-- no barriers. What it means is in specs/AnswerLaws.antt.
 -- Assumes nothing.
 use mathlib.Core.Bool.{Bool, _&&_, _||_, not, cond}
 use Prim.Native.Nat.{ℕ}
@@ -7,15 +7,8 @@ use lib.Dec.{eqb}
 use Rattle.lists.specs.Truth.{is}
 use Rattle.lists.specs.Range.{any}
 use Rattle.chart.specs.Region.{Kind, Kind-discrete, single, master, ordered, Region}
-use Rattle.paths.specs.Decide.{noBarrier, reachesFree, returns}
-
--- s is a start of x (01: start): a barrier from which a barrier-free path leads to x.
-unfoldable pub isStart : Region → ℕ → ℕ → Bool
-isStart R x s = not (noBarrier (R .role s)) && reachesFree R s x
-
--- e is an end of x (01: end): a barrier to which a barrier-free path leads from x.
-unfoldable pub isEnd : Region → ℕ → ℕ → Bool
-isEnd R x e = not (noBarrier (R .role e)) && reachesFree R x e
+use Rattle.paths.specs.Decide.{returns}
+use Rattle.phases.specs.Phases.{Direction, forward, backward, isBoundary}
 
 -- x is inside c (01: inside, at any depth), a construct of this kind.
 unfoldable pub isIn : Region → Kind → ℕ → ℕ → Bool
@@ -25,13 +18,13 @@ isIn R kind x c = is (Kind-discrete (R .kind c) kind) && R .inside x c
 unfoldable pub inOrderedOf : Region → ℕ → ℕ → Bool
 inOrderedOf R x d = any (R .constructs) (λ o. isIn R ordered x o && eqb (R .parent o) d)
 
--- No node is a start of a and of b; nor, said of ends, an end.
-unfoldable pub noCommon : ℕ → (ℕ → ℕ → Bool) → ℕ → ℕ → Bool
-noCommon nodes of a b = not (any nodes (λ s. of a s && of b s))
+-- No barrier is a start of a and of b; backward: an end.
+unfoldable pub noCommon : Direction → Region → ℕ → ℕ → Bool
+noCommon d R a b = not (any (R .nodes) (λ s. isBoundary d R a s && isBoundary d R b s))
 
 -- Rule 1: no common start, or no common end.
 unfoldable pub noCommonPhase : Region → ℕ → ℕ → Bool
-noCommonPhase R a b = noCommon (R .nodes) (isStart R) a b || noCommon (R .nodes) (isEnd R) a b
+noCommonPhase R a b = noCommon forward R a b || noCommon backward R a b
 
 -- Rule 2: each is inside some master, the two of the same thread number. In 01 all have thread 0, so that any two masters will do.
 unfoldable pub bothInMasters : Region → ℕ → ℕ → Bool

@@ -3,50 +3,24 @@
 -- Assumes nothing.
 use mathlib.Core.Path.{_≡_, refl, ap, sym, _∙_, subst}
 use mathlib.Core.Logic.{_⊎_, inl, inr, _↔_}
-use mathlib.Core.Bool.{Bool, true, false, _&&_, _||_, not, cond}
+use mathlib.Core.Bool.{Bool, true, false, _&&_, cond}
+use mathlib.Core.List.{List}
 use Prim.Native.Nat.{ℕ, suc, _≤_, _<_}
 use native.Mathlib.Omega.{arith}
 use native.Mathlib.Decide.{decLt}
 use lib.Dec.{eqb}
-use borrow.Author.Tests.{eqb-true, eq-eqb, not-true}
-use Rattle.lists.specs.Truth.{bad, clash, truth, false-if, is-true, true-is, and-both, both-and, or-cases, or-left, or-right}
-use Rattle.lists.specs.Range.{any, any-at, at-any}
-use Rattle.chart.specs.Region.{Role, plain, barrier, opens, closes, Kind, Kind-discrete, single, master, ordered, Region}
+use Rattle.lists.specs.Truth.{clash, truth, is-true, true-is}
+use Rattle.lists.specs.Means.{both-of, either-of, not-of, unless, some-of, equal-of}
+use Rattle.lists.specs.Range.{any}
+use Rattle.chart.specs.Format.{decode}
+use Rattle.chart.specs.Region.{Kind, Kind-discrete, single, master, ordered, Region}
+use Rattle.chart.specs.Reading.{region}
 use Rattle.chart.specs.InOrdered.{InOrdered}
 use Rattle.chart.specs.WellFormed.{WellFormed}
-use Rattle.paths.specs.Path.{BarrierFree}
-use Rattle.paths.specs.Decide.{noBarrier, reachesFree, free-path, path-free, returns}
-use Rattle.answers.specs.Answer.{isStart, isEnd, isIn, inOrderedOf, noCommon, noCommonPhase, bothInMasters, bothInSingle, bothInOrdereds, answer}
-use Rattle.answers.specs.Unexcluded.{Returns, Start, End, Common, In, Rule, by-phase, by-master, by-single, by-ordered, number, Excludes, Unexcluded}
-
--- What a test stands for, put together from what its parts stand for.
-both-of : {s t : Bool} {P Q : Type 0} → (s ≡ true) ↔ P → (t ≡ true) ↔ Q → ((s && t) ≡ true) ↔ (P × Q)
-both-of p q = ((λ h. let b = and-both _ _ h in (p .0 (b .0), q .0 (b .1))), λ h. both-and _ _ (p .1 (h .0)) (q .1 (h .1)))
-
-either-of : {s t : Bool} {P Q : Type 0} → (s ≡ true) ↔ P → (t ≡ true) ↔ Q → ((s || t) ≡ true) ↔ (P ⊎ Q)
-either-of {s} {t} p q = (
-  (λ h. elim (or-cases s t h) [ inl g ↦ inl (p .0 g) | inr g ↦ inr (q .0 g) ]),
-  λ h. elim h [ inl g ↦ or-left s t (p .1 g) | inr g ↦ or-right s t (q .1 g) ],
-)
-
-not-of : {t : Bool} {P : Type 0} → (t ≡ true) ↔ P → (not t ≡ true) ↔ (P → ⊥)
-not-of p = ((λ h g. clash (p .1 g) (not-true _ h)), λ h. rw (false-if (λ g. h (p .0 g))))
-
--- what a test decides holds if it is not refuted
-unless : (t : Bool) {P : Type 0} → (t ≡ true) ↔ P → ((P → ⊥) → ⊥) → P
-unless t p f = elim (truth t) [ inl h ↦ p .0 h | inr h ↦ absurd (f (λ g. clash (p .1 g) h)) ]
-
-some-of : (n : ℕ) (f : ℕ → Bool) (P : ℕ → Type 0) → ((k : ℕ) → (f k ≡ true) ↔ P k) → ((k : ℕ) → P k → k < n) → (any n f ≡ true) ↔ ((k : ℕ) × P k)
-some-of n f P p below = ((λ h. let (k, l, g) = any-at n f h in (k, p k .0 g)), λ h. at-any n f (h .0) (below (h .0) (h .1)) (p (h .0) .1 (h .1)))
-
-equal-of : (m n : ℕ) → (eqb m n ≡ true) ↔ (m ≡ n)
-equal-of m n = (eqb-true m n, eq-eqb m n)
-
-barrier-of : (r : Role) → (not (noBarrier r) ≡ true) ↔ (r ≡ barrier)
-barrier-of plain = ((λ h. absurd (bad (cc))), λ h. absurd (bad (cc)))
-barrier-of barrier = ((λ h. refl), λ h. refl)
-barrier-of (opens c) = ((λ h. absurd (bad (cc))), λ h. absurd (bad (cc)))
-barrier-of (closes c) = ((λ h. absurd (bad (cc))), λ h. absurd (bad (cc)))
+use Rattle.phases.specs.Phases.{Direction, forward, backward, Boundary, isBoundary}
+use Rattle.phases.specs.PhasesLaws.{boundary-means, returns-means}
+use Rattle.answers.specs.Answer.{isIn, inOrderedOf, noCommon, noCommonPhase, bothInMasters, bothInSingle, bothInOrdereds, answer}
+use Rattle.answers.specs.Unexcluded.{Returns, Common, In, Rule, by-phase, by-master, by-single, by-ordered, number, Excludes, First, first, none, Answers, Unexcluded}
 
 in-of : (R : Region) (kind : Kind) (x c : ℕ) → (isIn R kind x c ≡ true) ↔ In R kind x c
 unfolding isIn
@@ -75,13 +49,9 @@ number-some by-ordered e = omega arith
 abbrev None : (Rule → Type 0) → ℕ → Type 0
 None P k = (s : Rule) → number s < k → P s → ⊥
 
--- The number of the first rule whose condition holds, and 0 where none does.
-data First (P : Rule → Type 0) : ℕ → Type 0 where
-  first : (r : Rule) → P r → None P (number r) → First P (number r)
-  none : ((r : Rule) → P r → ⊥) → First P 0
-
+-- There is one first rule, or none.
 module _ {P : Rule → Type 0} where
-  first-unique : {v w : ℕ} → First P v → First P w → v ≡ w
+  pub first-unique : {v w : ℕ} → First P v → First P w → v ≡ w
   first-unique (first r p f) (first s q g) = go (decLt (number r) (number s)) (decLt (number s) (number r))
     where
       go : Dec (number r < number s) → Dec (number s < number r) → number r ≡ number s
@@ -114,8 +84,7 @@ module _ {P : Rule → Type 0} where
 
 -- each condition is the same both ways round
 swap : (R : Region) (a b : ℕ) (r : Rule) → Excludes R a b r → Excludes R b a r
-swap R a b by-phase (inl n) = inl (λ h. n (h .0, (h .1 .1, h .1 .0)))
-swap R a b by-phase (inr n) = inr (λ h. n (h .0, (h .1 .1, h .1 .0)))
+swap R a b by-phase (d, n) = (d, λ h. n (h .0, (h .1 .1, h .1 .0)))
 swap R a b by-master (c, (d, ((x, y), e))) = (d, (c, ((y, x), sym e)))
 swap R a b by-single (c, ((x, y), n)) = (c, ((y, x), n))
 swap R a b by-ordered (d, ((x, y), n)) = (d, ((y, x), n))
@@ -124,14 +93,15 @@ first-swap : (R : Region) (a b : ℕ) {v : ℕ} → First (Excludes R a b) v →
 first-swap R a b (first r p f) = first r (swap R a b r p) (λ s l q. f s l (swap R b a s q))
 first-swap R a b (none f) = none (λ r q. f r (swap R b a r q))
 
+-- one direction or the other
+one-of : {P : Direction → Type 0} → (P forward ⊎ P backward) ↔ ((d : Direction) × P d)
+one-of {P} = ((λ h. elim h [ inl p ↦ (forward, p) | inr p ↦ (backward, p) ]), λ (d, p). back d p)
+  where
+    back : (d : Direction) → P d → P forward ⊎ P backward
+    back forward p = inl p
+    back backward p = inr p
+
 module _ {R : Region} (W : WellFormed R) where
-  path-of : (x y : ℕ) → (reachesFree R x y ≡ true) ↔ BarrierFree R x y
-  path-of x y = (free-path R W x y, path-free R W x y)
-
-  returns-of : (c : ℕ) → (returns R c ≡ true) ↔ Returns R c
-  unfolding returns
-  returns-of c = path-of (R .end c) (R .begin c)
-
   ordered-of : (x d : ℕ) → (inOrderedOf R x d ≡ true) ↔ InOrdered R x d
   unfolding inOrderedOf
   ordered-of x d = (
@@ -146,27 +116,19 @@ module _ {R : Region} (W : WellFormed R) where
   pub do-below : {x d : ℕ} → InOrdered R x d → d < R .constructs
   do-below o = subst (λ (d : ℕ). d < R .constructs) (o .of-do) (W .inside-below (W .ordered-inside (o .within) (o .is-ordered)))
 
-  -- Starts and ends alike: `leads` tests the path between a node and its start, or between it and its end.
-  module _ (leads : ℕ → ℕ → Bool) (Leads : ℕ → ℕ → Type 0) (p : (x s : ℕ) → (leads x s ≡ true) ↔ Leads x s) (a b : ℕ) where
-    abbrev of : ℕ → ℕ → Bool
-    of x s = not (noBarrier (R .role s)) && leads x s
-
-    abbrev Of : ℕ → ℕ → Type 0
-    Of x s = (R .role s ≡ barrier) × Leads x s
-
-    some-common : (any (R .nodes) (λ s. of a s && of b s) ≡ true) ↔ Common Of a b
-    some-common = some-of (R .nodes) _ (λ s. Of a s × Of b s)
-        (λ s. both-of (both-of (barrier-of (R .role s)) (p a s)) (both-of (barrier-of (R .role s)) (p b s))) (λ s h. W .barrier-below (h .0 .0))
-
-    no-common : (noCommon (R .nodes) of a b ≡ true) ↔ (Common Of a b → ⊥)
-    unfolding noCommon
-    no-common = not-of some-common
-
   module _ (a b : ℕ) where
+    -- starts and ends alike
+    common-of : (d : Direction) → (any (R .nodes) (λ s. isBoundary d R a s && isBoundary d R b s) ≡ true) ↔ Common (Boundary d R) a b
+    common-of d = some-of (R .nodes) _ (λ s. Boundary d R a s × Boundary d R b s)
+        (λ s. both-of (boundary-means R W d a s) (boundary-means R W d b s)) (λ s h. W .barrier-below (h .0 .is-barrier))
+
+    pub no-common-of : (d : Direction) → (noCommon d R a b ≡ true) ↔ (Common (Boundary d R) a b → ⊥)
+    unfolding noCommon
+    no-common-of d = not-of (common-of d)
+
     pub phase-of : (noCommonPhase R a b ≡ true) ↔ Excludes R a b by-phase
-    unfolding noCommonPhase isStart isEnd
-    phase-of = either-of (no-common (λ x s. reachesFree R s x) (λ x s. BarrierFree R s x) (λ x s. path-of s x) a b)
-        (no-common (reachesFree R) (BarrierFree R) path-of a b)
+    unfolding noCommonPhase
+    phase-of = let t = either-of (no-common-of forward) (no-common-of backward) in ((λ h. one-of .0 (t .0 h)), λ h. t .1 (one-of .1 h))
 
     pub masters-of : (bothInMasters R a b ≡ true) ↔ Excludes R a b by-master
     unfolding bothInMasters
@@ -178,14 +140,15 @@ module _ {R : Region} (W : WellFormed R) where
     pub single-of : (bothInSingle R a b ≡ true) ↔ Excludes R a b by-single
     unfolding bothInSingle
     single-of = some-of (R .constructs) _ (λ c. (In R single a c × In R single b c) × (Returns R c → ⊥))
-        (λ c. both-of (both-of (in-of R single a c) (in-of R single b c)) (not-of (returns-of c))) (λ c h. W .inside-below (h .0 .0 .1))
+        (λ c. both-of (both-of (in-of R single a c) (in-of R single b c)) (not-of (returns-means R W c))) (λ c h. W .inside-below (h .0 .0 .1))
 
     pub ordereds-of : (bothInOrdereds R a b ≡ true) ↔ Excludes R a b by-ordered
     unfolding bothInOrdereds
     ordereds-of = some-of (R .constructs) _ (λ d. (InOrdered R a d × InOrdered R b d) × (Returns R d → ⊥))
-        (λ d. both-of (both-of (ordered-of a d) (ordered-of b d)) (not-of (returns-of d))) (λ d h. do-below (h .0 .0))
+        (λ d. both-of (both-of (ordered-of a d) (ordered-of b d)) (not-of (returns-means R W d))) (λ d h. do-below (h .0 .0))
 
-    answer-first : First (Excludes R a b) (answer R a b)
+    -- What is computed is the answer, and nothing else is.
+    pub answer-first : Answers R a b (answer R a b)
     unfolding answer
     answer-first =
         first-test by-phase phase-of (λ r l. absurd (number-some r (omega arith)))
@@ -200,12 +163,15 @@ module _ {R : Region} (W : WellFormed R) where
         number-most by-single = omega arith
         number-most by-ordered = omega arith
 
+    pub answers-only : {k : ℕ} → Answers R a b k → k ≡ answer R a b
+    answers-only A = first-unique A answer-first
+
     -- A rule's number is the answer exactly when its condition holds, and that of no earlier rule.
     pub answer-rule : (r : Rule) → (answer R a b ≡ number r) ↔ (Excludes R a b r × ((s : Rule) → number s < number r → Excludes R a b s → ⊥))
     answer-rule r = (first-rule answer-first r, λ h. first-unique answer-first (first r (h .0) (h .1)))
 
     -- Rule 1, with no earlier rule.
-    pub answer-phase : (answer R a b ≡ 1) ↔ ((Common (Start R) a b → ⊥) ⊎ (Common (End R) a b → ⊥))
+    pub answer-phase : (answer R a b ≡ 1) ↔ ((d : Direction) × (Common (Boundary d R) a b → ⊥))
     answer-phase = ((λ e. answer-rule by-phase .0 e .0), λ h. answer-rule by-phase .1 (h, λ s l. absurd (number-some s (omega arith))))
 
     -- 0 is the answer exactly when no rule excludes the pair.
@@ -213,26 +179,15 @@ module _ {R : Region} (W : WellFormed R) where
     answer-unexcluded = ((λ e. left (first-none answer-first e)), λ D. first-unique answer-first (none (closed D)))
       where
         left : ((r : Rule) → Excludes R a b r → ⊥) → Unexcluded R a b
-        left f =
-            let s = unless _ (some-common (λ x s. reachesFree R s x) (λ x s. BarrierFree R s x) (λ x s. path-of s x) a b) (λ n. f by-phase (inl n)) in
-            let e = unless _ (some-common (reachesFree R) (BarrierFree R) path-of a b) (λ n. f by-phase (inr n)) in
-            record {
-              start = s .0;
-              start-barrier = s .1 .0 .0;
-              start-a = s .1 .0 .1;
-              start-b = s .1 .1 .1;
-              end = e .0;
-              end-barrier = e .1 .0 .0;
-              end-a = e .1 .0 .1;
-              end-b = e .1 .1 .1;
-              masters = λ c d k l i j q. f by-master (c, (d, (((k, i), (l, j)), q)));
-              singles = λ c k i j. unless _ (returns-of c) (λ n. f by-single (c, (((k, i), (k, j)), n)));
-              ordereds = λ d x y. unless _ (returns-of d) (λ n. f by-ordered (d, ((x, y), n)));
-            }
+        left f = record {
+          common = λ d. unless _ (common-of d) (λ n. f by-phase (d, n));
+          masters = λ c d k l i j q. f by-master (c, (d, (((k, i), (l, j)), q)));
+          singles = λ c k i j. unless _ (returns-means R W c) (λ n. f by-single (c, (((k, i), (k, j)), n)));
+          ordereds = λ d x y. unless _ (returns-means R W d) (λ n. f by-ordered (d, ((x, y), n)));
+        }
 
         closed : Unexcluded R a b → (r : Rule) → Excludes R a b r → ⊥
-        closed D by-phase (inl n) = n (D .start, ((D .start-barrier, D .start-a), (D .start-barrier, D .start-b)))
-        closed D by-phase (inr n) = n (D .end, ((D .end-barrier, D .end-a), (D .end-barrier, D .end-b)))
+        closed D by-phase (d, n) = n (D .common d)
         closed D by-master (c, (d, ((x, y), e))) = D .masters c d (x .0) (y .0) (x .1) (y .1) e
         closed D by-single (c, ((x, y), n)) = n (D .singles c (x .0) (x .1) (y .1))
         closed D by-ordered (d, ((x, y), n)) = n (D .ordereds d x y)
@@ -249,3 +204,15 @@ unfolding answer
 answer-most R a b =
     cond-most (noCommonPhase R a b) 1 _ (omega arith) (cond-most (bothInMasters R a b) 2 _ (omega arith)
     (cond-most (bothInSingle R a b) 3 _ (omega arith) (cond-most (bothInOrdereds R a b) 4 0 (omega arith) (omega arith))))
+
+-- Rule 2 where all masters have one thread number, as in a chart of edition 1: each node is inside some master.
+pub any-masters : (R : Region) → ((c : ℕ) → R .thread c ≡ 0) → (a b : ℕ)
+    → Excludes R a b by-master ↔ (((c : ℕ) × In R master a c) × ((d : ℕ) × In R master b d))
+any-masters R z a b = (
+  (λ (c, (d, ((x, y), e))). ((c, x), (d, y))),
+  λ ((c, x), (d, y)). (c, (d, ((x, y), z c ∙ sym (z d)))),
+)
+
+pub chart-masters : (s : List ℕ) (a b : ℕ) → let R = region (decode s) in
+    Excludes R a b by-master ↔ (((c : ℕ) × In R master a c) × ((d : ℕ) × In R master b d))
+chart-masters s = any-masters (region (decode s)) (λ c. refl)

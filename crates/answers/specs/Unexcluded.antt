@@ -2,24 +2,19 @@
 -- of them. This is what 01's answer 0 stands for.
 -- Assumes nothing.
 use mathlib.Core.Path.{_≡_}
-use mathlib.Core.Logic.{_⊎_, _≢_}
+use mathlib.Core.Logic.{_≢_}
 use mathlib.Core.Bool.{true}
-use Prim.Native.Nat.{ℕ}
-use Rattle.chart.specs.Region.{Kind, barrier, single, master, Region}
+use Prim.Native.Nat.{ℕ, _<_}
+use Rattle.chart.specs.Region.{Kind, single, master, Region}
 use Rattle.chart.specs.InOrdered.{InOrdered}
 use Rattle.paths.specs.Path.{BarrierFree}
+use Rattle.phases.specs.Phases.{Direction, Boundary}
 
 -- A barrier-free path leads from the construct's end to its begin (01: it returns).
 abbrev pub Returns : Region → ℕ → Type 0
 Returns R c = BarrierFree R (R .end c) (R .begin c)
 
--- s is a start of x, e an end of x; one is common to a and b.
-abbrev pub Start : Region → ℕ → ℕ → Type 0
-Start R x s = (R .role s ≡ barrier) × BarrierFree R s x
-
-abbrev pub End : Region → ℕ → ℕ → Type 0
-End R x e = (R .role e ≡ barrier) × BarrierFree R x e
-
+-- One is common to a and b: a start, an end.
 abbrev pub Common : (ℕ → ℕ → Type 0) → ℕ → ℕ → Type 0
 Common Of a b = (s : ℕ) × (Of a s × Of b s)
 
@@ -37,26 +32,30 @@ number by-master = 2
 number by-single = 3
 number by-ordered = 4
 
--- The condition of each rule by itself, whether or not that of an earlier rule holds too.
+-- The condition of each rule by itself, whether or not that of an earlier rule holds too. Of rule 1: no common start (forward), or no
+-- common end (backward).
 abbrev pub Excludes : Region → ℕ → ℕ → Rule → Type 0
-Excludes R a b by-phase = (Common (Start R) a b → ⊥) ⊎ (Common (End R) a b → ⊥)
+Excludes R a b by-phase = (d : Direction) × (Common (Boundary d R) a b → ⊥)
 Excludes R a b by-master = (c : ℕ) × ((d : ℕ) × ((In R master a c × In R master b d) × (R .thread c ≡ R .thread d)))
 Excludes R a b by-single = (c : ℕ) × ((In R single a c × In R single b c) × (Returns R c → ⊥))
 Excludes R a b by-ordered = (d : ℕ) × ((InOrdered R a d × InOrdered R b d) × (Returns R d → ⊥))
 
+-- The number of the first rule whose condition P holds, and 0 where none does.
+pub data First (P : Rule → Type 0) : ℕ → Type 0 where
+  first : (r : Rule) → P r → ((s : Rule) → number s < number r → P s → ⊥) → First P (number r)
+  none : ((r : Rule) → P r → ⊥) → First P 0
+
+-- k is the answer for a and b (01: the first that applies).
+abbrev pub Answers : Region → ℕ → ℕ → ℕ → Type 0
+Answers R a b k = First (Excludes R a b) k
+
+-- What is left to the pairs that no rule excludes.
 pub record Unexcluded (R : Region) (a b : ℕ) : Type 0 where
-  -- rule 1: a common start and a common end
-  pub start : ℕ
-  pub start-barrier : R .role start ≡ barrier
-  pub start-a : BarrierFree R start a
-  pub start-b : BarrierFree R start b
-  pub end : ℕ
-  pub end-barrier : R .role end ≡ barrier
-  pub end-a : BarrierFree R a end
-  pub end-b : BarrierFree R b end
-  -- rule 2: masters around a and b are masters of different threads. With one thread number for all, as in 01, not both are in a master.
+  -- rule 1: a common start (forward) and a common end (backward)
+  pub common : (d : Direction) → Common (Boundary d R) a b
+  -- rule 2: masters that enclose a and b are of different threads. With one thread number for all, as in 01, not both are in a master.
   pub masters : (c d : ℕ) → R .kind c ≡ master → R .kind d ≡ master → R .inside a c ≡ true → R .inside b d ≡ true → R .thread c ≢ R .thread d
-  -- rule 3: a single around both returns
+  -- rule 3: a single that encloses both returns
   pub singles : (c : ℕ) → R .kind c ≡ single → R .inside a c ≡ true → R .inside b c ≡ true → Returns R c
   -- rule 4: a do with both inside its ordereds returns
   pub ordereds : (d : ℕ) → InOrdered R a d → InOrdered R b d → Returns R d

@@ -18,12 +18,12 @@ use Rattle.chart.proofs.Records.{nodes-length}
 use Rattle.chart.proofs.Rows.{both-pass}
 use Rattle.paths.specs.Admission.{admitRows}
 use Rattle.phases.specs.Phases.{barriers, phase, phaseCount}
-use Rattle.phases.specs.Admission.{countsIn, answer}
-use Rattle.phases.specs.declared.admit.Counts.{Counts}
-use Rattle.phases.specs.declared.admit.Admission.the-variants.{Admitted}
-use Rattle.phases.proofs.Accepted.{accepted}
-use Rattle.phases.proofs.Loading.{barriers-most}
-use Rattle.pairs.proofs.Rows.{square}
+use Rattle.admission.specs.Admission.{countsIn, answer}
+use Rattle.admission.specs.declared.admit.Counts.{Counts}
+use Rattle.admission.specs.declared.admit.Admission.the-variants.{Admitted}
+use Rattle.loading.proofs.Accepted.{accepted}
+use Rattle.loading.proofs.Loading.{barriers-most}
+use Rattle.lists.specs.Rows.{square}
 use Rattle.bohrali.specs.Bounds.{SmallCounts}
 
 pairs-most : (n k : ℕ) (f : ℕ → ℕ → Bool) → countPairs n k f ≤ n * k

@@ -1,7 +1,7 @@
 -- Answers that fit C's number.
 -- Assumes nothing.
 use Prim.Native.Nat.{_≤_}
-use Rattle.phases.specs.declared.admit.Counts.{Counts}
+use Rattle.admission.specs.declared.admit.Counts.{Counts}
 
 pub record SmallCounts (counts : Counts) : Type 0 where
   pub nodes : counts .nodes ≤ 192

@@ -1,19 +1,25 @@
-// The calls in C. A slice is a pointer and a length there; each call returns one signed number.
+// The calls in C. A slice is a pointer and a length there; each call returns one signed number. The last part of each contract is demand 2, of
+// Judge's demand 3: what the number and the lent bytes say in paths, barriers and constructs, and about finished runs.
 ghost use mathlib.Core.Path.{_≡_};
-ghost use Rattle.phases.specs.Admission.{admitted, numberOf as Admission·numberOf};
-ghost use Rattle.bohrali.specs.Output.{numberOf as Output·numberOf};
-ghost use Rattle.bohrali.specs.Phases.{phasesWritten, phasesLeft};
-ghost use Rattle.bohrali.specs.Sheet.{sheetWritten, sheetLeft};
-ghost use Rattle.bohrali.specs.Pair.{pairAnswered, numberOf as Pair·numberOf};
+ghost use Rattle.admission.specs.Admission.{admitted, numberOf as Admission·numberOf};
+ghost use Rattle.output.specs.Output.{numberOf as Output·numberOf};
+ghost use Rattle.calls.specs.Phases.{phasesWritten, phasesLeft};
+ghost use Rattle.calls.specs.Sheet.{sheetWritten, sheetLeft};
+ghost use Rattle.calls.specs.Pair.{pairAnswered, numberOf as Pair·numberOf};
+ghost use Rattle.verdicts.specs.Judged.{judged, numberOf as Judged·numberOf};
+ghost use Rattle.verdicts.specs.Correct.{Correct};
+ghost use Rattle.correctness.specs.PhasesCorrect.{PhasesCorrect, AdmitCorrect};
+ghost use Rattle.correctness.specs.AnswersCorrect.{PairCorrect, SheetCorrect};
 ghost use Rattle.bohrali.specs.Bounds.{SmallCounts};
 ghost use Prim.Native.Nat.{_+_, _*_, _^_, _<_};
-use crate::output::Written;
-use crate::pair::Answered;
-use crate::signed::counted;
-use crate::signed::negated;
+use admission::admit::Admission;
+use admission::admit::Counts;
+use calls::pair::Answered;
 use chart::cursor::wide;
-use phases::admit::Admission;
-use phases::admit::Counts;
+use output::Written;
+use output::signed::counted;
+use output::signed::negated;
+use verdicts::Verdict;
 
 // Admit's three counts in one number.
 fn packed(counts: Counts) -> usize
@@ -26,8 +32,9 @@ fn packed(counts: Counts) -> usize
 #[no_mangle]
 pub extern "C" fn bohrali_admit(chart: &[u8]) -> i64
     ensures { λ r. ⌜ r ≡ Admission·numberOf (admitted (now (chart .entry))) ⌝ }
+    ensures { λ r. ⌜ AdmitCorrect (now (chart .entry)) r ⌝ }
 {
-    match phases::admit::admit(chart) {
+    match admission::admit::admit(chart) {
         Admission::Admitted(counts) => counted(packed(counts)),
         Admission::Refused(refusal) => negated(refusal),
     }
@@ -36,8 +43,9 @@ pub extern "C" fn bohrali_admit(chart: &[u8]) -> i64
 #[no_mangle]
 pub extern "C" fn bohrali_pair(chart: &[u8], a: usize, b: usize) -> i64
     ensures { λ r. ⌜ r ≡ Pair·numberOf (pairAnswered (now (chart .entry)) a b) ⌝ }
+    ensures { λ r. ⌜ PairCorrect (now (chart .entry)) a b r ⌝ }
 {
-    match crate::pair::pair(chart, a, b) {
+    match calls::pair::pair(chart, a, b) {
         Answered::Answer(answer) => counted(wide(answer.number)),
         Answered::Refused(refusal) => negated(refusal),
     }
@@ -47,8 +55,9 @@ pub extern "C" fn bohrali_pair(chart: &[u8], a: usize, b: usize) -> i64
 pub extern "C" fn bohrali_phases(chart: &[u8], out: &mut [u8]) -> i64
     ensures { λ r. ⌜ r ≡ Output·numberOf (phasesWritten (now (chart .entry)) (now (out .entry))) ⌝ }
     ensures { λ _. ⌜ now (out .exit) ≡ phasesLeft (now (chart .entry)) (now (out .entry)) ⌝ }
+    ensures { λ r. ⌜ PhasesCorrect (now (chart .entry)) (now (out .entry)) r (now (out .exit)) ⌝ }
 {
-    match crate::output::phases(chart, out) {
+    match calls::writing::phases(chart, out) {
         Written::Bytes(count) => counted(count),
         Written::Refused(refusal) => negated(refusal),
     }
@@ -58,9 +67,22 @@ pub extern "C" fn bohrali_phases(chart: &[u8], out: &mut [u8]) -> i64
 pub extern "C" fn bohrali_sheet(chart: &[u8], out: &mut [u8]) -> i64
     ensures { λ r. ⌜ r ≡ Output·numberOf (sheetWritten (now (chart .entry)) (now (out .entry))) ⌝ }
     ensures { λ _. ⌜ now (out .exit) ≡ sheetLeft (now (chart .entry)) (now (out .entry)) ⌝ }
+    ensures { λ r. ⌜ SheetCorrect (now (chart .entry)) (now (out .entry)) r (now (out .exit)) ⌝ }
 {
-    match crate::output::sheet(chart, out) {
+    match calls::writing::sheet(chart, out) {
         Written::Bytes(count) => counted(count),
         Written::Refused(refusal) => negated(refusal),
+    }
+}
+
+#[no_mangle]
+pub extern "C" fn bohrali_judge(chart: &[u8], claims: &[u8]) -> i64
+    ensures { λ r. ⌜ r ≡ Judged·numberOf (judged (now (chart .entry)) (now (claims .entry))) ⌝ }
+    ensures { λ r. ⌜ Correct (now (chart .entry)) (now (claims .entry)) r ⌝ }
+{
+    match judge::judge(chart, claims) {
+        Verdict::Passed => counted(0),
+        Verdict::Failed(index) => counted(index + 1),
+        Verdict::Refused(refusal) => negated(refusal),
     }
 }

@@ -34,7 +34,9 @@ laid s h =
     let edges = or-neither (ltb (t .edges) 1) (ltb 1024 (t .edges)) (rest .0) in
     let whole = or-neither (not (eqb (length s) (size (t .nodes) (t .edges) (t .constructs)))) _ (rows .1 .1 .1 .0) in
     record {
-      counts = refl;
+      node-count = refl;
+      edge-count = refl;
+      construct-count = refl;
       two-nodes = ltb-false (t .nodes) 2 (nodes .0);
       nodes-most = ltb-false 192 (t .nodes) (nodes .1);
       one-edge = ltb-false (t .edges) 1 (edges .0);

@@ -10,7 +10,7 @@ use Rattle.chart.specs.Scope.{Encloses, here}
 use Rattle.chart.specs.Nesting.{mayEnclose}
 use Rattle.chart.specs.WellFormed.{WellFormed}
 use Rattle.chart.proofs.Tree.{linear, higher}
-use Rattle.chart.proofs.Reading.{Frame, opening, closing, marks, Reads}
+use Rattle.chart.proofs.Reading.{Frame, begin, end, marks, Reads}
 
 outermost-alone : (kind above : Kind) → Outermost kind → mayEnclose kind above ≡ false
 unfolding mayEnclose
@@ -40,15 +40,15 @@ module _ {R : Region} {Counts : ℕ → Type 0} {lies : ℕ → ℕ} {scope : Fr
   scope-crosses : (f : Frame) (x c : ℕ) → Counts c → Encloses (R .parent) (scope f x) c → Crosses f x c
   scope-crosses f x c m e = elim (F .scope-cases f x e m) [ inl a ↦ inl (F .enclosed-inside a m) | inr w ↦ inr w ]
 
-  along : {x y c : ℕ} → R .edge x y ≡ true → Crosses opening x c → Crosses closing y c
+  along : {x y c : ℕ} → R .edge x y ≡ true → Crosses begin x c → Crosses end y c
   along {x} {y} {c} e h =
-      scope-crosses closing y c (crosses-counts opening x c h)
-      (subst (λ (p : ℕ). Encloses (R .parent) p c) (F .scopes-agree e) (crosses-scope opening x c h))
+      scope-crosses end y c (crosses-counts begin x c h)
+      (subst (λ (p : ℕ). Encloses (R .parent) p c) (F .scopes-agree e) (crosses-scope begin x c h))
 
-  against : {x y c : ℕ} → R .edge x y ≡ true → Crosses closing y c → Crosses opening x c
+  against : {x y c : ℕ} → R .edge x y ≡ true → Crosses end y c → Crosses begin x c
   against {x} {y} {c} e h =
-      scope-crosses opening x c (crosses-counts closing y c h)
-      (subst (λ (p : ℕ). Encloses (R .parent) p c) (sym (F .scopes-agree e)) (crosses-scope closing y c h))
+      scope-crosses begin x c (crosses-counts end y c h)
+      (subst (λ (p : ℕ). Encloses (R .parent) p c) (sym (F .scopes-agree e)) (crosses-scope end y c h))
 
   inside-same : (x y k : ℕ) → lies x ≡ lies y → R .inside x k ≡ true → R .inside y k ≡ true
   inside-same x y k q i = F .enclosed-inside (subst (λ (p : ℕ). Encloses (R .parent) p k) q (F .inside-enclosed i)) (F .inside-counts i)
@@ -57,9 +57,9 @@ module _ {R : Region} {Counts : ℕ → Type 0} {lies : ℕ → ℕ} {scope : Fr
   same-inside x y k q = same-truth (R .inside x k) (R .inside y k) (inside-same x y k q) (inside-same y x k (sym q))
 
   begin-enclosed : {x c k : ℕ} → R .role x ≡ opens c → R .inside x k ≡ true → Encloses (R .parent) (R .parent c) k
-  begin-enclosed {c = c} {k} w i = subst (λ (p : ℕ). Encloses (R .parent) p k) (F .marks-lies opening c w) (F .inside-enclosed i)
+  begin-enclosed {c = c} {k} w i = subst (λ (p : ℕ). Encloses (R .parent) p k) (F .marks-lies begin c w) (F .inside-enclosed i)
 
-  -- two constructs around a node, neither of which may stand above the other, are one
+  -- two constructs that enclose a node, neither of which may stand above the other, are one
   one-of : {x c k : ℕ} → R .inside x c ≡ true → R .inside x k ≡ true
       → mayEnclose (R .kind c) (R .kind k) ≡ false → mayEnclose (R .kind k) (R .kind c) ≡ false → c ≡ k
   one-of i j p q = elim (linear (F .inside-enclosed i) (F .inside-enclosed j)) [
@@ -68,43 +68,44 @@ module _ {R : Region} {Counts : ℕ → Type 0} {lies : ℕ → ℕ} {scope : Fr
     | inr (inr a) ↦ absurd (clash (F .nested (F .inside-counts j) (F .inside-counts i) a) q)
   ]
 
-  loop-around : {x o : ℕ} → R .inside x o ≡ true → R .kind o ≡ ordered → R .inside x (R .parent o) ≡ true
-  loop-around i k =
+  loop-encloses : {x o : ℕ} → R .inside x o ≡ true → R .kind o ≡ ordered → R .inside x (R .parent o) ≡ true
+  loop-encloses i k =
       let m = F .ordered-counts (F .inside-counts i) k in
       F .enclosed-inside (higher (F .inside-enclosed i) (here (F .counts-not-outside m))) m
 
-  loop-around-begin : {x o : ℕ} → R .role x ≡ opens o → R .kind o ≡ ordered → R .inside x (R .parent o) ≡ true
-  loop-around-begin {x} {o} w k =
-      let m = F .ordered-counts (F .marks-counts opening o w) k in
-      F .enclosed-inside (rw (F .marks-lies opening o w) (here (F .counts-not-outside m))) m
+  loop-encloses-begin : {x o : ℕ} → R .role x ≡ opens o → R .kind o ≡ ordered → R .inside x (R .parent o) ≡ true
+  loop-encloses-begin {x} {o} w k =
+      let m = F .ordered-counts (F .marks-counts begin o w) k in
+      F .enclosed-inside (rw (F .marks-lies begin o w) (here (F .counts-not-outside m))) m
 
   pub laws : WellFormed R
   laws = record {
+    kept-below = F .kept-below;
     from-below = F .from-below;
     to-below = F .to-below;
     barrier-below = F .barrier-below;
-    begin-below = λ {x} {c} w. F .marks-below opening c w;
-    end-below = λ {x} {c} w. F .marks-below closing c w;
-    opens-below = λ {x} {c} w. F .counts-below (F .marks-counts opening c w);
+    begin-below = λ {x} {c} w. F .marks-below begin c w;
+    end-below = λ {x} {c} w. F .marks-below end c w;
+    opens-below = λ {x} {c} w. F .counts-below (F .marks-counts begin c w);
     inside-below = λ i. F .counts-below (F .inside-counts i);
-    opens-begin = λ {x} {c} w. F .marks-only opening c w;
-    closes-end = λ {x} {c} w. F .marks-only closing c w;
-    closes-begun = λ {x} {c} w. F .framed opening c (F .marks-counts closing c w);
-    opens-ended = λ {x} {c} w. F .framed closing c (F .marks-counts opening c w);
-    inside-begun = λ {x} {c} i. F .framed opening c (F .inside-counts i);
+    opens-begin = λ {x} {c} w. F .marks-only begin c w;
+    closes-end = λ {x} {c} w. F .marks-only end c w;
+    closes-begun = λ {x} {c} w. F .framed begin c (F .marks-counts end c w);
+    opens-ended = λ {x} {c} w. F .framed end c (F .marks-counts begin c w);
+    inside-begun = λ {x} {c} i. F .framed begin c (F .inside-counts i);
     enter = λ e i. against e (inl i);
     leave = λ e i. along e (inl i);
     after-begin = λ e w. along e (inr w);
     before-end = λ e w. against e (inr w);
     same-scope = λ {x} {c} w k. same-inside (R .end c) x k
-        (F .marks-lies closing c (F .framed closing c (F .marks-counts opening c w)) ∙ sym (F .marks-lies opening c w));
-    begin-outside = λ {x} {c} w. false-if (λ i. F .not-in-itself (F .marks-counts opening c w) (begin-enclosed w i));
+        (F .marks-lies end c (F .framed end c (F .marks-counts begin c w)) ∙ sym (F .marks-lies begin c w));
+    begin-outside = λ {x} {c} w. false-if (λ i. F .not-in-itself (F .marks-counts begin c w) (begin-enclosed w i));
     barrier-outside = λ w c. false-if (λ i. F .barrier-bare w (F .inside-enclosed i) (F .inside-counts i));
     outermost = λ {x} {c} w u k. false-if (λ i.
-        clash (F .nested (F .marks-counts opening c w) (F .inside-counts i) (begin-enclosed w i)) (outermost-alone _ _ u));
+        clash (F .nested (F .marks-counts begin c w) (F .inside-counts i) (begin-enclosed w i)) (outermost-alone _ _ u));
     one-outermost = λ i j u v. one-of i j (outermost-alone _ _ u) (outermost-alone _ _ v);
-    ordered-begin = loop-around-begin;
-    ordered-inside = loop-around;
+    ordered-begin = loop-encloses-begin;
+    ordered-inside = loop-encloses;
     ordered-loop = λ i k. F .ordered-loop (F .inside-counts i) k;
     one-thread = λ i j p q. ap (R .thread) (one-of i j (masters-apart _ _ p q) (masters-apart _ _ q p));
     start-barrier = F .start-barrier;

@@ -14,7 +14,7 @@ use Rattle.lists.specs.Truth.{truth, true-not, and-false, or-neither, neither-o
 use Rattle.lists.specs.Range.{any, none-passes, any-none}
 use Rattle.chart.specs.Format.{outside, Construct, Decoded, constructAt}
 use Rattle.chart.specs.Scope.{criticalByte, loopByte, orderedByte, kindOf, encloses, Encloses, parentOf}
-use Rattle.chart.specs.Nesting.{mayEnclose, sameCritical, excluded, wronglyAbove, strayOrdered, misnested}
+use Rattle.chart.specs.Nesting.{kinds, mayEnclose, sameCritical, excluded, wronglyAbove, strayOrdered, misnested}
 use Rattle.chart.specs.Refusal.{badConstruct, badAlone, badConstructs}
 use Rattle.chart.proofs.Tree.{Below, below-more, computed, computes, lower}
 
@@ -32,7 +32,7 @@ fit-below bound p (inr l) = rw (lt-ltb p bound l)
 -- Row 6, of a construct by itself.
 pub record ConstructFits (c kind parent name : ℕ) : Type 0 where
   pub least : 1 ≤ kind
-  pub most : kind ≤ 5
+  pub most : kind ≤ kinds
   pub parent-lower : Below c parent
   pub unnamed : kind ≢ criticalByte → name ≡ 0
 
@@ -59,12 +59,12 @@ pub record ConstructsFit (D : Decoded) : Type 0 where
 pub construct-fits : (c kind parent name : ℕ) → badConstruct c kind parent name ≡ false → ConstructFits c kind parent name
 unfolding badConstruct
 construct-fits c kind parent name h =
-    let a = or-neither (ltb kind 1 || ltb 5 kind) _ h in
-    let b = or-neither (ltb kind 1) (ltb 5 kind) (a .0) in
+    let a = or-neither (ltb kind 1 || ltb kinds kind) _ h in
+    let b = or-neither (ltb kind 1) (ltb kinds kind) (a .0) in
     let d = or-neither (not (ltb parent c) && not (eqb parent outside)) _ (a .1) in
     record {
       least = ltb-false kind 1 (b .0);
-      most = ltb-false 5 kind (b .1);
+      most = ltb-false kinds kind (b .1);
       parent-lower = below-fits c parent (d .0);
       unnamed = λ k. not-eqb name 0 (and-fails (not (eqb kind criticalByte)) (not (eqb name 0)) (d .1) (rw (ne-eqb kind criticalByte k)));
     }
@@ -72,7 +72,7 @@ construct-fits c kind parent name h =
 pub fit-construct : (c kind parent name : ℕ) → ConstructFits c kind parent name → badConstruct c kind parent name ≡ false
 unfolding badConstruct
 fit-construct c kind parent name F =
-    neither-or _ _ (neither-or _ _ (le-ltb kind 1 (F .least)) (le-ltb 5 kind (F .most))) (neither-or _ _ (fit-below c parent (F .parent-lower))
+    neither-or _ _ (neither-or _ _ (le-ltb kind 1 (F .least)) (le-ltb kinds kind (F .most))) (neither-or _ _ (fit-below c parent (F .parent-lower))
     (fails-and (not (eqb kind criticalByte)) (not (eqb name 0))
     (λ k. eq-not-eqb name 0 (F .unnamed (eqb-false kind criticalByte (not-true (eqb kind criticalByte) k))))))
 

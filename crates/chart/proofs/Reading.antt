@@ -13,22 +13,23 @@ use Rattle.chart.specs.Nesting.{mayEnclose}
 -- The two nodes that frame a construct: its begin, which opens it, and its end, which closes it. What holds of the one along an edge
 -- holds of the other against it.
 pub data Frame : Type 0 where
-  opening closing : Frame
+  begin end : Frame
 
 abbrev pub marks : Frame → ℕ → Role
-marks opening c = opens c
-marks closing c = closes c
+marks begin c = opens c
+marks end c = closes c
 
 abbrev pub frameIn : Region → Frame → ℕ → ℕ
-frameIn R opening c = R .begin c
-frameIn R closing c = R .end c
+frameIn R begin c = R .begin c
+frameIn R end c = R .end c
 
--- c is a construct of the region where `Counts c`. A node x lies in the construct `lies x`; its scope is `scope opening x` leaving it and
--- `scope closing x` arriving at it.
+-- c is a construct of the region where `Counts c`. A node x lies in the construct `lies x`; its scope is `scope begin x` leaving it and
+-- `scope end x` arriving at it.
 pub record Reads (R : Region) (Counts : ℕ → Type 0) (lies : ℕ → ℕ) (scope : Frame → ℕ → ℕ) : Type 0 where
   -- numbers
   pub counts-below : {c : ℕ} → Counts c → c < R .constructs
   pub counts-not-outside : {c : ℕ} → Counts c → c ≢ outside
+  pub kept-below : {x : ℕ} → R .kept x ≡ true → x < R .nodes
   pub barrier-below : {x : ℕ} → R .role x ≡ barrier → x < R .nodes
   pub from-below : {x y : ℕ} → R .edge x y ≡ true → x < R .nodes
   pub to-below : {x y : ℕ} → R .edge x y ≡ true → y < R .nodes
@@ -48,7 +49,7 @@ pub record Reads (R : Region) (Counts : ℕ → Type 0) (lies : ℕ → ℕ) (sc
   pub marks-scope : (f : Frame) {x : ℕ} (c : ℕ) → R .role x ≡ marks f c → scope f x ≡ c
   pub scope-cases : (f : Frame) (x : ℕ) {c : ℕ} → Encloses (R .parent) (scope f x) c → Counts c
       → Encloses (R .parent) (lies x) c ⊎ (R .role x ≡ marks f c)
-  pub scopes-agree : {x y : ℕ} → R .edge x y ≡ true → scope opening x ≡ scope closing y
+  pub scopes-agree : {x y : ℕ} → R .edge x y ≡ true → scope begin x ≡ scope end y
   -- nesting
   pub not-in-itself : {c : ℕ} → Counts c → Encloses (R .parent) (R .parent c) c → ⊥
   pub nested : {c k : ℕ} → Counts c → Counts k → Encloses (R .parent) (R .parent c) k → mayEnclose (R .kind c) (R .kind k) ≡ true

@@ -1,14 +1,14 @@
 -- Where the records of a laid-out chart stand in its bytes.
 -- Assumes nothing.
-use mathlib.Core.Path.{_≡_, refl, ap, sym, _∙_, subst}
+use mathlib.Core.Path.{_≡_, refl, ap, ap₂, sym, _∙_, subst}
 use mathlib.Core.List.{List}
 use Prim.Native.Nat.{ℕ, zero, suc, _+_, _*_, _-_, _<_}
 use native.Mathlib.Omega.{arith}
 use native.Mathlib.Nat.{mul-suc}
 use lib.ListN.{length, getD, drop}
 use lib.Seq.{getD-drop, drop-drop}
-use Rattle.chart.specs.Format.{outside, field, Node, Edge, Construct, nodeOf, edgeOf, constructOf, records, lastTrailer, decode, nodeAt, edgeAt, constructAt}
-use Rattle.chart.specs.Checked.{Laid, countsOf}
+use Rattle.chart.specs.Format.{field, Node, Edge, Construct, nodeOf, edgeOf, constructOf, records, lastTrailer, decode, noNode, noEdge, noConstruct, nodeAt, edgeAt, constructAt}
+use Rattle.chart.specs.Checked.{Laid}
 use Rattle.chart.specs.declared.format.Chart.{Chart}
 
 pub length-records : {A : Type 0} (read : List ℕ → A) (width n : ℕ) (s : List ℕ) → length (records read width n s) ≡ n
@@ -41,30 +41,30 @@ field-drop s at k = let q : at + (k + 1) ≡ at + k + 1 = omega arith in rw (get
 module _ (s : List ℕ) (chart : Chart) (laid : Laid s chart) where
   pub node-fields : (x at : ℕ) → x < chart .nodes → at ≡ 4 * x
       → (getD s (at + 0) 0 ≡ nodeAt (decode s .nodes) x .kind) × (getD s (at + 1) 0 ≡ nodeAt (decode s .nodes) x .number)
-  unfolding nodeAt decode nodeOf countsOf
+  unfolding nodeAt decode nodeOf
   node-fields x at l e =
-      let low = subst (λ (c : Chart). x < c .nodes) (laid .counts) l in
+      let low = subst (λ (n : ℕ). x < n) (laid .node-count) l in
       let place : at ≡ 0 + 4 * x = omega arith in
-      let here = record-from nodeOf 4 (lastTrailer s .nodes) 0 s x at (record { kind = 0; number = outside; tag = 0 }) low place in
+      let here = record-from nodeOf 4 (lastTrailer s .nodes) 0 s x at noNode low place in
       (sym (ap (λ (n : Node). n .kind) here ∙ getD-drop at s 0 0), sym (ap (λ (n : Node). n .number) here ∙ getD-drop at s 1 0))
 
   pub edge-fields : (i at : ℕ) → i < chart .edges → at ≡ 4 * chart .nodes + 2 * i
       → (getD s (at + 0) 0 ≡ edgeAt (decode s .edges) i .from) × (getD s (at + 1) 0 ≡ edgeAt (decode s .edges) i .to)
-  unfolding edgeAt decode edgeOf countsOf
+  unfolding edgeAt decode edgeOf
   edge-fields i at l e =
-      let low = subst (λ (c : Chart). i < c .edges) (laid .counts) l in
-      let place = subst (λ (c : Chart). at ≡ 4 * c .nodes + 2 * i) (laid .counts) e in
-      let here = record-from edgeOf 2 (lastTrailer s .edges) (4 * lastTrailer s .nodes) s i at (record { from = 0; to = 0 }) low place in
+      let low = subst (λ (n : ℕ). i < n) (laid .edge-count) l in
+      let place = subst (λ (n : ℕ). at ≡ 4 * n + 2 * i) (laid .node-count) e in
+      let here = record-from edgeOf 2 (lastTrailer s .edges) (4 * lastTrailer s .nodes) s i at noEdge low place in
       (sym (ap (λ (n : Edge). n .from) here ∙ getD-drop at s 0 0), sym (ap (λ (n : Edge). n .to) here ∙ getD-drop at s 1 0))
 
   pub construct-fields : (c at : ℕ) → c < chart .constructs → at ≡ 4 * chart .nodes + 2 * chart .edges + 4 * c
       → (getD s (at + 0) 0 ≡ constructAt (decode s .constructs) c .kind) × (getD s (at + 1) 0 ≡ constructAt (decode s .constructs) c .parent)
       × (field s (at + 2) ≡ constructAt (decode s .constructs) c .name)
-  unfolding constructAt decode constructOf countsOf
+  unfolding constructAt decode constructOf
   construct-fields c at l e =
-      let low = subst (λ (k : Chart). c < k .constructs) (laid .counts) l in
-      let place = subst (λ (k : Chart). at ≡ 4 * k .nodes + 2 * k .edges + 4 * c) (laid .counts) e in
-      let here = record-from constructOf 4 (lastTrailer s .constructs) (4 * lastTrailer s .nodes + 2 * lastTrailer s .edges) s c at (record { kind = 0; parent = outside; name = 0 }) low place in (
+      let low = subst (λ (n : ℕ). c < n) (laid .construct-count) l in
+      let place = e ∙ ap₂ (λ (n m : ℕ). 4 * n + 2 * m + 4 * c) (laid .node-count) (laid .edge-count) in
+      let here = record-from constructOf 4 (lastTrailer s .constructs) (4 * lastTrailer s .nodes + 2 * lastTrailer s .edges) s c at noConstruct low place in (
         sym (ap (λ (n : Construct). n .kind) here ∙ getD-drop at s 0 0),
         sym (ap (λ (n : Construct). n .parent) here ∙ getD-drop at s 1 0),
         sym (ap (λ (n : Construct). n .name) here ∙ field-drop s at 2),
@@ -72,18 +72,18 @@ module _ (s : List ℕ) (chart : Chart) (laid : Laid s chart) where
 
   -- the tables have as many records as the counts say
   pub nodes-length : length (decode s .nodes) ≡ chart .nodes
-  unfolding decode countsOf
-  nodes-length = length-records nodeOf 4 (lastTrailer s .nodes) s ∙ ap (λ (c : Chart). c .nodes) (sym (laid .counts))
+  unfolding decode
+  nodes-length = length-records nodeOf 4 (lastTrailer s .nodes) s ∙ sym (laid .node-count)
 
   pub edges-length : length (decode s .edges) ≡ chart .edges
-  unfolding decode countsOf
-  edges-length = length-records edgeOf 2 (lastTrailer s .edges) (drop (4 * lastTrailer s .nodes) s) ∙ ap (λ (c : Chart). c .edges) (sym (laid .counts))
+  unfolding decode
+  edges-length = length-records edgeOf 2 (lastTrailer s .edges) (drop (4 * lastTrailer s .nodes) s) ∙ sym (laid .edge-count)
 
   pub constructs-length : length (decode s .constructs) ≡ chart .constructs
-  unfolding decode countsOf
+  unfolding decode
   constructs-length =
       length-records constructOf 4 (lastTrailer s .constructs) (drop (4 * lastTrailer s .nodes + 2 * lastTrailer s .edges) s)
-      ∙ ap (λ (c : Chart). c .constructs) (sym (laid .counts))
+      ∙ sym (laid .construct-count)
 
 -- a field of the trailer, by its place
 pub trailer-field : (s : List ℕ) (at k : ℕ) → at ≡ length s - 16 → field s (at + k) ≡ field (drop (length s - 16) s) k

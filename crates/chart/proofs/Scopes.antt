@@ -10,16 +10,16 @@ use Rattle.lists.specs.Truth.{bad}
 use Rattle.chart.specs.Format.{outside}
 use Rattle.chart.specs.Region.{Role, plain, barrier, opens, closes, loop, ordered}
 use Rattle.chart.specs.Scope.{loopByte, orderedByte, barrierNode, beginNode, endNode, roleOf, kindOf, liesIn, scope, Encloses, here, up}
-use Rattle.chart.proofs.Reading.{Frame, opening, closing, marks}
+use Rattle.chart.proofs.Reading.{Frame, begin, end, marks}
 
 -- the kind of a frame's node
 abbrev pub byteOf : Frame → ℕ
-byteOf opening = beginNode
-byteOf closing = endNode
+byteOf begin = beginNode
+byteOf end = endNode
 
 pub frame-byte : (f : Frame) → beginNode ≤ byteOf f
-frame-byte opening = omega arith
-frame-byte closing = omega arith
+frame-byte begin = omega arith
+frame-byte end = omega arith
 
 -- what a node's role says of its record, and back
 abbrev Means : ℕ → ℕ → Role → Type 0
@@ -40,13 +40,13 @@ role-is kind number role h =
     subst (Means kind number) h (role-means kind number (ℕ-discrete kind barrierNode) (ℕ-discrete kind beginNode) (ℕ-discrete kind endNode))
 
 pub role-marks : (f : Frame) (kind number c : ℕ) → roleOf kind number ≡ marks f c → (kind ≡ byteOf f) × (number ≡ c)
-role-marks opening kind number c h = role-is kind number (opens c) h
-role-marks closing kind number c h = role-is kind number (closes c) h
+role-marks begin kind number c h = role-is kind number (opens c) h
+role-marks end kind number c h = role-is kind number (closes c) h
 
 pub marks-role : (f : Frame) {kind number c : ℕ} → kind ≡ byteOf f → number ≡ c → roleOf kind number ≡ marks f c
 unfolding roleOf
-marks-role opening h k = rw (h, k)
-marks-role closing h k = rw (h, k)
+marks-role begin h k = rw (h, k)
+marks-role end h k = rw (h, k)
 
 pub barrier-role : {kind : ℕ} (number : ℕ) → kind ≡ barrierNode → roleOf kind number ≡ barrier
 unfolding roleOf

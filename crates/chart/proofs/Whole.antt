@@ -10,17 +10,17 @@ use native.Mathlib.Omega.{arith}
 use native.Mathlib.Decide.{decLt}
 use lib.Dec.{eqb}
 use lib.ListN.{length, List·getD-eq-default}
-use borrow.Author.Tests.{eqb-true}
+use borrow.Author.Tests.{eqb-true, ltb-true}
 use Rattle.lists.specs.Truth.{and-both}
 use Rattle.lists.specs.Range.{first, any-at, at-any, first-passes}
-use Rattle.chart.specs.Format.{outside, Node, Construct, Decoded, nodeAt, edgeAt, constructAt}
+use Rattle.chart.specs.Format.{outside, Node, Construct, Decoded, noNode, noConstruct, nodeAt, edgeAt, constructAt}
 use Rattle.chart.specs.Region.{barrier, ordered}
 use Rattle.chart.specs.Scope.{loopByte, barrierNode, beginNode, roleAt, kindOf, liesIn, liesAt, scopeAt, Encloses, parentOf}
 use Rattle.chart.specs.Reading.{edgeIn, insideAt, frameOf, region}
 use Rattle.chart.proofs.Tree.{Below, below-more, outside-encloses, computed, computes, lower, irreflexive}
 use Rattle.chart.proofs.NestingFacts.{parents-lower}
 use Rattle.chart.proofs.Facts.{NodeFits, TablesFit, FrameAt, OneFrame, EdgeFits, frame-construct, isFrame, is-frame, frame-is}
-use Rattle.chart.proofs.Reading.{Frame, opening, closing, marks, frameIn, Reads}
+use Rattle.chart.proofs.Reading.{Frame, begin, end, marks, frameIn, Reads}
 use Rattle.chart.proofs.Scopes.{byteOf, frame-byte, role-is, role-marks, marks-role, barrier-role, ordered-byte, loop-byte, lies-number, lies-parent, scope-own, to-scope, of-scope}
 
 module _ (nodes : List Node) (kind c : ℕ) (one : OneFrame nodes kind c) where
@@ -59,13 +59,13 @@ module _ (D : Decoded) where
   scoped f x = scopeAt (byteOf f) (D .nodes) (D .constructs) x
 
   -- past the last node stands a plain one, past the last construct one of no kind
-  no-node : (x : ℕ) → length (D .nodes) ≤ x → nodeAt (D .nodes) x ≡ record { kind = 0; number = outside; tag = 0 }
+  no-node : (x : ℕ) → length (D .nodes) ≤ x → nodeAt (D .nodes) x ≡ noNode
   unfolding nodeAt
   no-node x l = List·getD-eq-default (D .nodes) _ l
 
   no-construct : (c : ℕ) → length (D .constructs) ≤ c → constructAt (D .constructs) c .kind ≡ 0
   unfolding constructAt
-  no-construct c l = ap (λ (k : Construct). k .kind) (List·getD-eq-default (D .constructs) (record { kind = 0; parent = outside; name = 0 }) l)
+  no-construct c l = ap (λ (k : Construct). k .kind) (List·getD-eq-default (D .constructs) noConstruct l)
 
   in-chart : (x : ℕ) → 1 ≤ kind x → x < length (D .nodes)
   in-chart x k = elim (decLt x (length (D .nodes))) [
@@ -104,12 +104,12 @@ module _ (D : Decoded) where
 
     -- frames
     frame-in : (f : Frame) (c : ℕ) → frameIn (region D) f c ≡ frameOf (D .nodes) (byteOf f) c
-    frame-in opening c = refl
-    frame-in closing c = refl
+    frame-in begin c = refl
+    frame-in end c = refl
 
     one : (f : Frame) (c : ℕ) → c < size → OneFrame (D .nodes) (byteOf f) c
-    one opening = F .frames .begins
-    one closing = F .frames .ends
+    one begin = F .frames .begins
+    one end = F .frames .ends
 
     at-marks : (f : Frame) (x c : ℕ) → FrameAt (D .nodes) (byteOf f) c x → roleAt (D .nodes) x ≡ marks f c
     unfolding roleAt
@@ -203,6 +203,7 @@ module _ (D : Decoded) where
     reads few = record {
       counts-below = λ l. l;
       counts-not-outside = λ l q. past l q;
+      kept-below = λ {x} k. ltb-true x (length (D .nodes)) k;
       barrier-below = λ {x} w. let k = barrier-kind x w in in-chart x (omega arith);
       from-below = λ {x} {y} e. edge-at x y e .from-below;
       to-below = λ {x} {y} e. edge-at x y e .to-below;

@@ -6,6 +6,8 @@ use mathlib.Core.Option.{Option, none, some}
 use Prim.Native.Nat.{ℕ, _≤_}
 use lib.ListN.{length}
 use Rattle.chart.specs.Format.{decode, size}
+use Rattle.chart.specs.Region.{Region}
+use Rattle.chart.specs.Reading.{region}
 use Rattle.chart.specs.Refusal.{firstOf, chartRows}
 use Rattle.chart.specs.declared.format.Chart.{Chart}
 use Rattle.chart.specs.declared.format.Checked.{Checked}
@@ -15,11 +17,6 @@ use Rattle.chart.specs.declared.format.Checked.the-variants.{Passed, Ref
 unfoldable pub countsOf : List ℕ → Chart
 countsOf s = record { nodes = decode s .trailer .nodes; edges = decode s .trailer .edges; constructs = decode s .trailer .constructs }
 
--- 01's number for every case: a refusal's own, and 0 for a chart that no row refuses.
-unfoldable pub numberOf : Checked → ℕ
-numberOf (Passed chart) = 0
-numberOf (Refused refusal) = refusal .number
-
 unfoldable pub answer : Option ℕ → Chart → Checked
 answer none chart = Passed chart
 answer (some number) chart = Refused (record { number = number })
@@ -28,13 +25,15 @@ answer (some number) chart = Refused (record { number = number })
 unfoldable pub checked : List ℕ → Checked
 checked s = answer (firstOf (chartRows s)) (countsOf s)
 
-pub checked-number : (s : List ℕ) (number : ℕ) → firstOf (chartRows s) ≡ some number → numberOf (checked s) ≡ number
-unfolding checked answer numberOf
-checked-number s number h = rw h
+-- The region that the bytes of a chart are read as, by its counts.
+abbrev pub reading : List ℕ → Chart → Region
+reading s chart = region (decode s)
 
--- Bytes that rows 1 to 4 let pass, with their counts.
+-- Bytes that rows 1 to 4 let pass, with their counts. Each count has its own equation: a chart may carry more than its counts.
 pub record Laid (s : List ℕ) (chart : Chart) : Type 0 where
-  pub counts : chart ≡ countsOf s
+  pub node-count : chart .nodes ≡ decode s .trailer .nodes
+  pub edge-count : chart .edges ≡ decode s .trailer .edges
+  pub construct-count : chart .constructs ≡ decode s .trailer .constructs
   pub two-nodes : 2 ≤ chart .nodes
   pub nodes-most : chart .nodes ≤ 192
   pub one-edge : 1 ≤ chart .edges

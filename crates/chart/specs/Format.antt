@@ -13,7 +13,8 @@ field s at = getD s at 0 + 256 * getD s (at + 1) 0
 abbrev pub outside : ℕ
 outside = 255
 
--- The number is that of the innermost construct around a plain node, and of the construct that a begin opens or an end closes.
+-- The number is that of the innermost construct that encloses a plain node, and of the construct that a begin opens or an end closes. The
+-- tag is the buyer's: it is decoded, and read by nothing.
 pub record Node : Type 0 where
   pub kind : ℕ
   pub number : ℕ
@@ -94,12 +95,22 @@ decode s =
       trailer = t;
     }
 
--- Look-ups by number, total: past the last record stands a plain node outside everything, an edge from 0 to 0, a construct of no kind.
+-- What stands past the last record: a plain node outside everything, an edge from 0 to 0, a construct of no kind.
+abbrev pub noNode : Node
+noNode = record { kind = 0; number = outside; tag = 0 }
+
+abbrev pub noEdge : Edge
+noEdge = record { from = 0; to = 0 }
+
+abbrev pub noConstruct : Construct
+noConstruct = record { kind = 0; parent = outside; name = 0 }
+
+-- Look-ups by number, total.
 unfoldable pub nodeAt : List Node → ℕ → Node
-nodeAt nodes x = getD nodes x (record { kind = 0; number = outside; tag = 0 })
+nodeAt nodes x = getD nodes x noNode
 
 unfoldable pub edgeAt : List Edge → ℕ → Edge
-edgeAt edges i = getD edges i (record { from = 0; to = 0 })
+edgeAt edges i = getD edges i noEdge
 
 unfoldable pub constructAt : List Construct → ℕ → Construct
-constructAt constructs c = getD constructs c (record { kind = 0; parent = outside; name = 0 })
+constructAt constructs c = getD constructs c noConstruct

@@ -51,6 +51,10 @@ strayOrdered constructs c =
 unfoldable pub misnested : List Construct → ℕ → Bool
 misnested constructs c = any (length constructs) (wronglyAbove constructs c) || strayOrdered constructs c
 
+-- How many kinds there are: their bytes are 1 to 5.
+abbrev pub kinds : ℕ
+kinds = 5
+
 -- A table that has the rule: rows by kind, columns by kind above, kinds counted from 0.
 pub record NestingTable (table : List (List Bool)) : Type 0 where
-  pub entry : (kind above : ℕ) → kind < 5 → above < 5 → getD (getD table kind []) above false ≡ mayEnclose (kindOf (kind + 1)) (kindOf (above + 1))
+  pub entry : (kind above : ℕ) → kind < kinds → above < kinds → getD (getD table kind []) above false ≡ mayEnclose (kindOf (kind + 1)) (kindOf (above + 1))

@@ -1,9 +1,10 @@
--- A chart read as a region. In the base the region is the whole chart, from its first node to its last, and a master's thread is 0.
+-- A chart read as a region. In the base the region is the whole chart, from its first node (01: Start) to its last (01: Finish), and a
+-- master's thread is 0.
 -- Assumes nothing.
 use mathlib.Core.Bool.{Bool, _&&_}
 use mathlib.Core.List.{List}
 use Prim.Native.Nat.{ℕ, _-_}
-use lib.Dec.{eqb}
+use lib.Dec.{eqb, ltb}
 use lib.ListN.{length}
 use Rattle.lists.specs.Range.{any, first}
 use Rattle.chart.specs.Format.{Node, Edge, Construct, Decoded, nodeAt, edgeAt, constructAt}
@@ -26,6 +27,7 @@ abbrev pub region : Decoded → Region
 region D = record {
   nodes = length (D .nodes);
   constructs = length (D .constructs);
+  kept = λ x. ltb x (length (D .nodes));
   role = roleAt (D .nodes);
   edge = edgeIn (D .edges);
   inside = insideAt (D .nodes) (D .constructs);

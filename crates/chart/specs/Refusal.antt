@@ -10,7 +10,7 @@ use lib.ListN.{length}
 use Rattle.lists.specs.Range.{any, count}
 use Rattle.chart.specs.Format.{outside, Node, Construct, Trailer, Decoded, decode, nodeAt, edgeAt, constructAt, size, trailerSize}
 use Rattle.chart.specs.Scope.{barrierNode, beginNode, endNode, criticalByte, leavingAt, arrivingAt}
-use Rattle.chart.specs.Nesting.{misnested}
+use Rattle.chart.specs.Nesting.{kinds, misnested}
 
 -- Row 2: edition or closing bytes differ. The bytes 4F 43, read as a field, are 0x434F.
 unfoldable pub badMarks : Trailer → Bool
@@ -45,7 +45,7 @@ badNodes D = any (length (D .nodes)) (badNodeAt D)
 -- Row 6, of construct c by itself: kind not 1 to 5; parent not lower and not 255; name not 0 on a non-critical.
 unfoldable pub badConstruct : ℕ → ℕ → ℕ → ℕ → Bool
 badConstruct c kind parent name =
-    (ltb kind 1 || ltb 5 kind)
+    (ltb kind 1 || ltb kinds kind)
     || ((not (ltb parent c) && not (eqb parent outside))
     || (not (eqb kind criticalByte) && not (eqb name 0)))
 
@@ -76,7 +76,7 @@ badBarriers D =
     not (isBarrier (D .nodes) 0)
     || (not (isBarrier (D .nodes) (length (D .nodes) - 1)) || ltb 64 (count (length (D .nodes)) (isBarrier (D .nodes))))
 
--- Row 9, of an edge by itself: node number n or more; into Start; out of Finish; sides unequal.
+-- Row 9, of an edge by itself: node number n or more; into Start; out of Finish; scopes (01: sides) unequal.
 unfoldable pub badEdge : List Node → List Construct → ℕ → ℕ → Bool
 badEdge nodes constructs from to =
     (leb (length nodes) from || leb (length nodes) to)

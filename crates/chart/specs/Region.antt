@@ -26,6 +26,8 @@ pub record Region : Type 0 where
   -- node numbers and construct numbers that occur are below these
   pub nodes : ℕ
   pub constructs : ℕ
+  -- node x is one of the region
+  pub kept : ℕ → Bool
   pub role : ℕ → Role
   pub edge : ℕ → ℕ → Bool
   -- node x is inside construct c, at any depth (01: inside); a construct's begin and end are not
@@ -36,5 +38,6 @@ pub record Region : Type 0 where
   pub thread : ℕ → ℕ
   pub begin : ℕ → ℕ
   pub end : ℕ → ℕ
+  -- 01: Start and Finish, the barriers at which the team begins and ends
   pub start : ℕ
   pub finish : ℕ

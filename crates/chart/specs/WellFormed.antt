@@ -9,6 +9,7 @@ use Rattle.chart.specs.Region.{barrier, opens, closes, master, loop, ord
 
 pub record WellFormed (R : Region) : Type 0 where
   -- numbers that occur are below the counts
+  pub kept-below : {x : ℕ} → R .kept x ≡ true → x < R .nodes
   pub from-below : {x y : ℕ} → R .edge x y ≡ true → x < R .nodes
   pub to-below : {x y : ℕ} → R .edge x y ≡ true → y < R .nodes
   pub barrier-below : {x : ℕ} → R .role x ≡ barrier → x < R .nodes

@@ -65,7 +65,9 @@ impl Cursor {
         ensures { λ r. ⌜ (r ≡ field (now (s .entry)) (self .at + offset)) × (r < 65536) ⌝ }
     {
         let at = self.at + offset;
-        wide(s[at]) + 256 * wide(s[at + 1])
+        let low = wide(s[at]);
+        let high = wide(s[at + 1]);
+        low + 256 * high
     }
 }
 

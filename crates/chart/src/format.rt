@@ -19,6 +19,8 @@ impl Chart {
     pub const CONSTRUCTS: usize = 48;
 
     pub const BARRIERS: usize = 64;
+    // A place for each node where its edges begin, and one where the last one's end.
+    pub const PLACES: usize = Chart::NODES + 1;
 
     pub const EDITION: usize = 1;
     // The bytes 4F 43, read as a field.
@@ -26,9 +28,12 @@ impl Chart {
 
     pub const TRAILER_BYTES: usize = 16;
     // The length of a chart at all limits.
-    pub const MOST_BYTES: usize = 3024;
+    pub const MOST_BYTES: usize = Node::BYTES * Chart::NODES
+        + Edge::BYTES * Chart::EDGES
+        + Construct::BYTES * Chart::CONSTRUCTS
+        + Chart::TRAILER_BYTES;
     // A row for each kind of construct, a column for each kind above it: single, master, critical, do, ordered.
-    pub const NESTING: [[bool; 5]; 5] = [
+    pub const NESTING: [[bool; Construct::KINDS]; Construct::KINDS] = [
         [false, false, false, false, false],
         [false, false, true, false, false],
         [true, true, true, true, true],
@@ -82,6 +87,8 @@ impl Construct {
     pub const DO: u8 = 4;
 
     pub const ORDERED: u8 = 5;
+    // How many kinds there are.
+    pub const KINDS: usize = 5;
     // The number that stands for no construct.
     pub const NONE: u8 = 255;
 }

@@ -9,9 +9,10 @@ use Rattle.lists.specs.Truth.{bad}
 use Rattle.chart.specs.Region.{barrier, single, ordered, Outermost, Region}
 use Rattle.chart.specs.InOrdered.{InOrdered}
 use Rattle.chart.specs.WellFormed.{WellFormed}
-use Rattle.paths.specs.Path.{Path, Edge, Open}
+use Rattle.paths.specs.Path.{Path, Edge, Open, BarrierFree}
 use Rattle.paths.specs.Connected.{Connected}
 use Rattle.paths.specs.PathLaws.{carry}
+use Rattle.phases.specs.Phases.{forward, backward}
 use Rattle.team.specs.State.{State, initial}
 use Rattle.team.specs.Step.{NoneOrdered}
 use Rattle.team.specs.Run.{Run, done, ConcurrentIn}
@@ -26,17 +27,35 @@ use Rattle.exact.specs.Walk.{Comes, settled}
 use Rattle.exact.specs.Travel.{AllAt, AllCome, Bound, run-then, bound-there, come, all-come, travel}
 use Rattle.exact.specs.Rendezvous.{Chosen, Rendezvous, NoSingle, NoDo, second-direct, second-rounds, rendezvous}
 
+-- The common start and the common end of two nodes that no rule excludes.
+abbrev start : {R : Region} {a b : ℕ} → Unexcluded R a b → ℕ
+start D = D .common forward .0
+
+abbrev start-barrier : {R : Region} {a b : ℕ} (D : Unexcluded R a b) → R .role (start D) ≡ barrier
+start-barrier D = D .common forward .1 .0 .is-barrier
+
+abbrev start-a : {R : Region} {a b : ℕ} (D : Unexcluded R a b) → BarrierFree R (start D) a
+start-a D = D .common forward .1 .0 .path
+
+abbrev start-b : {R : Region} {a b : ℕ} (D : Unexcluded R a b) → BarrierFree R (start D) b
+start-b D = D .common forward .1 .1 .path
+
+abbrev end : {R : Region} {a b : ℕ} → Unexcluded R a b → ℕ
+end D = D .common backward .0
+
+abbrev end-barrier : {R : Region} {a b : ℕ} (D : Unexcluded R a b) → R .role (end D) ≡ barrier
+end-barrier D = D .common backward .1 .0 .is-barrier
+
+abbrev end-a : {R : Region} {a b : ℕ} (D : Unexcluded R a b) → BarrierFree R a (end D)
+end-a D = D .common backward .1 .0 .path
+
+abbrev end-b : {R : Region} {a b : ℕ} (D : Unexcluded R a b) → BarrierFree R b (end D)
+end-b D = D .common backward .1 .1 .path
+
 -- the same for b and a
 abbrev swap : {R : Region} {a b : ℕ} → Unexcluded R a b → Unexcluded R b a
 swap D = record {
-  start = D .start;
-  start-barrier = D .start-barrier;
-  start-a = D .start-b;
-  start-b = D .start-a;
-  end = D .end;
-  end-barrier = D .end-barrier;
-  end-a = D .end-b;
-  end-b = D .end-a;
+  common = λ d. (D .common d .0, (D .common d .1 .1, D .common d .1 .0));
   masters = λ c d k l i j q. D .masters d c l k j i (sym q);
   singles = λ c k i j. D .singles c k j i;
   ordereds = λ d x y. D .ordereds d y x;
@@ -50,24 +69,24 @@ swap-rendezvous M = record { state = M .state; run = M .run; at-a = M .at-b; at-
 
 module _ {R : Region} (W : WellFormed R) {m : ℕ} where
   -- the thread for a goes first, and the thread for b straight after it
-  first-a : {a b : ℕ} (X : Chosen R m a b) (D : Unexcluded R a b) → Open R a → {σ : State} → AllAt m σ (D .start) → {P : ℕ → Type 0}
-      → ((z : ℕ) → P z → Open R z) → Path (Edge R) P (D .start) a → NoSingle R P b → NoDo R a b → Rendezvous X σ (D .end)
-  first-a X D oa all free w no-single no-do = rendezvous W X oa (D .start-barrier) (D .end-a) free w (D .start-b) (second-direct W X no-single no-do) all
+  first-a : {a b : ℕ} (X : Chosen R m a b) (D : Unexcluded R a b) → Open R a → {σ : State} → AllAt m σ (start D) → {P : ℕ → Type 0}
+      → ((z : ℕ) → P z → Open R z) → Path (Edge R) P (start D) a → NoSingle R P b → NoDo R a b → Rendezvous X σ (end D)
+  first-a X D oa all free w no-single no-do = rendezvous W X oa (start-barrier D) (end-a D) free w (start-b D) (second-direct W X no-single no-do) all
 
-  module _ {a b : ℕ} (X : Chosen R m a b) (D : Unexcluded R a b) (oa : Open R a) (ob : Open R b) {σ : State} (all : AllAt m σ (D .start)) where
-    first-b : {P : ℕ → Type 0} → ((z : ℕ) → P z → Open R z) → Path (Edge R) P (D .start) b → NoSingle R P a → NoDo R b a → Rendezvous X σ (D .end)
+  module _ {a b : ℕ} (X : Chosen R m a b) (D : Unexcluded R a b) (oa : Open R a) (ob : Open R b) {σ : State} (all : AllAt m σ (start D)) where
+    first-b : {P : ℕ → Type 0} → ((z : ℕ) → P z → Open R z) → Path (Edge R) P (start D) b → NoSingle R P a → NoDo R b a → Rendezvous X σ (end D)
     first-b free w no-single no-do = swap-rendezvous (first-a (swap-chosen X) (swap D) ob all free w no-single no-do)
 
     -- both in one outermost construct, which returns
-    in-one : {c : ℕ} → Outermost (R .kind c) → R .inside b c ≡ true → Returns R c → Rendezvous X σ (D .end)
+    in-one : {c : ℕ} → Outermost (R .kind c) → R .inside b c ≡ true → Returns R c → Rendezvous X σ (end D)
     in-one {c} u i ret =
-        let bar : R .role (D .start) ≡ barrier = D .start-barrier in
-        let g = entry W (W .barrier-outside bar c) (λ q. bad (cc)) (D .start-b) (inl i) in
-        rendezvous W X oa bar (D .end-a) (λ z h. h) (D .start-a) (g .0) (second-rounds W X u i ret (carry (λ x y e. e) (λ z h. h .0) (g .1))) all
+        let bar : R .role (start D) ≡ barrier = start-barrier D in
+        let g = entry W (W .barrier-outside bar c) (λ q. bad (cc)) (start-b D) (inl i) in
+        rendezvous W X oa bar (end-a D) (λ z h. h) (start-a D) (g .0) (second-rounds W X u i ret (carry (λ x y e. e) (λ z h. h .0) (g .1))) all
 
-    two-singles : {c d : ℕ} → R .kind c ≡ single → R .inside a c ≡ true → R .kind d ≡ single → R .inside b d ≡ true → Dec (c ≡ d) → Rendezvous X σ (D .end)
+    two-singles : {c d : ℕ} → R .kind c ≡ single → R .inside a c ≡ true → R .kind d ≡ single → R .inside b d ≡ true → Dec (c ≡ d) → Rendezvous X σ (end D)
     two-singles {d = d} k i l j (yes z) = in-one (single-outermost l) j (D .singles d l (subst (λ (n : ℕ). R .inside a n ≡ true) z i) j)
-    two-singles k i l j (no z) = elim (part W (D .start-barrier) (D .start-a) (D .start-b) i j (single-outermost k) (single-outermost l) z) [
+    two-singles k i l j (no z) = elim (part W (start-barrier D) (start-a D) (start-b D) i j (single-outermost k) (single-outermost l) z) [
       | inl w ↦ first-a X D oa all (λ n h. h .0) w (λ e g h y. only l j g h (y .1)) (λ e h o. single-or-ordered W k i o)
       | inr w ↦ first-b (λ n h. h .0) w (λ e g h y. only k i g h (y .1)) (λ e h o. single-or-ordered W l j o)
     ]
@@ -75,23 +94,23 @@ module _ {R : Region} (W : WellFormed R) {m : ℕ} where
         only : {y s t : ℕ} → R .kind s ≡ single → R .inside y s ≡ true → R .kind t ≡ single → R .inside y t ≡ true → R .begin t ≢ R .begin s → ⊥
         only k i l j n = n (ap (R .begin) (W .one-outermost j i (single-outermost l) (single-outermost k)))
 
-    two-ordereds : {c d : ℕ} → InOrdered R a c → InOrdered R b d → Dec (c ≡ d) → Rendezvous X σ (D .end)
+    two-ordereds : {c d : ℕ} → InOrdered R a c → InOrdered R b d → Dec (c ≡ d) → Rendezvous X σ (end D)
     two-ordereds {d = d} x y (yes z) = in-one (do-outermost W y) (inside-do W y) (D .ordereds d (subst (InOrdered R a) z x) y)
-    two-ordereds x y (no z) = first-a X D oa all (λ n h. h) (D .start-a) (λ e g h w. single-or-ordered W g h y)
+    two-ordereds x y (no z) = first-a X D oa all (λ n h. h) (start-a D) (λ e g h w. single-or-ordered W g h y)
         (λ e h o. z (W .one-outermost (inside-do W x) (inside-do W o) (do-outermost W x) (do-outermost W o)
         ∙ W .one-outermost h (inside-do W y) (do-outermost W o) (do-outermost W y)))
 
     -- a thread bound for a single goes first, one bound for an ordered last
     choose : Within R single a ⊎ Without R single a → Within R single b ⊎ Without R single b → Within R ordered a ⊎ Without R ordered a
-        → Within R ordered b ⊎ Without R ordered b → Rendezvous X σ (D .end)
-    choose sa (inr nb) (inr na) y = first-a X D oa all (λ n h. h) (D .start-a) (λ c g h w. nb c g h) (λ c h o. na (o .construct) (o .is-ordered) (o .within))
+        → Within R ordered b ⊎ Without R ordered b → Rendezvous X σ (end D)
+    choose sa (inr nb) (inr na) y = first-a X D oa all (λ n h. h) (start-a D) (λ c g h w. nb c g h) (λ c h o. na (o .construct) (o .is-ordered) (o .within))
     choose sa (inr nb) (inl x) (inl y) = two-ordereds (in-ordered x) (in-ordered y) (ℕ-discrete (R .parent (x .0)) (R .parent (y .0)))
-    choose sa (inr nb) (inl x) (inr ny) = first-b (λ n h. h) (D .start-b) (λ c g h w. single-or-ordered W g h (in-ordered x))
+    choose sa (inr nb) (inl x) (inr ny) = first-b (λ n h. h) (start-b D) (λ c g h w. single-or-ordered W g h (in-ordered x))
         (λ c h o. ny (o .construct) (o .is-ordered) (o .within))
     choose (inl sa) (inl sb) x y = two-singles (sa .1) (sa .2) (sb .1) (sb .2) (ℕ-discrete (sa .0) (sb .0))
-    choose (inr na) (inl sb) x y = first-b (λ n h. h) (D .start-b) (λ c g h w. na c g h) (λ c h o. single-or-ordered W (sb .1) (sb .2) o)
+    choose (inr na) (inl sb) x y = first-b (λ n h. h) (start-b D) (λ c g h w. na c g h) (λ c h o. single-or-ordered W (sb .1) (sb .2) o)
 
-    come-together : Rendezvous X σ (D .end)
+    come-together : Rendezvous X σ (end D)
     come-together = choose (within W single a) (within W single b) (within W ordered a) (within W ordered b)
 
   -- all go on to the barrier e: first a thread that is in an ordered, since the rest may need that ordered
@@ -121,14 +140,14 @@ module _ {R : Region} (W : WellFormed R) {m : ℕ} where
             (subst (InOrdered R (τ .node p)) (W .one-outermost (inside-do W o) i (do-outermost W o) (do-outermost W y)) o)
 
   module _ (C : Connected R) {a b : ℕ} (X : Chosen R m a b) (D : Unexcluded R a b) (oa : Open R a) (ob : Open R b) where
-    from-start : Dec (D .start ≡ R .start) → AllCome R m (initial R) (D .start)
+    from-start : Dec (start D ≡ R .start) → AllCome R m (initial R) (start D)
     unfolding initial
     from-start (yes z) = (initial R, done, λ t l. sym z)
-    from-start (no z) = travel W (C .from-start (first-edge (D .start-a) .1) z) (W .start-barrier) (D .start-barrier) (inl refl) (λ t l. refl)
+    from-start (no z) = travel W (C .from-start (first-edge (start-a D) .1) z) (W .start-barrier) (start-barrier D) (inl refl) (λ t l. refl)
 
-    to-finish : {τ : State} → AllAt m τ (D .end) → Dec (D .end ≡ R .finish) → AllCome R m τ (R .finish)
+    to-finish : {τ : State} → AllAt m τ (end D) → Dec (end D ≡ R .finish) → AllCome R m τ (R .finish)
     to-finish {τ} all (yes z) = (τ, done, λ t l. all t l ∙ z)
-    to-finish all (no z) = travel W (C .to-finish (last-edge (D .end-a) .1) z) (D .end-barrier) (W .finish-barrier) (inl refl) all
+    to-finish all (no z) = travel W (C .to-finish (last-edge (end-a D) .1) z) (end-barrier D) (W .finish-barrier) (inl refl) all
 
     pub complete : ConcurrentIn R m a b
     complete = record {
@@ -146,19 +165,19 @@ module _ {R : Region} (W : WellFormed R) {m : ℕ} where
       at-b = M .at-b;
     }
       where
-        S : AllCome R m (initial R) (D .start)
-        S = from-start (ℕ-discrete (D .start) (R .start))
+        S : AllCome R m (initial R) (start D)
+        S = from-start (ℕ-discrete (start D) (R .start))
 
-        M : Rendezvous X (S .0) (D .end)
+        M : Rendezvous X (S .0) (end D)
         M = come-together X D oa ob (S .2)
 
         before : Run R m (initial R) (M .state)
         before = append (S .1) (M .run)
 
-        E : AllCome R m (M .state) (D .end)
-        E = with-two (D .end-barrier) (X .p-in) (X .q-in) (M .state) (invariant W C before (invariant-first W C))
-            (subst (EndsAt R (D .end)) (sym (M .at-a)) (inr (oa, D .end-a))) (subst (EndsAt R (D .end)) (sym (M .at-b)) (inr (ob, D .end-b)))
+        E : AllCome R m (M .state) (end D)
+        E = with-two (end-barrier D) (X .p-in) (X .q-in) (M .state) (invariant W C before (invariant-first W C))
+            (subst (EndsAt R (end D)) (sym (M .at-a)) (inr (oa, end-a D))) (subst (EndsAt R (end D)) (sym (M .at-b)) (inr (ob, end-b D)))
             (M .others) (within W ordered (M .state .node (X .p)))
 
         Z : AllCome R m (E .0) (R .finish)
-        Z = to-finish (E .2) (ℕ-discrete (D .end) (R .finish))
+        Z = to-finish (E .2) (ℕ-discrete (end D) (R .finish))

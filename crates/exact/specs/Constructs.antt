@@ -10,7 +10,7 @@ use Rattle.chart.specs.WellFormed.{WellFormed}
 use Rattle.paths.specs.Path.{Path, Edge, Open, BarrierFree}
 use Rattle.paths.specs.Connected.{Connected}
 use Rattle.paths.specs.PathLaws.{append, reverse, carry}
-use Rattle.exact.specs.Paths.{Both, Not, avoid, by-door}
+use Rattle.paths.specs.Doors.{Both, Not, avoid, by-door}
 
 -- past the begin of c and not past its end: inside c, or at the end; and its mirror image
 abbrev pub AfterBegin : Region → ℕ → ℕ → Type 0

@@ -20,7 +20,7 @@ use Rattle.exact.specs.Sound.{master-a, master-b, sound}
 use Rattle.exact.specs.Rendezvous.{Chosen}
 use Rattle.exact.specs.Complete.{complete}
 
--- A team of m has the threads of the masters around x.
+-- A team of m has the threads of the masters that enclose x.
 abbrev pub Fits : Region → ℕ → ℕ → Type 0
 Fits R m x = (c : ℕ) → R .kind c ≡ master → R .inside x c ≡ true → R .thread c < m
 

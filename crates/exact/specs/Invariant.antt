@@ -21,7 +21,7 @@ use Rattle.exact.specs.Constructs.{AfterBegin, inside-open}
 use Rattle.exact.specs.Nesting.{inside-do, is-do}
 use Rattle.exact.specs.Hops.{hop, EndsAt, Past, CameFrom, barrier-top, released-outside, came-from, hop-after, hop-from, hop-ends, hop-past, past-returns}
 
--- the masters around x are masters of thread t
+-- the masters that enclose x are masters of thread t
 abbrev pub MasterOf : Region → ℕ → ℕ → Type 0
 MasterOf R t x = (c : ℕ) → R .kind c ≡ master → R .inside x c ≡ true → t ≡ R .thread c
 

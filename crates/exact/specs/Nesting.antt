@@ -25,15 +25,15 @@ single-outermost q = subst Outermost (sym q) tt
 
 module _ {R : Region} (W : WellFormed R) where
   pub within : (k : Kind) (x : ℕ) → Within R k x ⊎ Without R k x
-  within k x = elim (truth (any (R .constructs) around)) [
-    | inl h ↦ inl (found (any-at (R .constructs) around h))
-    | inr h ↦ inr (λ c q i. clash (at-any (R .constructs) around c (W .inside-below i) (both-and _ _ (true-is (Kind-discrete (R .kind c) k) q) i)) h)
+  within k x = elim (truth (any (R .constructs) holding)) [
+    | inl h ↦ inl (found (any-at (R .constructs) holding h))
+    | inr h ↦ inr (λ c q i. clash (at-any (R .constructs) holding c (W .inside-below i) (both-and _ _ (true-is (Kind-discrete (R .kind c) k) q) i)) h)
   ]
     where
-      around : ℕ → Bool
-      around c = is (Kind-discrete (R .kind c) k) && R .inside x c
+      holding : ℕ → Bool
+      holding c = is (Kind-discrete (R .kind c) k) && R .inside x c
 
-      found : (c : ℕ) × (c < R .constructs) × (around c ≡ true) → Within R k x
+      found : (c : ℕ) × (c < R .constructs) × (holding c ≡ true) → Within R k x
       found h = let b = and-both _ _ (h .2) in (h .0, is-true (Kind-discrete (R .kind (h .0)) k) (b .0), b .1)
 
   pub inside-do : {x d : ℕ} → InOrdered R x d → R .inside x d ≡ true

@@ -57,7 +57,7 @@ pub record Halfway {R : Region} {m a b : ℕ} (X : Chosen R m a b) (P : ℕ → 
 abbrev pub Second : {R : Region} {m a b : ℕ} → Chosen R m a b → (ℕ → Type 0) → ℕ → Type 0
 Second {R} {m} {b = b} X P y = (v : ℕ) → Rest (Edge R) (Open R) v y → (τ : State) → Halfway X P v τ → Comes R (Open R) m (X .q) τ b
 
--- p has not left the begin of a single around b, and is in no ordered of a do around b.
+-- p has not left the begin of a single that encloses b, and is in no ordered of a do that encloses b.
 abbrev pub NoSingle : Region → (ℕ → Type 0) → ℕ → Type 0
 NoSingle R P b = (c : ℕ) → R .kind c ≡ single → R .inside b c ≡ true → P (R .begin c) → ⊥
 

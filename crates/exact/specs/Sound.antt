@@ -11,8 +11,9 @@ use Rattle.chart.specs.InOrdered.{InOrdered}
 use Rattle.chart.specs.WellFormed.{WellFormed}
 use Rattle.paths.specs.Path.{Open, BarrierFree}
 use Rattle.paths.specs.Connected.{Connected}
+use Rattle.phases.specs.Phases.{Direction, forward, backward, Boundary}
 use Rattle.team.specs.Run.{ConcurrentIn}
-use Rattle.answers.specs.Unexcluded.{Returns, Unexcluded}
+use Rattle.answers.specs.Unexcluded.{Returns, Common, Unexcluded}
 use Rattle.exact.specs.Runs.{before, after}
 use Rattle.exact.specs.Nesting.{inside-do, do-outermost, single-outermost}
 use Rattle.exact.specs.Hops.{EndsAt, ends-path}
@@ -49,17 +50,27 @@ module _ {R : Region} (W : WellFormed R) (C : Connected R) {m a b : ℕ} (M : Co
   pub sound : Open R a → Open R b → Unexcluded R a b
   sound oa ob = go (I .since) (next-barrier W C (after (M .passed)) (M .finished))
     where
+      -- the barrier that all came from, and the one that all go on to
+      shared : Since R m (M .state) → Until R m (M .state) → (d : Direction) → Common (Boundary d R) a b
+      shared S E forward = (
+        S .0,
+        (
+          record { no-barrier = oa; is-barrier = S .1; path = subst (BarrierFree R (S .0)) (M .at-a) (S .2 (M .t) (M .t-in)) },
+          record { no-barrier = ob; is-barrier = S .1; path = subst (BarrierFree R (S .0)) (M .at-b) (S .2 (M .u) (M .u-in)) },
+        ),
+      )
+      shared S E backward = (
+        E .0,
+        (
+          record { no-barrier = oa; is-barrier = E .1; path = ends-path W (E .1) (subst (EndsAt R (E .0)) (M .at-a) (E .2 (M .t) (M .t-in))) oa },
+          record { no-barrier = ob; is-barrier = E .1; path = ends-path W (E .1) (subst (EndsAt R (E .0)) (M .at-b) (E .2 (M .u) (M .u-in))) ob },
+        ),
+      )
+
       go : ((t : ℕ) → t < m → M .state .node t ≡ R .start) ⊎ Since R m (M .state) → Until R m (M .state) → Unexcluded R a b
       go (inl h) E = absurd (oa (ap (R .role) (sym (M .at-a) ∙ h (M .t) (M .t-in)) ∙ W .start-barrier))
       go (inr S) E = record {
-        start = S .0;
-        start-barrier = S .1;
-        start-a = subst (BarrierFree R (S .0)) (M .at-a) (S .2 (M .t) (M .t-in));
-        start-b = subst (BarrierFree R (S .0)) (M .at-b) (S .2 (M .u) (M .u-in));
-        end = E .0;
-        end-barrier = E .1;
-        end-a = ends-path W (E .1) (subst (EndsAt R (E .0)) (M .at-a) (E .2 (M .t) (M .t-in))) oa;
-        end-b = ends-path W (E .1) (subst (EndsAt R (E .0)) (M .at-b) (E .2 (M .u) (M .u-in))) ob;
+        common = shared S E;
         masters = λ c d p q i j z. M .differ (master-a c p i ∙ z ∙ sym (master-b d q j));
         singles = λ c q i j. returns (single-outermost q) i j
             (I .singles c q (M .t) (M .u) (M .t-in) (M .u-in) (M .differ) (on-a (λ x. R .inside x c ≡ true) i) (on-b (λ x. R .inside x c ≡ true) j));

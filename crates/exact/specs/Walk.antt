@@ -88,7 +88,7 @@ pub ready-outside : {R : Region} {m t : ℕ} {σ : State} {y : ℕ} → ((c : �
     → ((d : ℕ) → R .inside (σ .node t) d ≡ true → NoneOrdered R m σ t d) → Ready R m t σ y
 ready-outside out f = record { masters = λ c q i. absurd (out c i); singles = λ c q i. absurd (out c i); dos = λ d i. absurd (out d i); clear = f }
 
--- Where t stands while its path to y is at x: there, or at the end of a construct around x that it went straight through.
+-- Where t stands while its path to y is at x: there, or at the end of a construct that encloses x and that it went straight through.
 abbrev pub Follows : Region → ℕ → State → ℕ → ℕ → Type 0
 Follows R t σ x y = (σ .node t ≡ x) ⊎ ((c : ℕ) × (R .role (σ .node t) ≡ closes c) × (R .inside x c ≡ true) × (R .inside y c ≡ false))
 

@@ -2,52 +2,60 @@
 -- Assumes nothing.
 use mathlib.Core.Path.{_≡_, sym, _∙_}
 use mathlib.Core.Logic.{_⊎_, inl, inr}
-use mathlib.Core.Bool.{Bool, true, false, _||_, not, cond}
+use mathlib.Core.Bool.{Bool, true, false, cond}
 use mathlib.Core.List.{List}
 use mathlib.Core.Option.{Option, none, some}
 use Prim.Native.Nat.{ℕ, _+_, _≤_, _<_}
 use native.Mathlib.Omega.{arith}
 use native.Mathlib.Decide.{ℕ-discrete, decLt}
-use lib.Dec.{leb}
-use lib.ListN.{length, getD, set, replicate, getD-replicate, List·getD-eq-default}
+use lib.ListN.{length, getD, set, replicate, length-set, length-replicate, getD-replicate, List·getD-eq-default}
 use lib.Seq.{getD-set-same, getD-set-other}
-use borrow.Author.Tests.{le-leb, lt-leb}
 use Rattle.lists.specs.Truth.{bad, truth}
 use Rattle.lists.specs.Range.{any, first, first-passes}
-use Rattle.chart.specs.Format.{decode}
+use Rattle.chart.specs.Format.{Decoded, decode}
 use Rattle.chart.specs.Region.{Region}
 use Rattle.chart.specs.Reading.{region}
 use Rattle.chart.specs.Refusal.{firstOf}
-use Rattle.paths.specs.Decide.{noBarrier}
-use Rattle.judge.specs.Claims.{total, badNumbers, isFalse}
-use Rattle.judge.specs.CorrectLaws.{good-numbers}
-use Rattle.judge.specs.Judged.{judgeRows, verdict, answered, judged}
-use Rattle.judge.specs.declared.Verdict.the-variants.{Passed, Failed}
+use Rattle.chart.specs.WellFormed.{WellFormed}
+use Rattle.answers.specs.Numbers.{badNumber}
+use Rattle.pairs.proofs.BadNumbers.{past-bad}
+use Rattle.verdicts.specs.Claims.{total, badNumbers, isFalse}
+use Rattle.verdicts.specs.CorrectLaws.{good-numbers}
+use Rattle.verdicts.specs.Judged.{judgeRows, verdict, answered, judged}
+use Rattle.verdicts.specs.declared.Verdict.the-variants.{Passed, Failed}
 
 -- a table of the bad numbers, when those below k are looked at; the others are taken for bad
-abbrev pub Marked : Region → ℕ → List Bool → Type 0
-Marked R k bad = (x : ℕ) → x < 256 → getD bad x false ≡ (leb k x || not (noBarrier (R .role x)))
+pub record Marked (R : Region) (k : ℕ) (bad : List Bool) : Type 0 where
+  pub long : length bad ≡ 256
+  pub below : (x : ℕ) → x < k → getD bad x false ≡ badNumber R x
+  pub past : (x : ℕ) → k ≤ x → x < 256 → getD bad x false ≡ true
 
 pub marked-none : (R : Region) → Marked R 0 (replicate 256 true)
-marked-none R x l = rw (le-leb 0 x (omega arith)) (getD-replicate 256 x true false l)
+marked-none R = record {
+  long = length-replicate {A = Bool} 256 true;
+  below = λ x l. absurd (omega arith);
+  past = λ x k l. getD-replicate 256 x true false l;
+}
 
-pub marked-more : (R : Region) (k : ℕ) (bad : List Bool) (b : Bool) → k < length bad → b ≡ not (noBarrier (R .role k)) → Marked R k bad → Marked R (k + 1) (set bad k b)
-marked-more R k bad b h e m x l = go (ℕ-discrete x k)
-  where
-    same : (x ≡ k → ⊥) → Dec (k < x) → leb k x ≡ leb (k + 1) x
-    same n (yes a) = le-leb k x (omega arith) ∙ sym (le-leb (k + 1) x (omega arith))
-    same n (no a) = lt-leb k x (omega arith) ∙ sym (lt-leb (k + 1) x (omega arith))
+pub marked-more : (R : Region) (k : ℕ) (bad : List Bool) (b : Bool) → k < 256 → b ≡ badNumber R k → Marked R k bad → Marked R (k + 1) (set bad k b)
+marked-more R k bad b h e m = record {
+  long = length-set bad k b ∙ m .long;
+  below = λ x l. elim (ℕ-discrete x k) [
+    | yes q ↦ rw (q, getD-set-same bad k b false (omega (arith, m .long))) e
+    | no n ↦ getD-set-other bad k x b false n ∙ m .below x (omega arith)
+  ];
+  past = λ x p l. getD-set-other bad k x b false (λ q. omega arith) ∙ m .past x (omega arith) l;
+}
 
-    go : Dec (x ≡ k) → getD (set bad k b) x false ≡ (leb (k + 1) x || not (noBarrier (R .role x)))
-    go (yes q) = rw (q, getD-set-same bad k b false h, lt-leb (k + 1) k (omega arith)) e
-    go (no n) = rw (getD-set-other bad k x b false n, sym (same n (decLt k x))) (m x l)
+pub marked-all : (D : Decoded) (bad : List Bool) → Marked (region D) (length (D .nodes)) bad → (x : ℕ) → x < 256 → getD bad x false ≡ badNumber (region D) x
+marked-all D bad m x l = elim (decLt x (length (D .nodes))) [ yes b ↦ m .below x b | no b ↦ m .past x (omega arith) l ∙ sym (past-bad D x (omega arith)) ]
 
 -- numbers that are not refused fit the tables; past the list's end stands 0
-pub numbers-fit : (R : Region) (claims : List ℕ) → R .nodes ≤ 192 → badNumbers R claims ≡ false → (j : ℕ) → getD claims j 0 < 192
-numbers-fit R claims few h j = go (decLt j (length claims))
+pub numbers-fit : (R : Region) (claims : List ℕ) → WellFormed R → R .nodes ≤ 192 → badNumbers R claims ≡ false → (j : ℕ) → getD claims j 0 < 192
+numbers-fit R claims W few h j = go (decLt j (length claims))
   where
     go : Dec (j < length claims) → getD claims j 0 < 192
-    go (yes l) = omega (arith, good-numbers R claims h j l .0)
+    go (yes l) = omega (arith, good-numbers R claims h j l W .0)
     go (no l) = let past : length claims ≤ j = omega arith in omega (arith, List·getD-eq-default claims 0 past)
 
 -- a list fails at one of its claims

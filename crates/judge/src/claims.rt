@@ -3,34 +3,34 @@ ghost use mathlib.Core.Path.{_≡_};
 ghost use mathlib.Core.Bool.{false};
 ghost use Prim.Native.Nat.{ℕ, _+_, _*_, _<_};
 ghost use lib.ListN.{getD, length};
-ghost use Rattle.chart.specs.Format.{decode};
 ghost use Rattle.chart.specs.Region.{Region};
-ghost use Rattle.chart.specs.Reading.{region};
 ghost use Rattle.chart.specs.Refusal.{firstOf};
-ghost use Rattle.chart.specs.Checked.{Laid};
-ghost use Rattle.pairs.specs.Marks.{Marks};
-ghost use Rattle.pairs.specs.Numbers.{badNumber};
-ghost use Rattle.judge.specs.Claims.{badNumbers, isFalse};
-ghost use Rattle.judge.specs.Judged.{claimRows, verdict, answered};
-use crate::Verdict;
+ghost use Rattle.chart.specs.Checked.{Laid, reading};
+ghost use Rattle.profiles.specs.Marks.{Marks};
+ghost use Rattle.answers.specs.Numbers.{badNumber};
+ghost use Rattle.verdicts.specs.Claims.{badNumbers, isFalse};
+ghost use Rattle.verdicts.specs.Judged.{claimRows, verdict, answered};
+use bits::either;
 use chart::cursor::wide;
 use chart::format::Chart;
 use chart::format::Refusal;
-use pairs::numbers::is_barrier;
+use pairs::numbers::bad_number;
 use pairs::rules::Answer;
 use pairs::rules::pair;
-use phases::connected::either;
+use profiles::chains::Sets;
+use profiles::marks::MaskTable;
+use verdicts::Verdict;
 
 // Row 13, of each number that a byte can be.
 fn mark_bad(s: &[u8], chart: Chart, bad: &mut [bool; 256])
     requires { ⌜ Laid (now s) chart ⌝ }
-    ensures { λ _. ⌜ ((x : ℕ) → x < 256 → getD (now (bad .exit)) x false ≡ badNumber (region (decode (now (s .entry)))) x) ⌝ }
+    ensures { λ _. ⌜ ((x : ℕ) → x < 256 → getD (now (bad .exit)) x false ≡ badNumber (reading (now (s .entry)) chart) x) ⌝ }
 {
     *bad = [true; 256];
     let n = chart.nodes;
     let mut x = 0;
     while x < n {
-        bad[x] = is_barrier(s, chart, x);
+        bad[x] = bad_number(s, chart, x);
         x += 1;
     }
 }
@@ -38,7 +38,7 @@ fn mark_bad(s: &[u8], chart: Chart, bad: &mut [bool; 256])
 // Row 13. No turn leaves the loop, so that several are taken at once.
 fn bad_numbers(s: &[u8], chart: Chart, claims: &[u8]) -> bool
     requires { ⌜ Laid (now s) chart ⌝ }
-    ensures { λ r. ⌜ r ≡ badNumbers (region (decode (now (s .entry)))) (now (claims .entry)) ⌝ }
+    ensures { λ r. ⌜ r ≡ badNumbers (reading (now (s .entry)) chart) (now (claims .entry)) ⌝ }
 {
     let mut bad = [false; 256];
     mark_bad(s, chart, &mut bad);
@@ -53,39 +53,24 @@ fn bad_numbers(s: &[u8], chart: Chart, claims: &[u8]) -> bool
 }
 
 // Whether claim k is false.
-fn is_false(
-    claims: &[u8],
-    k: usize,
-    starts: &[u64; 192],
-    ends: &[u64; 192],
-    masters: &[u64; 192],
-    singles: &[u64; 192],
-    dos: &[u64; 192],
-) -> bool
+fn is_false(claims: &[u8], k: usize, marks: &MaskTable, sets: Sets) -> bool
     requires { ⌜ (2 * k + 1 < length (now claims)) × ((j : ℕ) → getD (now claims) j 0 < 192) ⌝ }
-    ensures { λ r. ⌜ ((R : Region) → Marks R (now (starts .entry)) (now (ends .entry)) (now (masters .entry)) (now (singles .entry)) (now (dos .entry)) → badNumbers R (now (claims .entry)) ≡ false → r ≡ isFalse R (now (claims .entry)) k) ⌝ }
+    ensures { λ r. ⌜ ((R : Region) → Marks R (now (marks .entry)) sets → badNumbers R (now (claims .entry)) ≡ false → r ≡ isFalse R (now (claims .entry)) k) ⌝ }
 {
     let a = wide(claims[2 * k]);
     let b = wide(claims[2 * k + 1]);
-    pair(a, b, starts, ends, masters, singles, dos) == Answer::CONCURRENT
+    pair(a, b, marks, sets) == Answer::CONCURRENT
 }
 
 // The verdict on a list that is not refused.
-fn first_false(
-    claims: &[u8],
-    starts: &[u64; 192],
-    ends: &[u64; 192],
-    masters: &[u64; 192],
-    singles: &[u64; 192],
-    dos: &[u64; 192],
-) -> Verdict
+fn first_false(claims: &[u8], marks: &MaskTable, sets: Sets) -> Verdict
     requires { ⌜ ((j : ℕ) → getD (now claims) j 0 < 192) ⌝ }
-    ensures { λ r. ⌜ ((R : Region) → Marks R (now (starts .entry)) (now (ends .entry)) (now (masters .entry)) (now (singles .entry)) (now (dos .entry)) → badNumbers R (now (claims .entry)) ≡ false → r ≡ verdict R (now (claims .entry))) ⌝ }
+    ensures { λ r. ⌜ ((R : Region) → Marks R (now (marks .entry)) sets → badNumbers R (now (claims .entry)) ≡ false → r ≡ verdict R (now (claims .entry))) ⌝ }
 {
     let n = claims.len() / 2;
     let mut k = 0;
     while k < n {
-        if is_false(claims, k, starts, ends, masters, singles, dos) {
+        if is_false(claims, k, marks, sets) {
             return Verdict::Failed(k);
         }
         k += 1;
@@ -94,19 +79,10 @@ fn first_false(
 }
 
 // Rows 12 and 13 over the whole list, then the verdict.
-pub fn judge_claims(
-    s: &[u8],
-    chart: Chart,
-    claims: &[u8],
-    starts: &[u64; 192],
-    ends: &[u64; 192],
-    masters: &[u64; 192],
-    singles: &[u64; 192],
-    dos: &[u64; 192],
-) -> Verdict
-    requires { ⌜ Laid (now s) chart × Marks (region (decode (now s))) (now starts) (now ends) (now masters) (now singles) (now dos) ⌝ }
+pub fn judge_claims(s: &[u8], chart: Chart, claims: &[u8], marks: &MaskTable, sets: Sets) -> Verdict
+    requires { ⌜ Laid (now s) chart × Marks (reading (now s) chart) (now marks) sets ⌝ }
     ensures { λ r.
-        let R = region (decode (now (s .entry))) in
+        let R = reading (now (s .entry)) chart in
         ⌜ r ≡ answered (firstOf (claimRows R (now (claims .entry)))) (verdict R (now (claims .entry))) ⌝ }
 {
     if claims.len() % 2 == 1 {
@@ -115,5 +91,5 @@ pub fn judge_claims(
     if bad_numbers(s, chart, claims) {
         return Verdict::Refused(Refusal::NUMBERS);
     }
-    first_false(claims, starts, ends, masters, singles, dos)
+    first_false(claims, marks, sets)
 }

@@ -1,11 +1,11 @@
 // What the library answers for a chart and for pairs of its nodes, as text.
-use bohrali::pair::Answered;
-use bohrali::pair::pair;
+use admission::admit::Admission;
+use admission::admit::Counts;
+use admission::admit::admit;
+use calls::pair::Answered;
+use calls::pair::pair;
 use chart::cursor::wide;
 use chart::format::Refusal;
-use phases::admit::Admission;
-use phases::admit::Counts;
-use phases::admit::admit;
 
 fn print_number(word: &[u8], number: usize) {
     io::write_all(1, word);

@@ -3,12 +3,13 @@
 -- Assumes nothing.
 use mathlib.Core.Path.{_≡_, sym, _∙_}
 use mathlib.Core.Logic.{_⊎_, inl, inr, _≢_, _↔_}
-use mathlib.Core.Bool.{true, false}
+use mathlib.Core.Bool.{Bool, true, false, not}
 use Prim.Native.Nat.{ℕ, _/_, _%_, _^_, _<_, min}
 use native.Mathlib.Omega.{arith}
 use lib.Bits.{bitAnd, and-step, and-shr, and-lt}
+use lib.Dec.{eqb}
 use lib.Pow.{pow-lt, pow-pos}
-use borrow.Author.Tests.{eqb-true, eq-eqb}
+use borrow.Author.Tests.{eqb-true, eq-eqb, eqb-false, ne-eqb, not-true}
 use Rattle.lists.specs.Truth.{truth, clash}
 use Rattle.lists.specs.Range.{any, any-at, at-any}
 use Rattle.lists.specs.Mask.{Has, Mask, mask-unique, has-none, has-own, has-pow}
@@ -56,3 +57,14 @@ some-bit {P} {k} {m} v = ((λ d. go d (truth (any k (has m)))), λ (b, (l, p)) z
 
 pub common-bit : {P Q : ℕ → Type 0} {k m n : ℕ} → Mask P k m → Mask Q k n → (bitAnd m n ≢ 0) ↔ ((b : ℕ) × ((b < k) × (P b × Q b)))
 common-bit v w = some-bit (mask-both v w)
+
+-- Two masks have a bit in common.
+abbrev pub common : ℕ → ℕ → Bool
+common m n = not (eqb (bitAnd m n) 0)
+
+-- The same as a test, of two masks.
+pub common-test : {P Q : ℕ → Type 0} {k m n : ℕ} → Mask P k m → Mask Q k n → (common m n ≡ true) ↔ ((b : ℕ) × ((b < k) × (P b × Q b)))
+common-test v w = (
+  (λ h. common-bit v w .0 (eqb-false _ 0 (not-true _ h))),
+  λ h. rw (ne-eqb _ 0 (common-bit v w .1 h)),
+)

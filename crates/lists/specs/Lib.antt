@@ -1,5 +1,6 @@
 pub mod Truth
 pub mod Range
+pub mod Means
 pub mod Counting
 pub mod Mask
 pub mod Bits
@@ -8,4 +9,8 @@ pub mod Lowest
 pub mod Select
 pub mod Store
 pub mod Tab
+pub mod Rows
 pub mod Least
+pub mod Digits
+pub mod Front
+pub mod Recount

@@ -1,6 +1,6 @@
 -- Lists of numbers that are stored into: an element after a store, a list of zeros, and how many elements are not 0.
 -- Assumes nothing.
-use mathlib.Core.Path.{_≡_, refl, ap, sym, _∙_}
+use mathlib.Core.Path.{_≡_, refl, ap, sym, subst, _∙_}
 use mathlib.Core.List.{List, [], _∷_}
 use Prim.Native.Nat.{ℕ, zero, suc, _+_, _≤_, _<_}
 use native.Mathlib.Omega.{arith}
@@ -16,6 +16,11 @@ at-set P l i v j h f g = go (ℕ-discrete j i)
     go : Dec (j ≡ i) → P (getD (set l i v) j 0)
     go (yes e) = rw (e, getD-set-same l i v 0 h) (f e)
     go (no n) = rw (getD-set-other l i j v 0 n) (g n)
+
+-- the turn of a loop that stores once at each index
+pub stored : (P : ℕ → ℕ → Type 0) (l : List ℕ) (i v : ℕ) → i < length l → P i v → ((j : ℕ) → j < i → P j (getD l j 0))
+    → (j : ℕ) → j < i + 1 → P j (getD (set l i v) j 0)
+stored P l i v b p old j h = at-set (P j) l i v j b (λ q. subst (λ (j : ℕ). P j v) (sym q) p) (λ d. old j (omega arith))
 
 pub zeros : (n i : ℕ) → getD {A = ℕ} (replicate n 0) i 0 ≡ 0
 zeros zero i = refl

@@ -1,5 +1,2 @@
-mod Facts
-mod Constructs
-mod Nodes
-mod Entries
-pub mod Rows
+pub mod BadNumbers
+pub mod Profiles

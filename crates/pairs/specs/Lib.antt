@@ -1,5 +1,1 @@
-pub mod Marks
 pub mod Rules
-pub mod Chains
-pub mod Sheet
-pub mod Numbers

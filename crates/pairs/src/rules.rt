@@ -3,10 +3,15 @@ ghost use mathlib.Core.Path.{_≡_};
 ghost use mathlib.Core.Bool.{true};
 ghost use Prim.Native.Nat.{_<_};
 ghost use Rattle.chart.specs.Region.{Region};
-ghost use Rattle.paths.specs.Path.{Open};
 ghost use Rattle.answers.specs.Answer.{answer as answerOf};
-ghost use Rattle.pairs.specs.Marks.{Marks};
-ghost use Rattle.pairs.specs.Rules.{common as commonBit, profileAt, answerBy};
+ghost use Rattle.profiles.specs.Marks.{Marks};
+ghost use Rattle.pairs.specs.Rules.{profileAt, answerBy};
+use bits::common;
+use profiles::chains::Sets;
+use profiles::marks::ENDS;
+use profiles::marks::HELD;
+use profiles::marks::MaskTable;
+use profiles::marks::STARTS;
 
 // An answer is the number of the first rule that makes the nodes nonconcurrent, 0 where none does; a sheet also says where a barrier is.
 pub struct Answer {
@@ -27,39 +32,21 @@ impl Answer {
     pub const BARRIER: u8 = 255;
 }
 
-// Whether two masks have a bit in common.
-pub fn common(m: u64, n: u64) -> bool
-    ensures { λ r. ⌜ r ≡ commonBit m n ⌝ }
-{
-    (m & n) != 0
-}
-
-// What the rules read of one node: its bits in each of the five arrays of masks.
+// What the rules read of one node: its bits in each row of the table of masks.
 pub struct Profile {
     pub starts: u64,
     pub ends: u64,
-    pub masters: u64,
-    pub singles: u64,
-    pub dos: u64,
+    pub held: u64,
 }
 
-pub fn profile_of(
-    x: usize,
-    starts: &[u64; 192],
-    ends: &[u64; 192],
-    masters: &[u64; 192],
-    singles: &[u64; 192],
-    dos: &[u64; 192],
-) -> Profile
+pub fn profile_of(x: usize, marks: &MaskTable) -> Profile
     requires { ⌜ x < 192 ⌝ }
-    ensures { λ r. ⌜ r ≡ profileAt (now (starts .entry)) (now (ends .entry)) (now (masters .entry)) (now (singles .entry)) (now (dos .entry)) x ⌝ }
+    ensures { λ r. ⌜ r ≡ profileAt (now (marks .entry)) x ⌝ }
 {
     Profile {
-        starts: starts[x],
-        ends: ends[x],
-        masters: masters[x],
-        singles: singles[x],
-        dos: dos[x],
+        starts: marks[STARTS][x],
+        ends: marks[ENDS][x],
+        held: marks[HELD][x],
     }
 }
 
@@ -73,18 +60,12 @@ pub fn same(x: Profile, y: Profile) -> bool
     if x.ends != y.ends {
         return false;
     }
-    if x.masters != y.masters {
-        return false;
-    }
-    if x.singles != y.singles {
-        return false;
-    }
-    x.dos == y.dos
+    x.held == y.held
 }
 
-// The rules in their order.
-pub fn answer_by(x: Profile, y: Profile) -> u8
-    ensures { λ r. ⌜ r ≡ answerBy x y ⌝ }
+// The rules in their order; past the first, a rule asks for a construct of its kind that both hold.
+pub fn answer_by(sets: Sets, x: Profile, y: Profile) -> u8
+    ensures { λ r. ⌜ r ≡ answerBy sets x y ⌝ }
 {
     if !common(x.starts, y.starts) {
         return Answer::NO_COMMON_PHASE;
@@ -92,31 +73,24 @@ pub fn answer_by(x: Profile, y: Profile) -> u8
     if !common(x.ends, y.ends) {
         return Answer::NO_COMMON_PHASE;
     }
-    if common(x.masters, y.masters) {
+    let both = x.held & y.held;
+    if common(both, sets.masters) {
         return Answer::MASTER;
     }
-    if common(x.singles, y.singles) {
+    if common(both, sets.singles) {
         return Answer::SINGLE;
     }
-    if common(x.dos, y.dos) {
+    if common(both, sets.dos) {
         return Answer::ORDERED;
     }
     Answer::CONCURRENT
 }
 
-// The answer for nodes a and b that are no barriers.
-pub fn pair(
-    a: usize,
-    b: usize,
-    starts: &[u64; 192],
-    ends: &[u64; 192],
-    masters: &[u64; 192],
-    singles: &[u64; 192],
-    dos: &[u64; 192],
-) -> u8
+// The answer for nodes a and b.
+pub fn pair(a: usize, b: usize, marks: &MaskTable, sets: Sets) -> u8
     requires { ⌜ (a < 192) × (b < 192) ⌝ }
-    ensures { λ r. ⌜ ((R : Region) → Marks R (now (starts .entry)) (now (ends .entry)) (now (masters .entry)) (now (singles .entry)) (now (dos .entry)) → a < R .nodes → b < R .nodes → Open R a → Open R b → r ≡ answerOf R a b) ⌝ }
+    ensures { λ r. ⌜ ((R : Region) → Marks R (now (marks .entry)) sets → a < R .nodes → b < R .nodes → r ≡ answerOf R a b) ⌝ }
 {
-    let x = profile_of(a, starts, ends, masters, singles, dos);
-    answer_by(x, profile_of(b, starts, ends, masters, singles, dos))
+    let x = profile_of(a, marks);
+    answer_by(sets, x, profile_of(b, marks))
 }

@@ -1,5 +1,6 @@
 pub mod Path
 pub mod PathLaws
+pub mod Doors
 pub mod Connected
 pub mod Reach
 pub mod ReachLaws
@@ -7,7 +8,6 @@ pub mod Decide
 pub mod Graph
 pub mod Found
 pub mod FoundLaws
-pub mod Steps
-pub mod Invariant
 pub mod Admission
+pub mod Row10
 pub mod AdmissionLaws

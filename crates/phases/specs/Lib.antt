@@ -1,6 +1,2 @@
 pub mod Phases
 pub mod PhasesLaws
-pub mod Tables
-pub mod Unions
-pub mod Joined
-pub mod Admission

@@ -1,6 +1,7 @@
 -- Phases (01: "Phases and pair rules"): the barriers that are starts and ends of a node, the constructs that return, the phase count.
--- What these computed definitions mean in paths is in specs/PhasesLaws.antt.
+-- That what is computed here is what is said in paths is in specs/PhasesLaws.antt.
 -- Assumes nothing.
+use mathlib.Core.Path.{_≡_}
 use mathlib.Core.Bool.{Bool, _&&_, not}
 use mathlib.Core.List.{List}
 use Prim.Native.Nat.{ℕ}
@@ -8,17 +9,32 @@ use lib.ListN.{length, getD}
 use Rattle.lists.specs.Range.{any, countPairs}
 use Rattle.lists.specs.Mask.{maskOf}
 use Rattle.lists.specs.Select.{select}
-use Rattle.chart.specs.Region.{Region}
+use Rattle.chart.specs.Region.{barrier, Region}
+use Rattle.paths.specs.Path.{Open, BarrierFree}
 use Rattle.paths.specs.Decide.{noBarrier, reachesFree, returns}
 
 -- Along the edges, or against them. Starts are read forward, ends backward.
 pub data Direction : Type 0 where
   forward backward : Direction
 
--- A barrier-free path leads from x to y; backward: from y to x.
+-- A barrier-free path leads from x to y; backward: from y to x. As a relation, and computed.
+abbrev pub Free : Direction → Region → ℕ → ℕ → Type 0
+Free forward R x y = BarrierFree R x y
+Free backward R x y = BarrierFree R y x
+
 abbrev pub leads : Direction → Region → ℕ → ℕ → Bool
 leads forward R x y = reachesFree R x y
 leads backward R x y = reachesFree R y x
+
+-- The node s is a start of node x (01: start); backward: an end (01: end). Barriers have no starts and no ends.
+pub record Boundary (d : Direction) (R : Region) (x s : ℕ) : Type 0 where
+  pub no-barrier : Open R x
+  pub is-barrier : R .role s ≡ barrier
+  pub path : Free d R s x
+
+-- The same, computed.
+unfoldable pub isBoundary : Direction → Region → ℕ → ℕ → Bool
+isBoundary d R x s = noBarrier (R .role x) && (not (noBarrier (R .role s)) && leads d R s x)
 
 -- The barriers, numbered from 0 by rising node number.
 unfoldable pub barriers : Region → List ℕ
@@ -28,9 +44,9 @@ barriers R = select (R .nodes) (λ x. not (noBarrier (R .role x)))
 abbrev pub barrierAt : Region → ℕ → ℕ
 barrierAt R b = getD (barriers R) b 0
 
--- Barrier b is a start of node x (01: start); backward: an end (01: end). Barriers have no starts and no ends.
+-- Barrier number b is a start of node x; backward: an end.
 unfoldable pub marked : Direction → Region → ℕ → ℕ → Bool
-marked d R x b = noBarrier (R .role x) && leads d R (barrierAt R b) x
+marked d R x b = isBoundary d R x (barrierAt R b)
 
 -- As a mask, with bit b for barrier b.
 unfoldable pub marks : Direction → Region → ℕ → ℕ

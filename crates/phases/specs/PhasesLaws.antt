@@ -2,12 +2,13 @@
 -- are the pairs of a start and an end that some node has.
 -- Assumes nothing.
 use mathlib.Core.Path.{_≡_, refl, ap, sym, _∙_}
-use mathlib.Core.Logic.{_↔_}
+use mathlib.Core.Logic.{_≢_, _↔_}
 use mathlib.Core.Bool.{Bool, true, false, _&&_, not}
 use Prim.Native.Nat.{ℕ, _<_}
 use lib.ListN.{length}
 use borrow.Author.Tests.{not-true}
 use Rattle.lists.specs.Truth.{bad, and-both, both-and}
+use Rattle.lists.specs.Means.{both-of}
 use Rattle.lists.specs.Range.{any-at, at-any, count}
 use Rattle.lists.specs.Mask.{Has, mask-of}
 use Rattle.lists.specs.Bits.{has-below}
@@ -16,18 +17,12 @@ use Rattle.chart.specs.Region.{Role, plain, barrier, opens, closes, Region}
 use Rattle.chart.specs.WellFormed.{WellFormed}
 use Rattle.paths.specs.Path.{Path, last, next, Edge, Open, BarrierFree}
 use Rattle.paths.specs.Decide.{noBarrier, no-barrier, barrier-no, free-path, path-free, returns}
-use Rattle.phases.specs.Phases.{Direction, forward, backward, leads, barriers, barrierAt, marked, marks, phase}
+use Rattle.phases.specs.Phases.{Direction, forward, backward, Free, leads, Boundary, isBoundary, barriers, barrierAt, marked, marks, phase}
 
--- A barrier-free path from x to y; backward: from y to x.
-abbrev pub Free : Direction → Region → ℕ → ℕ → Type 0
-Free forward R x y = BarrierFree R x y
-Free backward R x y = BarrierFree R y x
-
--- Barrier b is a start of node x; backward: an end.
+-- Barrier number b is a start of node x; backward: an end.
 pub record Marked (d : Direction) (R : Region) (x b : ℕ) : Type 0 where
-  pub no-barrier : Open R x
   pub numbered : b < length (barriers R)
-  pub path : Free d R (barrierAt R b) x
+  pub boundary : Boundary d R x (barrierAt R b)
 
 -- A node has the start b and the end c.
 pub record Phase (R : Region) (b c : ℕ) : Type 0 where
@@ -41,6 +36,12 @@ is-barrier barrier h = refl
 is-barrier (opens c) h = absurd (bad (cc))
 is-barrier (closes c) h = absurd (bad (cc))
 
+pub barrier-of : (r : Role) → (not (noBarrier r) ≡ true) ↔ (r ≡ barrier)
+barrier-of r = ((λ h. is-barrier r (not-true _ h)), λ e. rw e)
+
+pub open-of : (r : Role) → (noBarrier r ≡ true) ↔ (r ≢ barrier)
+open-of r = (no-barrier r, barrier-no r)
+
 module _ (R : Region) (W : WellFormed R) where
   pub leads-free : (d : Direction) (x y : ℕ) → leads d R x y ≡ true → Free d R x y
   leads-free forward x y h = free-path R W x y h
@@ -49,6 +50,16 @@ module _ (R : Region) (W : WellFormed R) where
   pub free-leads : (d : Direction) (x y : ℕ) → Free d R x y → leads d R x y ≡ true
   free-leads forward x y w = path-free R W x y w
   free-leads backward x y w = path-free R W y x w
+
+  pub boundary-means : (d : Direction) (x s : ℕ) → (isBoundary d R x s ≡ true) ↔ Boundary d R x s
+  unfolding isBoundary
+  boundary-means d x s = (
+    (λ h. let (o, (b, p)) = parts .0 h in record { no-barrier = o; is-barrier = b; path = p }),
+    λ m. parts .1 (m .no-barrier, (m .is-barrier, m .path)),
+  )
+    where
+      parts : ((noBarrier (R .role x) && (not (noBarrier (R .role s)) && leads d R s x)) ≡ true) ↔ (Open R x × ((R .role s ≡ barrier) × Free d R s x))
+      parts = both-of (open-of (R .role x)) (both-of (barrier-of (R .role s)) (leads-free d s x, free-leads d s x))
 
   -- each number is that of a barrier, and each barrier has one number
   pub number-barrier : (b : ℕ) → b < length (barriers R) → R .role (barrierAt R b) ≡ barrier
@@ -70,10 +81,9 @@ module _ (R : Region) (W : WellFormed R) where
 
   pub marked-means : (d : Direction) (x b : ℕ) → ((b < length (barriers R)) × (marked d R x b ≡ true)) ↔ Marked d R x b
   unfolding marked
-  marked-means d x b = (
-    (λ h. (let (o, p) = and-both (noBarrier (R .role x)) (leads d R (barrierAt R b) x) (h .1) in
-        record { no-barrier = no-barrier (R .role x) o; numbered = h .0; path = leads-free d (barrierAt R b) x p })),
-    λ m. (m .numbered, both-and _ _ (barrier-no (R .role x) (m .no-barrier)) (free-leads d (barrierAt R b) x (m .path))),
+  marked-means d x b = let m = boundary-means d x (barrierAt R b) in (
+    (λ h. record { numbered = h .0; boundary = m .0 (h .1) }),
+    λ h. (h .numbered, m .1 (h .boundary)),
   )
 
   -- bit b of the starts (of the ends) of x
@@ -85,7 +95,7 @@ module _ (R : Region) (W : WellFormed R) where
         λ h. (let (l, p) = marked-means d x b .1 h in m .all b l p),
       )
 
-  ends-below : {P : ℕ → Type 0} {x y : ℕ} → Path (Edge R) P x y → y < R .nodes
+  pub ends-below : {P : ℕ → Type 0} {x y : ℕ} → Path (Edge R) P x y → y < R .nodes
   ends-below (last e) = W .to-below e
   ends-below (next e p w) = ends-below w
 
@@ -98,7 +108,7 @@ module _ (R : Region) (W : WellFormed R) where
         record { node = x; start = marked-means forward x b .0 (h .0, s); end = marked-means backward x c .0 (h .1, e) })),
     λ p. (let (l, s) = marked-means forward (p .node) b .1 (p .start) in
         let (m, e) = marked-means backward (p .node) c .1 (p .end) in
-        (l, m, at-any (R .nodes) _ (p .node) (ends-below (p .start .path)) (both-and _ _ s e))),
+        (l, m, at-any (R .nodes) _ (p .node) (ends-below (p .start .boundary .path)) (both-and _ _ s e))),
   )
 
   pub returns-means : (c : ℕ) → (returns R c ≡ true) ↔ BarrierFree R (R .end c) (R .begin c)

@@ -1,1 +1,1 @@
-mod Sheet
+pub mod Sheet

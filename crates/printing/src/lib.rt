@@ -3,14 +3,14 @@
 mod lines;
 
 ghost use Prim.Native.Nat.{_≤_};
-use bohrali::output::phases;
-use bohrali::output::sheet;
+use admission::admit::Admission;
+use admission::admit::Counts;
+use admission::admit::admit;
+use calls::writing::phases;
+use calls::writing::sheet;
 use chart::cursor::wide;
 use chart::format::Chart;
 use chart::format::Refusal;
-use phases::admit::Admission;
-use phases::admit::Counts;
-use phases::admit::admit;
 
 fn print_refusal(refusal: Refusal) {
     io::write_all(1, b"refused ");

@@ -1,8 +1,8 @@
 // The lines that the program prints, from what Admit answers and Phases and Sheet write.
 ghost use Prim.Native.Nat.{_+_, _≤_, _<_};
+use admission::admit::Counts;
 use chart::cursor::wide;
 use pairs::rules::Answer;
-use phases::admit::Counts;
 
 fn number(word: &[u8], n: u64) {
     io::write_all(1, word);

@@ -1,3 +1,1 @@
-mod Ancestors
-mod Table
 pub mod Outcome

@@ -3,15 +3,15 @@ ghost use mathlib.Core.Path.{_≡_};
 ghost use Rattle.chart.specs.Format.{decode};
 ghost use Rattle.chart.specs.Refusal.{firstOf, tableRows};
 ghost use Rattle.chart.specs.Checked.{Laid, answer, checked};
-use crate::constructs::bad_constructs;
 use crate::trailer::read_trailer;
 use chart::format::Chart;
 use chart::format::Checked;
 use chart::format::Refusal;
-use flow::edges::bad_edges;
-use flow::nodes::bad_barriers;
-use flow::nodes::bad_frames;
-use flow::nodes::bad_nodes;
+use edges::bad_edges;
+use nesting::bad_constructs;
+use nodes::bad_barriers;
+use nodes::bad_frames;
+use nodes::bad_nodes;
 
 // Rows 5 to 9.
 fn check_tables(s: &[u8], chart: Chart) -> Checked

@@ -1,5 +1,4 @@
-// Refusals 1 to 9 of a chart, each row over the whole chart before the next: here those of the trailer and the constructs, and all in order.
-// `check::check` takes any bytes; its contract cites `checked` of crate `chart`.
+// Refusals 1 to 9 of a chart, each row over the whole chart before the next: here those of the trailer, and all in order. `check::check`
+// takes any bytes; its contract cites `checked` of crate `chart`.
 pub mod check;
-pub mod constructs;
 pub mod trailer;

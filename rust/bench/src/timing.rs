@@ -3,43 +3,45 @@
 use std::hint::black_box;
 use std::time::Instant;
 
-const TURNS: usize = 400;
+const TURNS: usize = 256;
 /// A turn repeats a call for about so many nanoseconds.
-const TURN: f64 = 300_000.0;
+const TURN: f64 = 200_000.0;
+/// Places on the stack, of one line of the cache each, that make up a page.
+const PLACES: usize = 64;
 
-/// Nanoseconds of one call: the least of all turns, which is the one least disturbed.
-#[derive(Clone, Copy)]
-pub struct Times {
-    pub library: f64,
-    pub search: f64,
-    pub components: f64,
-}
-
-pub fn compare(
-    mut library: impl FnMut() -> i64,
-    mut search: impl FnMut() -> i64,
-    mut components: impl FnMut() -> i64,
-) -> Times {
-    let number = library();
-    assert_eq!([search(), components()], [number; 2], "the calls differ");
-    let repeats = (TURN / turn(&mut library, 20)).ceil() as usize;
-    let mut times = Times {
-        library: f64::INFINITY,
-        search: f64::INFINITY,
-        components: f64::INFINITY,
-    };
-    for _ in 0..TURNS {
-        times.library = times.library.min(turn(&mut library, repeats));
-        times.search = times.search.min(turn(&mut search, repeats));
-        times.components = times.components.min(turn(&mut components, repeats));
+/// Nanoseconds of one call by each implementation, `call` naming which: the least of all turns, which
+/// is the one least disturbed. Where a call's tables lie costs it up to a tenth and differs from process
+/// to process, so that each turn is taken at another place on the stack.
+pub fn least<const N: usize>(mut call: impl FnMut(usize) -> i64) -> [f64; N] {
+    let numbers: [i64; N] = std::array::from_fn(&mut call);
+    assert_eq!(numbers, [numbers[0]; N], "the calls differ");
+    let repeats = (TURN / turn(&mut call, 0, 20)).ceil() as usize;
+    let mut times = [f64::INFINITY; N];
+    for place in (0..PLACES).cycle().take(TURNS) {
+        for (index, time) in times.iter_mut().enumerate() {
+            let taken = deeper(place, &mut || turn(&mut call, index, repeats));
+            *time = time.min(taken);
+        }
     }
     times
 }
 
-fn turn(call: &mut impl FnMut() -> i64, repeats: usize) -> f64 {
+fn turn(call: &mut impl FnMut(usize) -> i64, index: usize, repeats: usize) -> f64 {
     let begin = Instant::now();
     for _ in 0..repeats {
-        black_box(call());
+        black_box(call(index));
     }
     begin.elapsed().as_nanos() as f64 / repeats as f64
+}
+
+/// Takes a turn so many places further down the stack.
+#[inline(never)]
+fn deeper(places: usize, turn: &mut dyn FnMut() -> f64) -> f64 {
+    let line = black_box([0u8; 64]);
+    let time = match places {
+        0 => turn(),
+        _ => deeper(places - 1, turn),
+    };
+    black_box(&line);
+    time
 }

@@ -1,17 +1,16 @@
-//! Whether two threads of one OpenMP team can be at two nodes of a parallel region together: the
-//! calls of the proved library, on slices. What each does is documented in include/bohrali.h; here
-//! C's one number becomes a `Result`.
+//! Whether two threads of one OpenMP team can be at two nodes of a parallel region together, in a run
+//! that finishes: the calls of the proved library, on slices. What a chart is and what each call does
+//! is documented in include/bohrali.h; here C's one number becomes a `Result`, and C's constants are
+//! `limits`, `layout`, `Answer` and `Refusal`, by the same words.
 
+mod answer;
 mod archive;
+pub mod layout;
+pub mod limits;
 mod refusal;
 
+pub use answer::Answer;
 pub use refusal::Refusal;
-
-/// Bytes that `phases` writes for each node.
-pub const PHASES_NODE: usize = 16;
-
-/// What a sheet has where either node is a barrier; every other byte is an `Answer`.
-pub const BARRIER: u8 = 255;
 
 /// The counts of an admitted chart.
 #[derive(Clone, Copy, Debug, PartialEq, Eq)]
@@ -19,27 +18,6 @@ pub struct Counts {
     pub nodes: usize,
     pub barriers: usize,
     pub phases: usize,
-}
-
-/// Whether two nodes are concurrent, or else the first rule by which they never are.
-#[derive(Clone, Copy, Debug, PartialEq, Eq)]
-#[repr(u8)]
-pub enum Answer {
-    Concurrent = 0,
-    NoCommonPhase = 1,
-    Master = 2,
-    Single = 3,
-    Ordered = 4,
-}
-
-impl Answer {
-    pub const ALL: [Answer; 5] = [
-        Answer::Concurrent,
-        Answer::NoCommonPhase,
-        Answer::Master,
-        Answer::Single,
-        Answer::Ordered,
-    ];
 }
 
 /// Whether all claims hold, or else the index of the first that does not.
@@ -60,7 +38,8 @@ pub fn admit(chart: &[u8]) -> Result<Counts, Refusal> {
     })
 }
 
-/// Whether all claims, pairs of node numbers that are said never to be concurrent, hold.
+/// Whether all claims hold: pairs of node numbers, of which each is said never to have two threads of
+/// one team at its two nodes together, in a run that finishes.
 pub fn judge(chart: &[u8], claims: &[u8]) -> Result<Verdict, Refusal> {
     // SAFETY: as above, for both slices.
     let number = unsafe {
@@ -72,14 +51,15 @@ pub fn judge(chart: &[u8], claims: &[u8]) -> Result<Verdict, Refusal> {
     })
 }
 
-/// The answer for two nodes that are no barriers.
+/// The answer for two nodes, which may be equal.
 pub fn pair(chart: &[u8], a: usize, b: usize) -> Result<Answer, Refusal> {
     // SAFETY: as above; a and b are numbers.
     let number = unsafe { archive::bohrali_pair(chart.as_ptr(), chart.len(), a, b) };
     accepted(number).map(|answer| Answer::ALL[answer])
 }
 
-/// Writes the starts and ends of each node, and gives the number of bytes written.
+/// Writes the starts and ends of each node, `layout::BYTES_PHASES` bytes, and gives the number of
+/// bytes written.
 pub fn phases(chart: &[u8], out: &mut [u8]) -> Result<usize, Refusal> {
     // SAFETY: as above; `out` is lent for the call alone and does not overlap `chart`.
     accepted(unsafe {

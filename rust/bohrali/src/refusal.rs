@@ -5,24 +5,39 @@ use std::fmt;
 
 /// Why a call was refused: the first of its rows that applies, in the order of these numbers.
 #[derive(Clone, Copy, Debug, PartialEq, Eq, Hash)]
+#[non_exhaustive]
 #[repr(u8)]
 pub enum Refusal {
+    /// Fewer than 16 bytes.
     Short = 1,
+    /// Edition or closing bytes differ.
     Marks = 2,
+    /// Node, edge or construct count outside its limits.
     Counts = 3,
+    /// Length or a distance of the trailer differs.
     Lengths = 4,
+    /// A node's kind or construct number.
     Node = 5,
+    /// A construct's kind, parent or name, or the nesting.
     Construct = 6,
+    /// Not exactly one begin and one end for each construct.
     Frame = 7,
+    /// First or last node no barrier, or over 64 barriers.
     Barrier = 8,
+    /// An edge names no node, is out of order or is not allowed.
     Edge = 9,
+    /// A node not reached from Start, or not reaching Finish.
     Paths = 10,
+    /// The buffer is shorter than the result.
     Room = 11,
+    /// An odd number of bytes.
     Claims = 12,
-    Number = 13,
+    /// A node number that no node has, or that of a barrier.
+    Numbers = 13,
 }
 
 impl Refusal {
+    /// All refusals, in the order of their numbers.
     pub const ALL: [Refusal; 13] = [
         Refusal::Short,
         Refusal::Marks,
@@ -36,7 +51,7 @@ impl Refusal {
         Refusal::Paths,
         Refusal::Room,
         Refusal::Claims,
-        Refusal::Number,
+        Refusal::Numbers,
     ];
 
     /// The number that C gets, negated.
@@ -54,11 +69,11 @@ impl Refusal {
             Refusal::Construct => "a construct's kind, parent or name, or the nesting, is wrong",
             Refusal::Frame => "a construct has not exactly one begin and one end",
             Refusal::Barrier => "the first or last node is no barrier, or there are over 64",
-            Refusal::Edge => "an edge's nodes, order or sides are wrong",
+            Refusal::Edge => "an edge names no node, is out of order or is not allowed",
             Refusal::Paths => "a node is not reached from Start or does not reach Finish",
             Refusal::Room => "the buffer is shorter than the result",
             Refusal::Claims => "the claims are an odd number of bytes",
-            Refusal::Number => "a node number is too large or a barrier's",
+            Refusal::Numbers => "a node number is too large or a barrier's",
         }
     }
 }

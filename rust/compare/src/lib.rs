@@ -1,7 +1,8 @@
 //! The archive's calls, through the safe wrapper, as the numbers that C gets. All bytes that are lent
-//! to them stand between pages that may not be touched.
+//! to them stand between pages that may not be touched. And the proved programs, run as they are.
 
 mod guarded;
+pub mod programs;
 
 use bohrali::{Counts, Refusal, Verdict};
 use guarded::Guarded;

@@ -1,5 +1,6 @@
 //! Every call, on the costliest charts, in a thread with a stack of 64 KiB.
 
+use bohrali::limits::MOST_NODES;
 use std::thread;
 
 const STACK: usize = 64 * 1024;
@@ -7,7 +8,7 @@ const STACK: usize = 64 * 1024;
 #[test]
 fn calls_fit_a_small_stack() {
     for (name, chart) in charts::benchmark::all() {
-        let mut out = vec![0; 192 * 192];
+        let mut out = vec![0; MOST_NODES * MOST_NODES];
         let calls = move || {
             bohrali::admit(&chart).expect(name);
             bohrali::judge(&chart, &[1, 1]).expect(name);

@@ -1,5 +1,6 @@
 //! The plain second implementation of document 01: one function a rule or row, no cleverness.
-//! It decides whether two threads of one OpenMP team can be at two nodes of a chart together.
+//! It decides whether two threads of one OpenMP team can be at two nodes of a chart together, in a
+//! run that finishes. What a change request adds gets a module of its own, named after it.
 
 pub mod answers;
 pub mod builder;
@@ -7,6 +8,7 @@ pub mod calls;
 pub mod chart;
 pub mod known;
 pub mod phases;
+pub mod printing;
 pub mod refusals;
 pub mod scopes;
 

@@ -2,7 +2,7 @@
 -- Assumes nothing.
 use mathlib.Core.Path.{sym, _∙_}
 use borrow.Author.Needs.{needs}
-use Rattle.phases.specs.Admission.{admitted}
+use Rattle.admission.specs.Admission.{admitted}
 use Rattle.bohrali.proofs.Counts.{small-counts}
 use Rattle.printing.proofs.print.Statement.{statement}
 use Rattle.printing.proofs.print.Tie as tie

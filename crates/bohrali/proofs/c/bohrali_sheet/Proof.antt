@@ -1,13 +1,21 @@
 -- `bohrali::c::bohrali_sheet` meets its contract.
 -- Assumes nothing.
 use mathlib.Core.Path.{_≡_, ap, sym, _∙_}
+use mathlib.Core.List.{[]}
 use native.Mathlib.Omega.{arith}
+use lib.ListN.{length}
 use borrow.Author.Needs.{needs}
 use mir.Syntax.{w64}
 use mir.Val.{toZ, ofZ}
-use Rattle.pairs.specs.Sheet.{sheet}
-use Rattle.bohrali.specs.Output.{numberOf}
-use Rattle.bohrali.proofs.Outputs.{had-room}
+use Rattle.answers.specs.Sheet.{sheet}
+use Rattle.chart.specs.Format.{decode}
+use Rattle.chart.specs.Reading.{region}
+use Rattle.paths.specs.Admission.{admitRows}
+use Rattle.output.specs.Output.{numberOf}
+use Rattle.output.proofs.Outputs.{had-room}
+use Rattle.correctness.specs.AnswersCorrect.{SheetCorrect}
+use Rattle.correctness.specs.OutputCorrectLaws.{carried}
+use Rattle.correctness.specs.AnswersCorrectLaws.{sheet-correct}
 use Rattle.bohrali.proofs.c.bohrali_sheet.Statement.{statement}
 use Rattle.bohrali.proofs.c.bohrali_sheet.Tie as tie
 
@@ -21,7 +29,9 @@ counted-requires : tie.Need-counted-requires
 counted-requires c κs =
     let p = c .before .before .before .before .before in
     let e = p .before .before .before .before in
-    omega (arith, had-room sheet (e .args .chart .now) (e .args .out .now) _ (sym (p .sheet .ensures .0) ∙ c .before .count .given .1))
+    let s = e .args .chart .now in
+    let r = had-room (admitRows s) [] (length (e .args .out .now)) (length (sheet (region (decode s)))) (sym (p .sheet .ensures .0) ∙ c .before .count .given .1) in
+    omega (arith, r .0, r .1)
 
 enum-known-refusal : tie.Need-enum-known-refusal
 enum-known-refusal c = search needs
@@ -37,7 +47,7 @@ unfolding numberOf
 returns c =
     let p = c .before .before .before .before .before .before in
     let e : toZ w64 (ofZ w64 (c .counted .result)) ≡ c .counted .result = search needs in
-    (e ∙ c .counted .ensures ∙ sym (ap numberOf (sym (p .sheet .ensures .0) ∙ c .before .before .count .given .1)), p .sheet .ensures .1)
+    carried (SheetCorrect _ _) (e ∙ c .counted .ensures ∙ sym (ap numberOf (sym (p .sheet .ensures .0) ∙ c .before .before .count .given .1))) (p .sheet .ensures .1) (sheet-correct _ _)
 
 same-length-2 : tie.Need-same-length-2
 same-length-2 c = search needs
@@ -47,7 +57,7 @@ unfolding numberOf
 returns-2 c =
     let p = c .before .before .before .before .before .before in
     let e : toZ w64 (ofZ w64 (c .negated .result)) ≡ c .negated .result = search needs in
-    (e ∙ c .negated .ensures ∙ sym (ap numberOf (sym (p .sheet .ensures .0) ∙ c .before .before .refusal .given .1)), p .sheet .ensures .1)
+    carried (SheetCorrect _ _) (e ∙ c .negated .ensures ∙ sym (ap numberOf (sym (p .sheet .ensures .0) ∙ c .before .before .refusal .given .1))) (p .sheet .ensures .1) (sheet-correct _ _)
 
 pub bohrali-sheet-spec : {M : Type 1} → statement M
 bohrali-sheet-spec =

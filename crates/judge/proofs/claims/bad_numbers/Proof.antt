@@ -11,8 +11,8 @@ use borrow.Author.Needs.{needs}
 use Rattle.lists.specs.Range.{any}
 use Rattle.chart.specs.Format.{decode}
 use Rattle.chart.specs.Reading.{region}
-use Rattle.pairs.specs.Numbers.{badNumber}
-use Rattle.judge.specs.Claims.{badNumbers}
+use Rattle.answers.specs.Numbers.{badNumber}
+use Rattle.verdicts.specs.Claims.{badNumbers}
 use Rattle.judge.proofs.claims.bad_numbers.Statement.{statement}
 use Rattle.judge.proofs.claims.bad_numbers.Tie as tie
 

@@ -7,18 +7,18 @@ use native.Mathlib.Omega.{arith}
 use lib.ListN.{length}
 use Rattle.lists.specs.Range.{any, at-any, any-more, first-is}
 use Rattle.chart.specs.Region.{Region}
-use Rattle.pairs.specs.Marks.{Marks}
-use Rattle.judge.specs.Claims.{total, badNumbers, isFalse}
-use Rattle.judge.specs.Judged.{verdict}
+use Rattle.profiles.specs.Marks.{Marks}
+use Rattle.verdicts.specs.Claims.{total, badNumbers, isFalse}
+use Rattle.verdicts.specs.Judged.{verdict}
 use Rattle.judge.proofs.claims.first_false.Statement.{statement}
 use Rattle.judge.proofs.claims.first_false.Tie as tie
 
 abbrev Inv-loop : tie.InvT-loop
-Inv-loop claims starts ends masters singles dos n k₀ k =
-    (k ≤ length claims / 2) × ((R : Region) → Marks R starts ends masters singles dos → badNumbers R claims ≡ false → any k (isFalse R claims) ≡ false)
+Inv-loop claims marks sets n k₀ k =
+    (k ≤ length claims / 2) × ((R : Region) → Marks R marks sets → badNumbers R claims ≡ false → any k (isFalse R claims) ≡ false)
 
 abbrev μ-loop : tie.MeasureT-loop
-μ-loop claims starts ends masters singles dos n k₀ k = length claims / 2 - k
+μ-loop claims marks sets n k₀ k = length claims / 2 - k
 
 loop-holds : tie.Need-loop-holds Inv-loop μ-loop
 unfolding any

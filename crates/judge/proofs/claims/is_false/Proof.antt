@@ -1,12 +1,10 @@
 -- `judge::claims::is_false` meets its contract.
 -- Assumes nothing.
-use mathlib.Core.Path.{sym, subst}
 use Prim.Native.Nat.{_+_, _*_}
 use native.Mathlib.Omega.{arith}
 use borrow.Author.Needs.{needs}
-use Rattle.paths.specs.Path.{Open}
-use Rattle.judge.specs.Claims.{left, right, isFalse}
-use Rattle.judge.specs.CorrectLaws.{good-numbers}
+use Rattle.verdicts.specs.Claims.{left, right, isFalse}
+use Rattle.verdicts.specs.CorrectLaws.{good-numbers}
 use Rattle.judge.proofs.claims.is_false.Statement.{statement}
 use Rattle.judge.proofs.claims.is_false.Tie as tie
 
@@ -44,9 +42,9 @@ returns c R M h =
     let k = e .args .k in
     let a = c .before .before .before .wide .ensures .0 in
     let b = c .before .wide2 .ensures .0 in
-    let (below-a, open-a) = good-numbers R _ h (2 * k) (omega arith) in
-    let (below-b, open-b) = good-numbers R _ h (2 * k + 1) (omega arith) in
-    let r = c .pair .ensures R M (omega (arith, a, below-a)) (omega (arith, b, below-b)) (subst (Open R) (sym a) open-a) (subst (Open R) (sym b) open-b) in
+    let below-a = good-numbers R _ h (2 * k) (omega arith) (M .well-formed) .0 in
+    let below-b = good-numbers R _ h (2 * k + 1) (omega arith) (M .well-formed) .0 in
+    let r = c .pair .ensures R M (omega (arith, a, below-a)) (omega (arith, b, below-b)) in
     cc (r, a, b)
 
 pub is-false-spec : {M : Type 1} → statement M

@@ -9,8 +9,8 @@ use borrow.Author.Tests.{eq-eqb, ne-eqb}
 use Rattle.chart.specs.Format.{decode}
 use Rattle.chart.specs.Reading.{region}
 use Rattle.chart.specs.Refusal.{firstOf}
-use Rattle.judge.specs.Claims.{oddBytes}
-use Rattle.judge.specs.Judged.{claimRows, answered}
+use Rattle.verdicts.specs.Claims.{oddBytes}
+use Rattle.verdicts.specs.Judged.{claimRows, answered}
 use Rattle.judge.proofs.Facts.{numbers-fit}
 use Rattle.judge.proofs.claims.judge_claims.Statement.{statement}
 use Rattle.judge.proofs.claims.judge_claims.Tie as tie
@@ -32,7 +32,7 @@ returns-2 c =
 first-false-requires : tie.Need-first-false-requires
 first-false-requires c κs =
     let e = c .before .before .before .before .before in
-    numbers-fit (region (decode (e .args .s .now))) _ (e .pre .1 .few) (sym (c .before .bad-numbers .ensures) ∙ c .if2 .left)
+    numbers-fit (region (decode (e .args .s .now))) _ (e .pre .1 .well-formed) (e .pre .1 .few) (sym (c .before .bad-numbers .ensures) ∙ c .if2 .left)
 
 returns-3 : tie.Need-returns-3
 unfolding answered firstOf claimRows oddBytes

@@ -2,9 +2,11 @@
 -- Assumes nothing.
 use mathlib.Core.Path.{_≡_, sym, _∙_}
 use mathlib.Core.Bool.{true, false}
+use lib.Bits.{bitAnd}
 use borrow.Author.Needs.{needs}
 use borrow.Author.Tests.{not-true, not-false}
-use Rattle.pairs.specs.Rules.{common, answerBy}
+use Rattle.lists.specs.Common.{common}
+use Rattle.pairs.specs.Rules.{answerBy}
 use Rattle.pairs.proofs.rules.answer_by.Statement.{statement}
 use Rattle.pairs.proofs.rules.answer_by.Tie as tie
 
@@ -15,10 +17,10 @@ starts-shared c = sym (c .before .common .ensures) ∙ not-false _ (c .if1 .left
 ends-shared : (c : tie.Else2) → let e = c .before .before .before .before in common (e .args .x .ends) (e .args .y .ends) ≡ true
 ends-shared c = sym (c .before .common2 .ensures) ∙ not-false _ (c .if2 .left)
 
-no-master : (c : tie.Else3) → let e = c .before .before .before .before .before .before in common (e .args .x .masters) (e .args .y .masters) ≡ false
+no-master : (c : tie.Else3) → let e = c .before .before .before .before .before .before .before .before in common (bitAnd (e .args .x .held) (e .args .y .held)) (e .args .sets .masters) ≡ false
 no-master c = sym (c .before .common3 .ensures) ∙ c .if3 .left
 
-no-single : (c : tie.Else4) → let e = c .before .before .before .before .before .before .before .before in common (e .args .x .singles) (e .args .y .singles) ≡ false
+no-single : (c : tie.Else4) → let e = c .before .before .before .before .before .before .before .before .before .before in common (bitAnd (e .args .x .held) (e .args .y .held)) (e .args .sets .singles) ≡ false
 no-single c = sym (c .before .common4 .ensures) ∙ c .if4 .left
 
 common-requires : tie.Need-common-requires
@@ -41,7 +43,7 @@ common-requires-3 c κs = search needs
 returns-3 : tie.Need-returns-3
 unfolding answerBy
 returns-3 c =
-    let e = c .before .before in
+    let e = c .before .before .before .before in
     rw (starts-shared (e .before .before), ends-shared e, sym (c .before .common3 .ensures) ∙ c .if3 .taken)
 
 common-requires-4 : tie.Need-common-requires-4
@@ -51,7 +53,7 @@ returns-4 : tie.Need-returns-4
 unfolding answerBy
 returns-4 c =
     let m = c .before .before in
-    let e = m .before .before in
+    let e = m .before .before .before .before in
     rw (starts-shared (e .before .before), ends-shared e, no-master m, sym (c .before .common4 .ensures) ∙ c .if4 .taken)
 
 common-requires-5 : tie.Need-common-requires-5
@@ -62,7 +64,7 @@ unfolding answerBy
 returns-5 c =
     let u = c .before .before in
     let m = u .before .before in
-    let e = m .before .before in
+    let e = m .before .before .before .before in
     rw (starts-shared (e .before .before), ends-shared e, no-master m, no-single u, sym (c .before .common5 .ensures) ∙ c .if5 .taken)
 
 returns-6 : tie.Need-returns-6
@@ -70,7 +72,7 @@ unfolding answerBy
 returns-6 c =
     let u = c .before .before in
     let m = u .before .before in
-    let e = m .before .before in
+    let e = m .before .before .before .before in
     rw (starts-shared (e .before .before), ends-shared e, no-master m, no-single u, sym (c .before .common5 .ensures) ∙ c .if5 .left)
 
 pub answer-by-spec : {M : Type 1} → statement M

@@ -1,0 +1,40 @@
+// Rows 1 to 10 of the refusals over any bytes, and the counts of a chart that none of them refuses.
+ghost use mathlib.Core.Path.{_≡_};
+ghost use Rattle.admission.specs.Admission.{admitted};
+use crate::count::count;
+use chart::format::Chart;
+use chart::format::Refusal;
+use marking::enter::Entered;
+use marking::enter::enter;
+
+pub struct Counts {
+    pub nodes: usize,
+    pub barriers: usize,
+    pub phases: usize,
+}
+
+// What Admit answers.
+pub enum Admission {
+    Admitted(Counts),
+    Refused(Refusal),
+}
+
+// The first of rows 1 to 10 that applies, or the counts of the chart.
+pub fn admit(s: &[u8]) -> Admission
+    ensures { λ r. ⌜ r ≡ admitted (now (s .entry)) ⌝ }
+{
+    let mut starts = [0u64; Chart::NODES];
+    let mut ends = [0u64; Chart::NODES];
+    match enter(s, &mut starts, &mut ends) {
+        Entered::Refused(refusal) => Admission::Refused(refusal),
+        Entered::Marked(chart, barriers) => {
+            let nodes = chart.nodes;
+            let phases = count(&starts, &ends, nodes, barriers);
+            Admission::Admitted(Counts {
+                nodes,
+                barriers,
+                phases,
+            })
+        }
+    }
+}

@@ -1,0 +1,63 @@
+-- `calls::writing::phases` meets its contract: rows 1 to 10, and where none of them applies row 11 and the bytes.
+-- Assumes nothing.
+use mathlib.Core.Path.{sym, _∙_}
+use mathlib.Core.List.{[]}
+use borrow.Author.Needs.{needs}
+use Rattle.chart.specs.Format.{decode}
+use Rattle.chart.specs.Reading.{region}
+use Rattle.chart.proofs.Records.{nodes-length}
+use Rattle.paths.specs.Admission.{admitRows}
+use Rattle.marking.proofs.Entering.{entered-refused, entered-marked}
+use Rattle.output.proofs.Outputs.{refused-before, passed-before}
+use Rattle.calls.specs.Phases.{phasesResult}
+use Rattle.calls.proofs.writing.phases.Statement.{statement}
+use Rattle.calls.proofs.writing.phases.Tie as tie
+
+enter-requires : tie.Need-enter-requires
+enter-requires c κs = search needs
+
+enum-known-refusal : tie.Need-enum-known-refusal
+enum-known-refusal c = search needs
+
+enum-known-chart : tie.Need-enum-known-chart
+enum-known-chart c = search needs
+
+write-phases-requires : tie.Need-write-phases-requires
+write-phases-requires c κs =
+    let m = c .before .before .before .before in
+    m .before .before .enter .ensures .1 _ _ (m .chart .given .1) .accepted .laid .nodes-most
+
+returns : tie.Need-returns
+returns c =
+    let k = c .before .before .before in
+    let e = k .before .before .before .before .before in
+    let s = e .args .s .now in
+    refused-before (admitRows s) [] _ (phasesResult (region (decode s))) (e .args .out .now) _ (entered-refused _ _ _ (sym (k .enter .ensures .0) ∙ c .before .refusal .given .1))
+
+same-length : tie.Need-same-length
+same-length c = search needs
+
+returns-2 : tie.Need-returns-2
+returns-2 c =
+    let w = c .before .before in
+    let m = w .before .before .before .before .before in
+    let k = m .before .before in
+    let e = k .before .before .before .before .before in
+    let s = e .args .s .now in
+    let R = region (decode s) in
+    let E = k .enter .ensures .1 _ _ (m .chart .given .1) in
+    let q = nodes-length _ _ (E .accepted .laid) in
+    let p = passed-before (admitRows s) [] _ (phasesResult R) (e .args .out .now) (entered-marked _ _ _ (sym (k .enter .ensures .0) ∙ m .chart .given .1)) in
+    (w .write-phases .ensures .0 R q ∙ sym (p .0), w .write-phases .ensures .1 R q (E .has-starts) (E .has-ends) ∙ sym (p .1))
+
+pub phases-spec : {M : Type 1} → statement M
+phases-spec =
+    tie.close
+    (tie.spec
+    enter-requires
+    enum-known-refusal
+    enum-known-chart
+    write-phases-requires
+    returns
+    same-length
+    returns-2)

@@ -1,0 +1,66 @@
+-- `calls::writing::sheet` meets its contract: rows 1 to 10, and where none of them applies row 11 and the bytes.
+-- Assumes nothing.
+use mathlib.Core.Path.{refl, ap, sym, _∙_}
+use mathlib.Core.List.{[]}
+use borrow.Author.Needs.{needs}
+use Rattle.chart.specs.Format.{decode}
+use Rattle.chart.specs.Reading.{region}
+use Rattle.chart.specs.Checked.{countsOf}
+use Rattle.refusals.proofs.Outcome.{passed-none, refused-some}
+use Rattle.paths.specs.Admission.{admitRows}
+use Rattle.answers.specs.Sheet.{sheet}
+use Rattle.survey.specs.Surveyed.{checkedOf}
+use Rattle.output.proofs.Outputs.{refused-before, passed-before}
+use Rattle.calls.proofs.writing.sheet.Statement.{statement}
+use Rattle.calls.proofs.writing.sheet.Tie as tie
+
+survey-requires : tie.Need-survey-requires
+survey-requires c κs = refl
+
+enum-known-refusal : tie.Need-enum-known-refusal
+enum-known-refusal c = search needs
+
+enum-known-chart : tie.Need-enum-known-chart
+enum-known-chart c = search needs
+
+write-sheet-requires : tie.Need-write-sheet-requires
+write-sheet-requires c κs =
+    let m = c .before .before .before in
+    let S = m .before .before .survey .ensures .1 _ _ (m .chart .given .1) in
+    (S .accepted .laid, S .marked)
+
+returns : tie.Need-returns
+unfolding checkedOf
+returns c =
+    let k = c .before .before .before in
+    let e = k .before .before .before .before in
+    let s = e .args .s .now in
+    let n = refused-some _ (countsOf s) _ (sym (k .survey .ensures .0) ∙ ap checkedOf (c .before .refusal .given .1)) in
+    refused-before (admitRows s) [] _ (sheet (region (decode s))) (e .args .out .now) _ n
+
+same-length : tie.Need-same-length
+same-length c = search needs
+
+returns-2 : tie.Need-returns-2
+unfolding checkedOf
+returns-2 c =
+    let w = c .before .before in
+    let m = w .before .before .before .before in
+    let k = m .before .before in
+    let e = k .before .before .before .before in
+    let s = e .args .s .now in
+    let n = passed-none _ (countsOf s) _ (sym (k .survey .ensures .0) ∙ ap checkedOf (m .chart .given .1)) in
+    let p = passed-before (admitRows s) [] _ (sheet (region (decode s))) (e .args .out .now) (n .0) in
+    (w .write-sheet .ensures .0 ∙ sym (p .0), w .write-sheet .ensures .1 ∙ sym (p .1))
+
+pub sheet-spec : {M : Type 1} → statement M
+sheet-spec =
+    tie.close
+    (tie.spec
+    survey-requires
+    enum-known-refusal
+    enum-known-chart
+    write-sheet-requires
+    returns
+    same-length
+    returns-2)

@@ -1,0 +1,4 @@
+pub mod Bytes
+pub mod Pair
+pub mod Phases
+pub mod Sheet

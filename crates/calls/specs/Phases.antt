@@ -1,0 +1,35 @@
+-- Phases (01: Phases): for each node 16 bytes, starts and ends, 8 bytes each, bit b for barrier b.
+-- Assumes nothing.
+use mathlib.Core.Bool.{cond}
+use mathlib.Core.List.{List, []}
+use Prim.Native.Nat.{ℕ, _*_, _/_, _%_}
+use lib.Dec.{ltb}
+use lib.ListN.{length}
+use Rattle.lists.specs.Tab.{tab}
+use Rattle.chart.specs.Format.{decode}
+use Rattle.chart.specs.Region.{Region}
+use Rattle.chart.specs.Reading.{region}
+use Rattle.chart.specs.Refusal.{Row}
+use Rattle.paths.specs.Admission.{admitRows}
+use Rattle.phases.specs.Phases.{starts, ends}
+use Rattle.output.specs.Output.{outputRows, writtenBy, leftBy}
+use Rattle.output.specs.declared.Written.{Written}
+use Rattle.calls.specs.Bytes.{byteOf}
+
+-- byte j of the result
+unfoldable pub phaseByte : Region → ℕ → ℕ
+phaseByte R j = byteOf (cond (ltb (j % 16) 8) (starts R (j / 16)) (ends R (j / 16))) (j % 8)
+
+unfoldable pub phasesResult : Region → List ℕ
+phasesResult R = tab (16 * R .nodes) (phaseByte R)
+
+-- Rows 1 to 10, then 11.
+abbrev pub phasesRows : List ℕ → List ℕ → List Row
+phasesRows s out = outputRows (admitRows s) (length out) (length (phasesResult (region (decode s)))) []
+
+-- What Phases returns, and what the buffer holds then.
+abbrev pub phasesWritten : List ℕ → List ℕ → Written
+phasesWritten s out = writtenBy (phasesRows s out) (length (phasesResult (region (decode s))))
+
+abbrev pub phasesLeft : List ℕ → List ℕ → List ℕ
+phasesLeft s out = leftBy (phasesRows s out) (phasesResult (region (decode s))) out

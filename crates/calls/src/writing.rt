@@ -1,0 +1,91 @@
+// Phases and Sheet as calls on slices: they write a result to a lent buffer.
+ghost use mathlib.Core.Path.{_≡_};
+ghost use mathlib.Core.List.{[]};
+ghost use Prim.Native.Nat.{_≤_};
+ghost use lib.ListN.{length};
+ghost use Rattle.chart.specs.Region.{Region};
+ghost use Rattle.chart.specs.Checked.{Laid, reading};
+ghost use Rattle.phases.specs.Phases.{forward, backward};
+ghost use Rattle.answers.specs.Sheet.{sheet as sheetOf};
+ghost use Rattle.loading.specs.Tables.{Masks};
+ghost use Rattle.profiles.specs.Marks.{Marks};
+ghost use Rattle.output.specs.Output.{outputRows, writtenBy, leftBy};
+ghost use Rattle.calls.specs.Phases.{phasesResult, phasesWritten, phasesLeft};
+ghost use Rattle.calls.specs.Sheet.{sheetWritten, sheetLeft};
+use crate::fill::fill_phases;
+use chart::format::Chart;
+use marking::enter::Entered;
+use marking::enter::enter;
+use output::Written;
+use output::room_for;
+use profiles::chains::Sets;
+use profiles::marks::MaskTable;
+use profiles::marks::ROWS;
+use sheets::fill_sheet;
+use survey::Surveyed;
+use survey::survey;
+
+// Row 11 and the bytes of Phases, for n nodes with these masks.
+fn write_phases(
+    n: usize,
+    starts: &[u64; Chart::NODES],
+    ends: &[u64; Chart::NODES],
+    out: &mut [u8],
+) -> Written
+    requires { ⌜ n ≤ 192 ⌝ }
+    ensures { λ r. ⌜ ((R : Region) → R .nodes ≡ n → r ≡ writtenBy (outputRows [] (length (now (out .entry))) (length (phasesResult R)) []) (length (phasesResult R))) ⌝ }
+    ensures { λ _. ⌜ ((R : Region) → R .nodes ≡ n → Masks forward R (now (starts .entry)) → Masks backward R (now (ends .entry)) → now (out .exit) ≡ leftBy (outputRows [] (length (now (out .entry))) (length (phasesResult R)) []) (phasesResult R) (now (out .entry))) ⌝ }
+{
+    match room_for(Written::PHASES_NODE * n, out.len()) {
+        Written::Refused(refusal) => Written::Refused(refusal),
+        Written::Bytes(size) => {
+            fill_phases(out, n, starts, ends);
+            Written::Bytes(size)
+        }
+    }
+}
+
+// The first of rows 1 to 11 that applies, or the bytes written.
+pub fn phases(s: &[u8], out: &mut [u8]) -> Written
+    ensures { λ r. ⌜ r ≡ phasesWritten (now (s .entry)) (now (out .entry)) ⌝ }
+    ensures { λ _. ⌜ now (out .exit) ≡ phasesLeft (now (s .entry)) (now (out .entry)) ⌝ }
+{
+    let mut starts = [0u64; Chart::NODES];
+    let mut ends = [0u64; Chart::NODES];
+    match enter(s, &mut starts, &mut ends) {
+        Entered::Refused(refusal) => Written::Refused(refusal),
+        Entered::Marked(chart, _) => write_phases(chart.nodes, &starts, &ends, out),
+    }
+}
+
+// Row 11 and the bytes of Sheet, of a chart whose nodes are marked.
+fn write_sheet(s: &[u8], chart: Chart, marks: &MaskTable, sets: Sets, out: &mut [u8]) -> Written
+    requires { ⌜ Laid (now s) chart × Marks (reading (now s) chart) (now marks) sets ⌝ }
+    ensures { λ r.
+        let size = length (sheetOf (reading (now (s .entry)) chart)) in
+        ⌜ r ≡ writtenBy (outputRows [] (length (now (out .entry))) size []) size ⌝ }
+    ensures { λ _.
+        let result = sheetOf (reading (now (s .entry)) chart) in
+        ⌜ now (out .exit) ≡ leftBy (outputRows [] (length (now (out .entry))) (length result) []) result (now (out .entry)) ⌝ }
+{
+    let n = chart.nodes;
+    match room_for(n * n, out.len()) {
+        Written::Refused(refusal) => Written::Refused(refusal),
+        Written::Bytes(bytes) => {
+            fill_sheet(s, chart, marks, sets, out);
+            Written::Bytes(bytes)
+        }
+    }
+}
+
+// The first of rows 1 to 11 that applies, or the bytes written.
+pub fn sheet(s: &[u8], out: &mut [u8]) -> Written
+    ensures { λ r. ⌜ r ≡ sheetWritten (now (s .entry)) (now (out .entry)) ⌝ }
+    ensures { λ _. ⌜ now (out .exit) ≡ sheetLeft (now (s .entry)) (now (out .entry)) ⌝ }
+{
+    let mut marks = [[0u64; Chart::NODES]; ROWS];
+    match survey(s, &mut marks) {
+        Surveyed::Refused(refusal) => Written::Refused(refusal),
+        Surveyed::Marked(chart, sets) => write_sheet(s, chart, &marks, sets, out),
+    }
+}

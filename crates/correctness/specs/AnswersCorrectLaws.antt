@@ -1,0 +1,113 @@
+-- Pair and Sheet are correct: demand 2 holds of the numbers and the bytes that their definitions give, for all bytes, and of no others.
+-- Assumes nothing.
+use mathlib.Core.Path.{_≡_, refl, ap, sym, subst, _∙_}
+use mathlib.Core.Logic.{_⊎_, inl, inr}
+use mathlib.Core.Bool.{true, false, _&&_}
+use mathlib.Core.List.{List, []}
+use mathlib.Core.Option.{Option, none, some}
+use Prim.Native.Nat.{ℕ, _+_, _*_, _/_, _%_, _<_}
+use native.Mathlib.Omega.{arith}
+use native.Mathlib.Decide.{decLt}
+use native.Mathlib.Nat.{mod-lt, div-lt-iff-lt-mul, div-add-mod'}
+use lib.IntN.{ℤ, pos}
+use lib.ListN.{getD}
+use Rattle.lists.specs.Truth.{truth, clash, and-false}
+use Rattle.lists.specs.Rows.{row-room}
+use Rattle.chart.specs.Format.{decode}
+use Rattle.chart.specs.Region.{Region}
+use Rattle.chart.specs.Reading.{region}
+use Rattle.chart.specs.Refusal.{firstOf}
+use Rattle.chart.specs.WellFormed.{WellFormed}
+use Rattle.chart.proofs.Rows.{both-pass}
+use Rattle.paths.specs.Admission.{admitRows}
+use Rattle.paths.specs.AdmissionLaws.{admitted-well-formed}
+use Rattle.answers.specs.Answer.{answer}
+use Rattle.answers.specs.Unexcluded.{Answers}
+use Rattle.answers.specs.AnswerLaws.{first-unique, answer-first, answers-only}
+use Rattle.answers.specs.Numbers.{Asked, asked, asked-node, node-asked}
+use Rattle.answers.specs.Sheet.{entry, sheet, sheet-length, sheet-at}
+use Rattle.output.specs.Output.{numberOf as Output·numberOf}
+use Rattle.calls.specs.Pair.{pairRows, answered, pairAnswered, numberOf}
+use Rattle.calls.specs.Sheet.{sheetWritten, sheetLeft}
+use Rattle.correctness.specs.OutputCorrectLaws.{output-correct, output-only}
+use Rattle.correctness.specs.AnswersCorrect.{PairCorrect, SheetBytes, SheetCorrect}
+
+-- a pair that is not refused is one of an admitted chart
+pair-well-formed : (s : List ℕ) (a b : ℕ) → firstOf (pairRows s a b) ≡ none → WellFormed (region (decode s))
+unfolding pairRows
+pair-well-formed s a b h = admitted-well-formed s (both-pass (admitRows s) _ h .0)
+
+-- Demand 2 for Pair.
+pub pair-correct : (s : List ℕ) (a b : ℕ) → PairCorrect s a b (numberOf (pairAnswered s a b))
+unfolding pairAnswered answered numberOf
+pair-correct s a b = record {
+  refuses = λ row h. rw h;
+  answers = λ h. (answer (region (decode s)) a b, (rw h, answer-first (pair-well-formed s a b h) a b));
+}
+
+-- No other number is correct.
+pub pair-only : (s : List ℕ) (a b : ℕ) (number : ℤ) → PairCorrect s a b number → number ≡ numberOf (pairAnswered s a b)
+unfolding pairAnswered answered numberOf
+pair-only s a b number C = go (firstOf (pairRows s a b)) refl
+  where
+    go : (o : Option ℕ) → firstOf (pairRows s a b) ≡ o → number ≡ numberOf (pairAnswered s a b)
+    go none h = let (k, (e, A)) = C .answers h in rw h (e ∙ ap pos (answers-only (pair-well-formed s a b h) a b A))
+    go (some row) h = rw h (C .refuses row h)
+
+module _ {R : Region} (W : WellFormed R) where
+  abbrev n : ℕ
+  n = R .nodes
+
+  -- bytes that begin as the sheet does
+  entry-bytes : (new : List ℕ) → ((j : ℕ) → j < n * n → getD new j 0 ≡ getD (sheet R) j 0) → SheetBytes R new
+  unfolding entry
+  entry-bytes new e = record {
+    answers = λ a b x y. subst (Answers R a b) (sym (at a b (W .kept-below (x .0)) (W .kept-below (y .0)) ∙ rw (node-asked R a x, node-asked R b y))) (answer-first W a b);
+    barriers = λ a b la lb f. at a b la lb ∙ rw (barred a b f (truth (asked R a)) (truth (asked R b)));
+  }
+    where
+      at : (a b : ℕ) → a < n → b < n → getD new (a * n + b) 0 ≡ entry R a b
+      at a b la lb = e (a * n + b) (omega (arith, row-room a n la)) ∙ sheet-at R a b la lb
+
+      barred : (a b : ℕ) → (Asked R a × Asked R b → ⊥) → (asked R a ≡ true) ⊎ (asked R a ≡ false) → (asked R b ≡ true) ⊎ (asked R b ≡ false)
+          → (asked R a && asked R b) ≡ false
+      barred a b f (inr p) q = rw p
+      barred a b f (inl p) (inr q) = rw q (and-false (asked R a))
+      barred a b f (inl p) (inl q) = absurd (f (asked-node R a p, asked-node R b q))
+
+-- two lists that have the entries begin alike
+module _ {R : Region} {l m : List ℕ} (L : SheetBytes R l) (M : SheetBytes R m) where
+  same-entry : (a b : ℕ) → a < R .nodes → b < R .nodes → getD l (a * R .nodes + b) 0 ≡ getD m (a * R .nodes + b) 0
+  same-entry a b la lb = go (truth (asked R a)) (truth (asked R b))
+    where
+      barred : (Asked R a × Asked R b → ⊥) → getD l (a * R .nodes + b) 0 ≡ getD m (a * R .nodes + b) 0
+      barred f = L .barriers a b la lb f ∙ sym (M .barriers a b la lb f)
+
+      go : (asked R a ≡ true) ⊎ (asked R a ≡ false) → (asked R b ≡ true) ⊎ (asked R b ≡ false) → getD l (a * R .nodes + b) 0 ≡ getD m (a * R .nodes + b) 0
+      go (inr p) q = barred (λ h. clash (node-asked R a (h .0)) p)
+      go (inl p) (inr q) = barred (λ h. clash (node-asked R b (h .1)) q)
+      go (inl p) (inl q) =
+          let x = asked-node R a p in
+          let y = asked-node R b q in
+          first-unique (L .answers a b x y) (M .answers a b x y)
+
+  same-entries : (j : ℕ) → j < R .nodes * R .nodes → getD l j 0 ≡ getD m j 0
+  same-entries j h = go (decLt 0 (R .nodes))
+    where
+      go : Dec (0 < R .nodes) → getD l j 0 ≡ getD m j 0
+      go (yes p) = rw (div-add-mod' j (R .nodes)) at (same-entry (j / R .nodes) (j % R .nodes) (div-lt-iff-lt-mul p .1 h) (mod-lt j p))
+      go (no p) = let q : R .nodes ≡ 0 = omega arith in let z : j < 0 * 0 = rw q at h in absurd (omega arith)
+
+-- Demand 2 for Sheet.
+pub sheet-correct : (s old : List ℕ) → SheetCorrect s old (Output·numberOf (sheetWritten s old)) (sheetLeft s old)
+sheet-correct s old =
+    let R = region (decode s) in
+    output-correct (admitRows s) [] (sheet R) old (R .nodes * R .nodes) (sheet-length R) (SheetBytes R) (λ a new e. entry-bytes (admitted-well-formed s a) new e)
+
+-- No other number and no other bytes are correct.
+pub sheet-only : (s old : List ℕ) (number : ℤ) (new : List ℕ) → SheetCorrect s old number new
+    → (number ≡ Output·numberOf (sheetWritten s old)) × (new ≡ sheetLeft s old)
+sheet-only s old number new =
+    let R = region (decode s) in
+    output-only (admitRows s) [] (sheet R) old (R .nodes * R .nodes) (sheet-length R) (SheetBytes R) number new
+    (λ a h. same-entries h (entry-bytes (admitted-well-formed s a) (sheet R) (λ j l. refl)))

@@ -1,0 +1,131 @@
+-- Filling a table of scopes; two such tables, shut at start and finish, tell row 9 of one edge; and edges are ordered by one number.
+-- Assumes nothing.
+use mathlib.Core.Bool.{true, _||_, _&&_, not}
+use mathlib.Core.Logic.{_⊎_, inl, inr, _≢_}
+use mathlib.Core.Path.{_≡_, refl, ap, subst, _∙_}
+use mathlib.Core.List.{List}
+use Prim.Native.Nat.{ℕ, _+_, _*_, _-_, _≤_, _<_}
+use native.Mathlib.Omega.{arith}
+use native.Mathlib.Decide.{ℕ-discrete, decLt}
+use lib.Dec.{ltb, eqb}
+use lib.ListN.{length, getD, set, replicate, length-set, getD-replicate}
+use lib.Seq.{getD-set-same, getD-set-other}
+use borrow.Author.Count.{below-none, below-more}
+use borrow.Author.Tests.{le-leb, lt-leb, lt-ltb, ltb-true, eq-eqb, ne-eqb, eqb-true}
+use Rattle.lists.specs.Truth.{same-truth, and-both, both-and, or-cases, or-left, or-right}
+use Rattle.chart.specs.Format.{Decoded}
+use Rattle.chart.specs.Scope.{beginNode, endNode, scopeAt}
+use Rattle.chart.specs.Refusal.{badEdge, rises}
+use Rattle.edges.specs.Tables.{noLeaving, noArriving, ScopeTable, EdgeScopes}
+
+-- the table when the first n nodes are in it
+pub record ScopesTo (own none : ℕ) (D : Decoded) (n : ℕ) (table : List ℕ) : Type 0 where
+  pub long : length table ≡ 256
+  pub at : (x : ℕ) → x < n → (getD table x 0 ≡ scopeAt own (D .nodes) (D .constructs) x) × (getD table x 0 < 256)
+  pub past : (x : ℕ) → n ≤ x → x < 256 → getD table x 0 ≡ none
+
+pub scopes-none : (own none : ℕ) (D : Decoded) → ScopesTo own none D 0 (replicate 256 none)
+scopes-none own none D = record { long = refl; at = below-none _; past = λ x h m. getD-replicate 256 x none 0 m }
+
+-- one node more
+pub scopes-more : {own none : ℕ} {D : Decoded} {x v : ℕ} {table : List ℕ} → x < 256 → ScopesTo own none D x table → v ≡ scopeAt own (D .nodes) (D .constructs) x → v < 256
+    → ScopesTo own none D (x + 1) (set table x v)
+scopes-more {own} {none} {D} {x} {v} {table} l T e b = record {
+  long = length-set table x v ∙ T .long;
+  at = below-more (λ y. (getD (set table x v) y 0 ≡ scopeAt own (D .nodes) (D .constructs) y) × (getD (set table x v) y 0 < 256)) x
+      (λ y h. let k = getD-set-other table x y v 0 (λ q. omega arith) in (k ∙ T .at y h .0, omega (arith, k, T .at y h .1)))
+      (let k = getD-set-same table x v 0 (omega (arith, T .long)) in (k ∙ e, omega (arith, k, b)));
+  past = λ y h m. getD-set-other table x y v 0 (λ q. omega arith) ∙ T .past y (omega arith) m;
+}
+
+pub scopes-all : {own none : ℕ} {D : Decoded} {n : ℕ} {table : List ℕ} → n ≡ length (D .nodes) → ScopesTo own none D n table → ScopeTable own none D table
+scopes-all e T = record {
+  long = T .long;
+  at = λ x h. T .at x (omega arith) .0;
+  byte = λ x h. T .at x (omega arith) .1;
+  past = λ x h m. T .past x (omega arith) m;
+}
+
+differ : {u v : ℕ} → u ≢ v → not (eqb u v) ≡ true
+differ {u} {v} n = ap not (ne-eqb u v n)
+
+-- start is shut for arriving, finish for leaving
+module _ (D : Decoded) (leave arrive : List ℕ) (some-node : 1 ≤ length (D .nodes)) (L : ScopeTable beginNode noLeaving D leave) (A : ScopeTable endNode noArriving D arrive) where
+  abbrev n : ℕ
+  n = length (D .nodes)
+
+  abbrev left : List ℕ
+  left = set leave (n - 1) noLeaving
+
+  abbrev come : List ℕ
+  come = set arrive 0 noArriving
+
+  left-shut : (from : ℕ) → from < 256 → (from ≡ n - 1) ⊎ (n ≤ from) → getD left from 0 ≡ noLeaving
+  left-shut from f (inl q) = rw q (getD-set-same leave (n - 1) noLeaving 0 (omega (arith, L .long, q)))
+  left-shut from f (inr h) = getD-set-other leave (n - 1) from noLeaving 0 (λ q. omega arith) ∙ L .past from h f
+
+  left-open : (from : ℕ) → from < n → from ≢ n - 1 → getD left from 0 ≡ getD leave from 0
+  left-open from f q = getD-set-other leave (n - 1) from noLeaving 0 q
+
+  come-shut : (to : ℕ) → to < 256 → (to ≡ 0) ⊎ (n ≤ to) → getD come to 0 ≡ noArriving
+  come-shut to t (inl q) = rw q (getD-set-same arrive 0 noArriving 0 (omega (arith, A .long)))
+  come-shut to t (inr h) = getD-set-other arrive 0 to noArriving 0 (λ q. omega arith) ∙ A .past to h t
+
+  come-open : (to : ℕ) → to ≢ 0 → getD come to 0 ≡ getD arrive to 0
+  come-open to q = getD-set-other arrive 0 to noArriving 0 q
+
+  -- no scope on arriving is that of what may not be left
+  come-other : (to : ℕ) → to < 256 → noLeaving ≢ getD come to 0
+  come-other to t = go (ℕ-discrete to 0) (decLt to n)
+    where
+      go : Dec (to ≡ 0) → Dec (to < n) → noLeaving ≢ getD come to 0
+      go (yes q) h e = omega (arith, e, come-shut to t (inl q))
+      go (no q) (yes h) e = omega (arith, e, come-open to q, A .byte to h)
+      go (no q) (no h) e = omega (arith, e, come-shut to t (inr (omega arith)))
+
+  shut : EdgeScopes D left come
+  unfolding badEdge
+  shut = record {
+    leave-long = length-set leave (n - 1) noLeaving ∙ L .long;
+    arrive-long = length-set arrive 0 noArriving ∙ A .long;
+    bad = λ from to f t. go from to f t (decLt from n) (ℕ-discrete from (n - 1)) (decLt to n) (ℕ-discrete to 0);
+  }
+    where
+      go : (from to : ℕ) → from < 256 → to < 256 → Dec (from < n) → Dec (from ≡ n - 1) → Dec (to < n) → Dec (to ≡ 0)
+          → not (eqb (getD left from 0) (getD come to 0)) ≡ badEdge (D .nodes) (D .constructs) from to
+      go from to f t (no h) p k q = rw (left-shut from f (inr (omega arith)), differ (come-other to t), le-leb n from (omega arith))
+      go from to f t (yes h) (yes p) (no k) q = rw (left-shut from f (inl p), differ (come-other to t), lt-leb n from h, le-leb n to (omega arith))
+      go from to f t (yes h) (yes p) (yes k) (yes q) = rw (left-shut from f (inl p), differ (come-other to t), lt-leb n from h, lt-leb n to k, eq-eqb to 0 q)
+      go from to f t (yes h) (yes p) (yes k) (no q) = rw (left-shut from f (inl p), differ (come-other to t), lt-leb n from h, lt-leb n to k, ne-eqb to 0 q, eq-eqb from (n - 1) p)
+      go from to f t (yes h) (no p) (no k) q =
+          let c = come-shut to t (inr (omega arith)) in
+          rw (c, differ {u = getD left from 0} {v = noArriving} (λ e. omega (arith, e, left-open from h p, L .byte from h)), lt-leb n from h, le-leb n to (omega arith))
+      go from to f t (yes h) (no p) (yes k) (yes q) =
+          let c = come-shut to t (inl q) in
+          rw (c, differ {u = getD left from 0} {v = noArriving} (λ e. omega (arith, e, left-open from h p, L .byte from h)), lt-leb n from h, lt-leb n to k, eq-eqb to 0 q)
+      go from to f t (yes h) (no p) (yes k) (no q) =
+          rw (left-open from h p, come-open to q, L .at from h, A .at to k, lt-leb n from h, lt-leb n to k, ne-eqb to 0 q, ne-eqb from (n - 1) p)
+
+pub shut-at : {D : Decoded} {leave arrive : List ℕ} {m : ℕ} → length (D .nodes) ≡ m → 1 ≤ m → ScopeTable beginNode noLeaving D leave → ScopeTable endNode noArriving D arrive
+    → EdgeScopes D (set leave (m - 1) noLeaving) (set arrive 0 noArriving)
+shut-at {D} {leave} {arrive} e l L A = subst (λ (m : ℕ). EdgeScopes D (set leave (m - 1) noLeaving) (set arrive 0 noArriving)) e (shut D leave arrive (omega arith) L A)
+
+pub by-key : (fromBefore toBefore from to : ℕ) → toBefore < 256 → to < 256 → ltb (256 * fromBefore + toBefore) (256 * from + to) ≡ rises fromBefore toBefore from to
+unfolding rises
+by-key fromBefore toBefore from to h k = same-truth _ _ up down
+  where
+    pick : fromBefore ≤ from → 256 * fromBefore + toBefore < 256 * from + to → Dec (fromBefore ≡ from) → (ltb fromBefore from || (eqb fromBefore from && ltb toBefore to)) ≡ true
+    pick a l (yes q) = or-right (ltb fromBefore from) (eqb fromBefore from && ltb toBefore to) (both-and (eqb fromBefore from) (ltb toBefore to) (eq-eqb fromBefore from q) (lt-ltb toBefore to (omega arith)))
+    pick a l (no q) = or-left (ltb fromBefore from) (eqb fromBefore from && ltb toBefore to) (lt-ltb fromBefore from (omega arith))
+
+    up : ltb (256 * fromBefore + toBefore) (256 * from + to) ≡ true → (ltb fromBefore from || (eqb fromBefore from && ltb toBefore to)) ≡ true
+    up l = let less = ltb-true (256 * fromBefore + toBefore) (256 * from + to) l in pick (omega arith) less (ℕ-discrete fromBefore from)
+
+    down : (ltb fromBefore from || (eqb fromBefore from && ltb toBefore to)) ≡ true → ltb (256 * fromBefore + toBefore) (256 * from + to) ≡ true
+    down e = elim (or-cases (ltb fromBefore from) (eqb fromBefore from && ltb toBefore to) e) [
+      | inl l ↦ (let less = ltb-true fromBefore from l in lt-ltb (256 * fromBefore + toBefore) (256 * from + to) (omega arith))
+      | inr b ↦ (let both = and-both (eqb fromBefore from) (ltb toBefore to) b in
+          let same = eqb-true fromBefore from (both .0) in
+          let less = ltb-true toBefore to (both .1) in
+          lt-ltb (256 * fromBefore + toBefore) (256 * from + to) (omega arith))
+    ]

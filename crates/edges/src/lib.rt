@@ -1,0 +1,130 @@
+// Row 9 of the refusals, over the edges.
+ghost use mathlib.Core.Path.{_≡_};
+ghost use mathlib.Core.Bool.{true, false};
+ghost use Prim.Native.Nat.{_+_, _*_, _-_, _<_};
+ghost use Rattle.chart.specs.Format.{decode};
+ghost use Rattle.chart.specs.Scope.{beginNode, endNode, scopeAt};
+ghost use Rattle.chart.specs.Refusal.{badNodes, rises, badEdgeAt, badEdges};
+ghost use Rattle.chart.specs.Checked.{Laid};
+ghost use Rattle.edges.specs.Tables.{noLeaving, noArriving, ScopeTable, EdgeScopes};
+use chart::cursor::wide;
+use chart::format::Chart;
+use chart::format::Construct;
+use chart::format::Edge;
+use chart::format::Node;
+
+// The scope of node x: where it lies, or its own construct where its kind is `own`.
+pub fn scope(s: &[u8], chart: Chart, x: usize, own: u8) -> u8
+    requires { ⌜ Laid (now s) chart × (x < chart .nodes) × (badNodes (decode (now s)) ≡ false) ⌝ }
+    ensures { λ r. ⌜ r ≡ scopeAt own (decode (now (s .entry)) .nodes) (decode (now (s .entry)) .constructs) x ⌝ }
+{
+    let node = Node::read(s, chart, x);
+    let kind = node.kind;
+    let number = node.number;
+    if kind == own {
+        return number;
+    }
+    if kind < Node::BEGIN {
+        return number;
+    }
+    Construct::read(s, chart, wide(number)).parent
+}
+
+// The tables have a scope for every value of a byte, so that no number of an edge is out of range.
+const BYTES: usize = 256;
+
+// Scopes that no node has: of what no edge may leave, and of what none may come to.
+const NO_LEAVING: u16 = 256;
+
+const NO_ARRIVING: u16 = 257;
+
+// A scope as a number that also has room for these.
+fn widened(scope: u8) -> u16
+    ensures { λ r. ⌜ (r ≡ scope) × (r < 256) ⌝ }
+{
+    scope as u16
+}
+
+// The scopes of all nodes, by number, on leaving and on arriving; a number that no node has gets a scope that no other has.
+fn fill_scopes(s: &[u8], chart: Chart, leave: &mut [u16; BYTES], arrive: &mut [u16; BYTES])
+    requires { ⌜ Laid (now s) chart × (badNodes (decode (now s)) ≡ false) ⌝ }
+    ensures { λ _. ⌜ ScopeTable beginNode noLeaving (decode (now (s .entry))) (now (leave .exit)) × ScopeTable endNode noArriving (decode (now (s .entry))) (now (arrive .exit)) ⌝ }
+{
+    *leave = [NO_LEAVING; BYTES];
+    *arrive = [NO_ARRIVING; BYTES];
+    let n = chart.nodes;
+    let mut x = 0;
+    while x < n {
+        leave[x] = widened(scope(s, chart, x, Node::BEGIN));
+        arrive[x] = widened(scope(s, chart, x, Node::END));
+        x += 1;
+    }
+}
+
+// The pair (from, to) as one number, so that edges are ordered by one comparison.
+fn key(edge: Edge) -> usize
+    ensures { λ r. ⌜ (r ≡ 256 * edge .from + edge .to) × (edge .to < 256) ⌝ }
+{
+    256 * wide(edge.from) + wide(edge.to)
+}
+
+// Whether b comes after a by (from, to).
+fn rising(a: Edge, b: Edge) -> bool
+    ensures { λ r. ⌜ r ≡ rises (a .from) (a .to) (b .from) (b .to) ⌝ }
+{
+    key(a) < key(b)
+}
+
+// Row 9, of edge i.
+fn bad_edge_at(
+    s: &[u8],
+    chart: Chart,
+    i: usize,
+    leave: &[u16; BYTES],
+    arrive: &[u16; BYTES],
+) -> bool
+    requires { ⌜ Laid (now s) chart × (i < chart .edges) × EdgeScopes (decode (now s)) (now leave) (now arrive) ⌝ }
+    ensures { λ r. ⌜ r ≡ badEdgeAt (decode (now (s .entry))) i ⌝ }
+{
+    let edge = Edge::read(s, chart, i);
+    let from = wide(edge.from);
+    let to = wide(edge.to);
+    if leave[from] != arrive[to] {
+        return true;
+    }
+    if i == 0 {
+        return false;
+    }
+    !rising(Edge::read(s, chart, i - 1), edge)
+}
+
+// Row 9, given the scopes of all nodes.
+fn bad_edges_by(s: &[u8], chart: Chart, leave: &[u16; BYTES], arrive: &[u16; BYTES]) -> bool
+    requires { ⌜ Laid (now s) chart × EdgeScopes (decode (now s)) (now leave) (now arrive) ⌝ }
+    ensures { λ r. ⌜ r ≡ badEdges (decode (now (s .entry))) ⌝ }
+{
+    let e = chart.edges;
+    let mut i = 0;
+    while i < e {
+        if bad_edge_at(s, chart, i, leave, arrive) {
+            return true;
+        }
+        i += 1;
+    }
+    false
+}
+
+// Row 9. The scopes are looked up once for each node, not once for each edge. No edge may come to start or leave finish: there too stand
+// scopes that no other has, so that one comparison is all that an edge takes by itself.
+pub fn bad_edges(s: &[u8], chart: Chart) -> bool
+    requires { ⌜ Laid (now s) chart × (badNodes (decode (now s)) ≡ false) ⌝ }
+    ensures { λ r. ⌜ r ≡ badEdges (decode (now (s .entry))) ⌝ }
+{
+    let mut leave = [0u16; BYTES];
+    let mut arrive = [0u16; BYTES];
+    fill_scopes(s, chart, &mut leave, &mut arrive);
+    let finish = chart.nodes - 1;
+    leave[finish] = NO_LEAVING;
+    arrive[0] = NO_ARRIVING;
+    bad_edges_by(s, chart, &leave, &arrive)
+}

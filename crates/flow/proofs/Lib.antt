@@ -1,2 +1,0 @@
-mod Frames
-mod Sides

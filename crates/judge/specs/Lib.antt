@@ -1,4 +1,0 @@
-pub mod Claims
-pub mod Judged
-pub mod Correct
-pub mod CorrectLaws

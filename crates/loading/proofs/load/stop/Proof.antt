@@ -1,0 +1,14 @@
+-- `loading::load::stop` meets its contract.
+-- Assumes nothing.
+use borrow.Author.Tests.{eq-eqb, ne-eqb}
+use Rattle.loading.proofs.load.stop.Statement.{statement}
+use Rattle.loading.proofs.load.stop.Tie as tie
+
+returns : tie.Need-returns
+returns c = rw (eq-eqb _ _ (c .if1 .taken))
+
+returns-2 : tie.Need-returns-2
+returns-2 c = rw (ne-eqb _ _ (c .if1 .left))
+
+pub stop-spec : {M : Type 1} → statement M
+stop-spec = tie.close (tie.spec returns returns-2)

@@ -1,0 +1,140 @@
+// What the searches work on, from the bytes of a chart that rows 1 to 9 of the refusals let pass.
+ghost use mathlib.Core.Path.{_≡_};
+ghost use mathlib.Core.Bool.{cond};
+ghost use Prim.Native.Nat.{_≤_, _<_};
+ghost use lib.Dec.{eqb};
+ghost use lib.ListN.{length, set};
+ghost use Rattle.chart.specs.Format.{decode};
+ghost use Rattle.chart.specs.Scope.{beginNode, endNode};
+ghost use Rattle.chart.specs.Checked.{Laid, reading};
+ghost use Rattle.loading.specs.Tables.{Accepted, Columns, Stops, Barriers, Noted, Framed};
+use chart::cursor::wide;
+use chart::format::Chart;
+use chart::format::Edge;
+use chart::format::Node;
+
+// The edges, as a column of the nodes that they leave and one of those that they come to.
+fn edges(s: &[u8], chart: Chart, froms: &mut [u8; Chart::EDGES], tos: &mut [u8; Chart::EDGES])
+    requires { ⌜ Laid (now s) chart ⌝ }
+    ensures { λ _. ⌜ Columns (decode (now (s .entry))) (now (froms .exit)) (now (tos .exit)) ⌝ }
+{
+    *froms = [0u8; Chart::EDGES];
+    *tos = [0u8; Chart::EDGES];
+    let e = chart.edges;
+    let mut i = 0;
+    while i < e {
+        let edge = Edge::read(s, chart, i);
+        froms[i] = edge.from;
+        tos[i] = edge.to;
+        i += 1;
+    }
+}
+
+// 1 for a barrier, 0 for any other node.
+fn stop(node: Node) -> u8
+    ensures { λ r. ⌜ r ≡ cond (eqb (node .kind) 1) 1 0 ⌝ }
+{
+    if node.kind == Node::BARRIER {
+        return 1;
+    }
+    0
+}
+
+// A stop on each barrier.
+pub fn load_stops(s: &[u8], chart: Chart, stops: &mut [u8; Chart::NODES])
+    requires { ⌜ Laid (now s) chart ⌝ }
+    ensures { λ _. ⌜ Stops (reading (now (s .entry)) chart) (now (stops .exit)) ⌝ }
+{
+    *stops = [0u8; Chart::NODES];
+    let n = chart.nodes;
+    let mut x = 0;
+    while x < n {
+        stops[x] = stop(Node::read(s, chart, x));
+        x += 1;
+    }
+}
+
+// One node more: where a stop stands on it, it is the next of the list.
+fn note(stop: u8, x: usize, nodes: &mut [u8; Chart::BARRIERS], total: usize) -> usize
+    requires { ⌜ (x < 192) × (total ≤ 64) × ((stop ≡ 0 → ⊥) → total < 64) ⌝ }
+    ensures { λ r. ⌜ Noted stop x (now (nodes .entry)) total (now (nodes .exit)) r ⌝ }
+{
+    if stop == 0 {
+        return total;
+    }
+    nodes[total] = (x % 256) as u8;
+    total + 1
+}
+
+// The list of the barriers, and how many there are.
+fn barriers(
+    s: &[u8],
+    chart: Chart,
+    stops: &[u8; Chart::NODES],
+    nodes: &mut [u8; Chart::BARRIERS],
+) -> usize
+    requires { ⌜ Accepted (now s) chart × Stops (reading (now s) chart) (now stops) ⌝ }
+    ensures { λ r. ⌜ Barriers (reading (now (s .entry)) chart) (now (nodes .exit)) r ⌝ }
+{
+    *nodes = [0u8; Chart::BARRIERS];
+    let n = chart.nodes;
+    let mut total = 0;
+    let mut x = 0;
+    while x < n {
+        total = note(stops[x], x, nodes, total);
+        x += 1;
+    }
+    total
+}
+
+// Edges, stops and barriers, and how many barriers there are.
+pub fn load(
+    s: &[u8],
+    chart: Chart,
+    froms: &mut [u8; Chart::EDGES],
+    tos: &mut [u8; Chart::EDGES],
+    stops: &mut [u8; Chart::NODES],
+    nodes: &mut [u8; Chart::BARRIERS],
+) -> usize
+    requires { ⌜ Accepted (now s) chart ⌝ }
+    ensures { λ _. ⌜ Columns (decode (now (s .entry))) (now (froms .exit)) (now (tos .exit)) ⌝ }
+    ensures { λ _. ⌜ Stops (reading (now (s .entry)) chart) (now (stops .exit)) ⌝ }
+    ensures { λ r. ⌜ Barriers (reading (now (s .entry)) chart) (now (nodes .exit)) r ⌝ }
+{
+    edges(s, chart, froms, tos);
+    load_stops(s, chart, stops);
+    barriers(s, chart, stops, nodes)
+}
+
+// One node more: where it is of this kind, it is that of its construct.
+fn frame(node: Node, kind: u8, x: usize, frames: &mut [u8; Chart::BARRIERS])
+    requires { ⌜ (x < 192) × (length (now frames) ≡ 64) × (node .kind ≡ kind → node .number < 64) ⌝ }
+    ensures { λ _. ⌜ now (frames .exit) ≡ cond (eqb (node .kind) kind) (set (now (frames .entry)) (node .number) x) (now (frames .entry)) ⌝ }
+{
+    if node.kind == kind {
+        let c = wide(node.number);
+        frames[c] = (x % 256) as u8;
+    }
+}
+
+// For each construct its begin, and its end.
+pub fn frames(
+    s: &[u8],
+    chart: Chart,
+    begins: &mut [u8; Chart::BARRIERS],
+    ends: &mut [u8; Chart::BARRIERS],
+)
+    requires { ⌜ Accepted (now s) chart ⌝ }
+    ensures { λ _. ⌜ Framed (decode (now (s .entry))) beginNode (now (begins .exit)) × Framed (decode (now (s .entry))) endNode (now (ends .exit)) ⌝ }
+{
+    *begins = [0u8; Chart::BARRIERS];
+    *ends = [0u8; Chart::BARRIERS];
+    let n = chart.nodes;
+    let mut x = 0;
+    while x < n {
+        let node = Node::read(s, chart, x);
+        frame(node, Node::BEGIN, x, begins);
+        frame(node, Node::END, x, ends);
+        x += 1;
+    }
+}

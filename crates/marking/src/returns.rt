@@ -1,0 +1,66 @@
+// Which constructs return: one search from their ends, past no barrier.
+ghost use mathlib.Core.Path.{_≡_};
+ghost use mathlib.Core.Bool.{cond};
+ghost use Prim.Native.Nat.{ℕ, _^_, _≤_, _<_};
+ghost use lib.Bits.{bitOr};
+ghost use lib.ListN.{getD};
+ghost use Rattle.lists.specs.Mask.{maskOf};
+ghost use Rattle.lists.specs.Bits.{has as Bits·has};
+ghost use Rattle.chart.specs.Checked.{reading};
+ghost use Rattle.phases.specs.Phases.{forward, returning};
+ghost use Rattle.loading.specs.Tables.{Accepted, Tabled, Stops};
+use bits::has;
+use chart::cursor::wide;
+use chart::format::Chart;
+use loading::load::frames;
+use search::search;
+
+// One bit more, where the mask has it.
+fn add_bit(mask: u64, c: usize, all: u64) -> u64
+    requires { ⌜ c < 64 ⌝ }
+    ensures { λ r. ⌜ r ≡ cond (Bits·has mask c) (bitOr (2 ^ c) all) all ⌝ }
+{
+    if has(mask, c) {
+        return (1 << c) | all;
+    }
+    all
+}
+
+// Bit c of the mask of node c of the list, for each of the first n.
+fn diagonal(masks: &[u64; Chart::NODES], nodes: &[u8; Chart::BARRIERS], n: usize) -> u64
+    requires { ⌜ n ≤ 64 ⌝ }
+    requires { ⌜ ((c : ℕ) → getD (now nodes) c 0 < 192) ⌝ }
+    ensures { λ r. ⌜ r ≡ maskOf (λ c. Bits·has (getD (now (masks .entry)) (getD (now (nodes .entry)) c 0) 0) c) n ⌝ }
+{
+    let mut all = 0;
+    let mut c = 0;
+    while c < n {
+        all = add_bit(masks[wide(nodes[c])], c, all);
+        c += 1;
+    }
+    all
+}
+
+// The mask of the constructs that return.
+pub fn returns(
+    s: &[u8],
+    chart: Chart,
+    heads: &[u8; Chart::EDGES],
+    places: &[usize; Chart::PLACES],
+    stops: &[u8; Chart::NODES],
+) -> u64
+    requires { ⌜ Accepted (now s) chart × Tabled forward (reading (now s) chart) (now heads) (now places) × Stops (reading (now s) chart) (now stops) ⌝ }
+    ensures { λ r. ⌜ r ≡ returning (reading (now (s .entry)) chart) ⌝ }
+{
+    let n = chart.constructs;
+    if n == 0 {
+        return 0;
+    }
+    let mut begins = [0u8; Chart::BARRIERS];
+    let mut ends = [0u8; Chart::BARRIERS];
+    frames(s, chart, &mut begins, &mut ends);
+    let mut masks = [0u64; Chart::NODES];
+    let mut levels = [0u8; Chart::NODES];
+    search(heads, places, stops, &ends, n, &mut masks, &mut levels);
+    diagonal(&masks, &begins, n)
+}

@@ -1,0 +1,158 @@
+// Row 6 of the refusals, over the constructs.
+ghost use mathlib.Core.Path.{_≡_};
+ghost use mathlib.Core.Bool.{false, _&&_, _||_, not};
+ghost use Prim.Native.Nat.{_+_, _-_, _≤_, _<_};
+ghost use lib.Dec.{eqb, ltb};
+ghost use lib.ListN.{length};
+ghost use Rattle.lists.specs.Range.{any};
+ghost use Rattle.chart.specs.Format.{outside, decode};
+ghost use Rattle.chart.specs.Scope.{criticalByte};
+ghost use Rattle.chart.specs.Nesting.{kinds, excluded, wronglyAbove, strayOrdered, misnested, NestingTable};
+ghost use Rattle.chart.specs.Refusal.{badConstruct, badAlone, badConstructs};
+ghost use Rattle.chart.specs.Checked.{Laid};
+use chart::cursor::wide;
+use chart::format::Chart;
+use chart::format::Construct;
+
+// A parent that is neither lower than c nor none.
+fn bad_parent(parent: u8, c: usize) -> bool
+    ensures { λ r. ⌜ r ≡ (not (ltb parent c) && not (eqb parent outside)) ⌝ }
+{
+    if wide(parent) < c {
+        return false;
+    }
+    parent != Construct::NONE
+}
+
+// A name on a construct that is no critical.
+fn bad_name(kind: u8, name: usize) -> bool
+    ensures { λ r. ⌜ r ≡ (not (eqb kind criticalByte) && not (eqb name 0)) ⌝ }
+{
+    if kind == Construct::CRITICAL {
+        return false;
+    }
+    name != 0
+}
+
+// Row 6, of construct c by itself.
+fn bad_construct(construct: Construct, c: usize) -> bool
+    ensures { λ r. ⌜ r ≡ badConstruct c (construct .kind) (construct .parent) (construct .name) ⌝ }
+{
+    let kind = construct.kind;
+    if kind < Construct::SINGLE {
+        return true;
+    }
+    if Construct::ORDERED < kind {
+        return true;
+    }
+    if bad_parent(construct.parent, c) {
+        return true;
+    }
+    bad_name(kind, construct.name)
+}
+
+// Whether `outer` may not stand above `inner`, by the table and the names.
+fn excludes(
+    table: &[[bool; Construct::KINDS]; Construct::KINDS],
+    inner: Construct,
+    outer: Construct,
+) -> bool
+    requires { ⌜ NestingTable (now table) × (1 ≤ inner .kind) × (inner .kind ≤ kinds) × (1 ≤ outer .kind) × (outer .kind ≤ kinds) ⌝ }
+    ensures { λ r. ⌜ r ≡ excluded (inner .kind) (inner .name) (outer .kind) (outer .name) ⌝ }
+{
+    let kind = inner.kind;
+    let above = outer.kind;
+    let row = wide(kind) - 1;
+    let column = wide(above) - 1;
+    if !table[row][column] {
+        return true;
+    }
+    if kind != Construct::CRITICAL {
+        return false;
+    }
+    if above != Construct::CRITICAL {
+        return false;
+    }
+    inner.name == outer.name
+}
+
+// Whether some construct above c may not stand there. Parents are lower, so the walk upwards ends.
+fn bad_above(
+    s: &[u8],
+    chart: Chart,
+    table: &[[bool; Construct::KINDS]; Construct::KINDS],
+    c: usize,
+) -> bool
+    requires { ⌜ Laid (now s) chart × NestingTable (now table) × (c < chart .constructs) × (any (c + 1) (badAlone (decode (now s) .constructs)) ≡ false) ⌝ }
+    ensures { λ r. ⌜ r ≡ any (length (decode (now (s .entry)) .constructs)) (wronglyAbove (decode (now (s .entry)) .constructs) c) ⌝ }
+{
+    let inner = Construct::read(s, chart, c);
+    let mut p = inner.parent;
+    while p != Construct::NONE {
+        let outer = Construct::read(s, chart, wide(p));
+        if excludes(table, inner, outer) {
+            return true;
+        }
+        p = outer.parent;
+    }
+    false
+}
+
+// Whether c is an ordered whose parent is no do.
+fn stray_ordered(s: &[u8], chart: Chart, c: usize) -> bool
+    requires { ⌜ Laid (now s) chart × (c < chart .constructs) × (any (c + 1) (badAlone (decode (now s) .constructs)) ≡ false) ⌝ }
+    ensures { λ r. ⌜ r ≡ strayOrdered (decode (now (s .entry)) .constructs) c ⌝ }
+{
+    let construct = Construct::read(s, chart, c);
+    let parent = construct.parent;
+    if construct.kind != Construct::ORDERED {
+        return false;
+    }
+    if parent == Construct::NONE {
+        return true;
+    }
+    Construct::read(s, chart, wide(parent)).kind != Construct::DO
+}
+
+// Row 6, of construct c, given that those below it are in order by themselves.
+fn bad_at(
+    s: &[u8],
+    chart: Chart,
+    table: &[[bool; Construct::KINDS]; Construct::KINDS],
+    c: usize,
+) -> bool
+    requires { ⌜ Laid (now s) chart × NestingTable (now table) × (c < chart .constructs) × (any c (badAlone (decode (now s) .constructs)) ≡ false) ⌝ }
+    ensures { λ r. ⌜ r ≡ (badAlone (decode (now (s .entry)) .constructs) c || misnested (decode (now (s .entry)) .constructs) c) ⌝ }
+{
+    if bad_construct(Construct::read(s, chart, c), c) {
+        return true;
+    }
+    if bad_above(s, chart, table, c) {
+        return true;
+    }
+    stray_ordered(s, chart, c)
+}
+
+// Row 6, by the nesting table.
+fn bad_nesting(s: &[u8], chart: Chart, table: [[bool; Construct::KINDS]; Construct::KINDS]) -> bool
+    requires { ⌜ Laid (now s) chart × NestingTable table ⌝ }
+    ensures { λ r. ⌜ r ≡ badConstructs (decode (now (s .entry))) ⌝ }
+{
+    let n = chart.constructs;
+    let mut c = 0;
+    while c < n {
+        if bad_at(s, chart, &table, c) {
+            return true;
+        }
+        c += 1;
+    }
+    false
+}
+
+// Row 6.
+pub fn bad_constructs(s: &[u8], chart: Chart) -> bool
+    requires { ⌜ Laid (now s) chart ⌝ }
+    ensures { λ r. ⌜ r ≡ badConstructs (decode (now (s .entry))) ⌝ }
+{
+    bad_nesting(s, chart, Chart::NESTING)
+}

@@ -1,0 +1,14 @@
+-- `nodes::barrier` meets its contract.
+-- Assumes nothing.
+use borrow.Author.Tests.{eq-eqb, ne-eqb}
+use Rattle.nodes.proofs.barrier.Statement.{statement}
+use Rattle.nodes.proofs.barrier.Tie as tie
+
+returns : tie.Need-returns
+returns c = rw (eq-eqb _ _ (c .if1 .taken))
+
+returns-2 : tie.Need-returns-2
+returns-2 c = rw (ne-eqb _ _ (c .if1 .left))
+
+pub barrier-spec : {M : Type 1} → statement M
+barrier-spec = tie.close (tie.spec returns returns-2)

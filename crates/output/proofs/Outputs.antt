@@ -1,0 +1,63 @@
+-- Calls that write a result: what they answer and leave by the outcome of their rows, and what an answer says of these.
+-- Assumes nothing.
+use mathlib.Core.Path.{_≡_, refl, ap, sym}
+use mathlib.Core.List.{List, [], _∷_, _++_}
+use mathlib.Core.Option.{Option, none, some}
+use Prim.Native.Nat.{ℕ, _≤_}
+use lib.ListN.{length, drop}
+use borrow.Author.Tests.{ltb-false}
+use Rattle.lists.specs.Truth.{bad}
+use Rattle.chart.specs.Refusal.{Row, firstOf}
+use Rattle.chart.specs.declared.format.Refusal.{Refusal}
+use Rattle.chart.proofs.Rows.{none-applies, both-pass, first-decides, second-decides}
+use Rattle.output.specs.Output.{roomRow, outputRows, written, content, writtenBy, leftBy}
+use Rattle.output.specs.declared.Written.the-variants.{Bytes, Refused}
+
+-- an answer read backwards
+pub bytes-none : (o : Option ℕ) {size count : ℕ} → written o size ≡ Bytes count → (o ≡ none) × (size ≡ count)
+unfolding written
+bytes-none none h = (refl, cc)
+bytes-none (some number) h = absurd (bad (cc))
+
+pub refused-some : (o : Option ℕ) (size : ℕ) {refusal : Refusal} → written o size ≡ Refused refusal → o ≡ some (refusal .number)
+unfolding written
+refused-some none size h = absurd (bad (cc))
+refused-some (some number) size {refusal} h = ap some (ap (λ (r : Refusal). r .number) same)
+  where
+    same : record { number = number } ≡ refusal
+    same = cc
+
+-- a result that was written had room
+pub had-room : (before after : List Row) (room size : ℕ) {count : ℕ} → writtenBy (outputRows before room size after) size ≡ Bytes count
+    → (size ≡ count) × (size ≤ room)
+unfolding writtenBy outputRows roomRow
+had-room before after room size h =
+    let (passes, same) = bytes-none (firstOf (before ++ (roomRow room size ∷ after))) h in
+    (same, ltb-false room size (none-applies _ (both-pass before _ passes .1) .0))
+
+-- the rows before row 11 decide, or leave it to the others
+
+module _ (before after : List Row) (size : ℕ) (result old : List ℕ) where
+  abbrev rows : List Row
+  rows = outputRows before (length old) size after
+
+  pub refused-before : (number : ℕ) → firstOf before ≡ some number
+      → (Refused (record { number = number }) ≡ writtenBy rows size) × (old ≡ leftBy rows result old)
+  unfolding writtenBy leftBy outputRows written content
+  refused-before number h = let q = first-decides before (roomRow (length old) size ∷ after) number h in (rw q, rw q)
+
+  pub passed-before : firstOf before ≡ none → (writtenBy rows size ≡ writtenBy (outputRows [] (length old) size after) size)
+      × (leftBy rows result old ≡ leftBy (outputRows [] (length old) size after) result old)
+  unfolding writtenBy leftBy outputRows
+  passed-before h = let q = second-decides before (roomRow (length old) size ∷ after) h in (rw q, rw q)
+
+-- by an answer
+
+module _ (rows : List Row) (size : ℕ) (result old : List ℕ) where
+  pub kept : {refusal : Refusal} → writtenBy rows size ≡ Refused refusal → old ≡ leftBy rows result old
+  unfolding writtenBy leftBy content
+  kept h = rw (refused-some (firstOf rows) size h)
+
+  pub put : {count : ℕ} → writtenBy rows size ≡ Bytes count → result ++ drop (length result) old ≡ leftBy rows result old
+  unfolding writtenBy leftBy content
+  put h = rw (bytes-none (firstOf rows) h .0)

@@ -1,6 +1,0 @@
-pub mod Accepted
-pub mod Rows
-pub mod Loading
-pub mod Searching
-pub mod Joining
-pub mod Counting

@@ -1,0 +1,180 @@
+-- Masks of constructs, one construct after the other: in a construct is held what is held in its parent, and what the construct itself
+-- gives; and the constructs of a kind.
+-- Assumes nothing.
+use mathlib.Core.Path.{_≡_, refl, ap, sym, _∙_, subst}
+use mathlib.Core.Logic.{_⊎_, inl, inr, _≢_, _↔_}
+use mathlib.Core.Bool.{true, false, cond}
+use mathlib.Core.List.{List}
+use Prim.Native.Nat.{ℕ, zero, suc, _+_, _^_, _≤_, _<_}
+use native.Mathlib.Omega.{arith}
+use native.Mathlib.Decide.{ℕ-discrete}
+use lib.Bits.{bitOr}
+use lib.Dec.{eqb}
+use lib.ListN.{set, length-set}
+use borrow.Author.Tests.{eqb-true, eq-eqb, ne-eqb}
+use Rattle.lists.specs.Truth.{truth, clash}
+use Rattle.lists.specs.Mask.{Mask, maskOf, mask-of, mask-carry, mask-either}
+use Rattle.lists.specs.Bits.{has-of, mask-next}
+use Rattle.lists.specs.Common.{mask-none, mask-one}
+use Rattle.lists.specs.Store.{stored}
+use Rattle.chart.specs.Format.{outside, Construct, decode, constructAt}
+use Rattle.chart.specs.Region.{Kind, single, master, critical, loop, ordered, Region}
+use Rattle.chart.specs.Scope.{singleByte, masterByte, loopByte, orderedByte, kindOf, Encloses, here, up, parentOf}
+use Rattle.chart.specs.Reading.{region}
+use Rattle.chart.specs.declared.format.Chart.{Chart}
+use Rattle.chart.proofs.Records.{constructs-length}
+use Rattle.chart.proofs.Tree.{Below, outside-encloses}
+use Rattle.chart.proofs.Whole.{Counts}
+use Rattle.answers.specs.Unexcluded.{Returns}
+use Rattle.paths.specs.Decide.{returns}
+use Rattle.phases.specs.Phases.{returning}
+use Rattle.phases.specs.PhasesLaws.{returns-means}
+use Rattle.loading.specs.Tables.{Accepted}
+use Rattle.loading.proofs.Accepted.{tables, well-formed}
+use Rattle.profiles.specs.Chains.{Gives, HeldIn, Chains, maskAt, lastingBit, ownMask, isOf}
+use Rattle.profiles.specs.Marks.{OfKind, Kinds}
+use Rattle.profiles.proofs.Facts.{few, counts, reading}
+
+pub no-bit : {P : ℕ → Type 0} {k : ℕ} → ((b : ℕ) → b < k → P b → ⊥) → Mask P k 0
+no-bit {k = k} f = mask-carry (λ b l h. absurd h) f (mask-none k)
+
+-- the mask at a place, which may be outside
+pub held-at : {R : Region} {Counts : ℕ → Type 0} {done : ℕ} {held : List ℕ} → Chains R Counts done held → done ≤ 48 → (p : ℕ) → Below done p
+    → Mask (HeldIn R Counts p) (R .constructs) (maskAt held p)
+unfolding maskAt
+held-at K most p (inl q) = rw (eq-eqb p outside q) (no-bit (λ d l h. outside-encloses q (h .1 .0)))
+held-at K most p (inr l) = rw (ne-eqb p outside (λ q. omega arith)) (K .is-held p l)
+
+pub index-below : {bound p : ℕ} → bound ≤ 48 → Below bound p → (p ≡ outside → ⊥) → p < 48
+index-below l (inl q) d = absurd (d q)
+index-below l (inr h) d = omega arith
+
+first : {parent : ℕ → ℕ} {p c : ℕ} → Encloses parent p c → Encloses parent (parent p) c ⊎ (c ≡ p)
+first (here n) = inr refl
+first (up n e) = inl e
+
+-- one construct more
+next-held : (R : Region) (Counts : ℕ → Type 0) (c : ℕ) {m own : ℕ} → c ≢ outside → Mask (HeldIn R Counts (R .parent c)) (R .constructs) m
+    → Mask (λ d. Counts c × Gives R c d (R .kind c)) (R .constructs) own → Mask (HeldIn R Counts c) (R .constructs) (bitOr m own)
+next-held R Counts c n v w = mask-carry to from (mask-either v w)
+  where
+    to : (d : ℕ) → d < R .constructs → HeldIn R Counts (R .parent c) d ⊎ (Counts c × Gives R c d (R .kind c)) → HeldIn R Counts c d
+    to d l (inl (k, (e, g))) = (k, (up n e, g))
+    to d l (inr g) = (c, (here n, g))
+
+    from : (d : ℕ) → d < R .constructs → HeldIn R Counts c d → HeldIn R Counts (R .parent c) d ⊎ (Counts c × Gives R c d (R .kind c))
+    from d l (k, (e, g)) = elim (first e) [ inl u ↦ inl (k, (u, g)) | inr q ↦ inr (subst (λ (k : ℕ). Counts k × Gives R k d (R .kind k)) q g) ]
+
+-- the byte of a kind, so that kinds that are equal have equal bytes
+unfoldable byteOf : Kind → ℕ
+byteOf single = 1
+byteOf master = 2
+byteOf critical = 3
+byteOf loop = 4
+byteOf ordered = 5
+
+back : (b : ℕ) → 1 ≤ b → b ≤ 5 → byteOf (kindOf b) ≡ b
+unfolding byteOf kindOf
+back zero l m = absurd (omega arith)
+back (suc zero) l m = refl
+back (suc (suc zero)) l m = refl
+back (suc (suc (suc zero))) l m = refl
+back (suc (suc (suc (suc zero)))) l m = refl
+back (suc (suc (suc (suc (suc zero))))) l m = refl
+back (suc (suc (suc (suc (suc (suc b)))))) l m = absurd (omega arith)
+
+-- one construct more, whose kind was read
+pub of-next : (constructs : List Construct) (kind c : ℕ) {k m n : ℕ} → k ≡ constructAt constructs c .kind → m ≡ maskOf (isOf constructs kind) c
+    → n ≡ cond (eqb k kind) (bitOr (2 ^ c) m) m → n ≡ maskOf (isOf constructs kind) (c + 1)
+unfolding isOf
+of-next constructs kind c q e h = rw (mask-next _ c, ← e, ← q) h
+
+module _ (s : List ℕ) (chart : Chart) (A : Accepted s chart) where
+  abbrev R : Region
+  R = region (decode s)
+
+  abbrev byte : ℕ → ℕ
+  byte c = constructAt (decode s .constructs) c .kind
+
+  pub parent-lower : (c : ℕ) → c < R .constructs → Below c (R .parent c)
+  unfolding parentOf
+  parent-lower c l = tables s chart A .constructs .alone c l .parent-lower
+
+  -- the do of an ordered is a construct of the region too
+  do-counts : (c : ℕ) → c < R .constructs → byte c ≡ orderedByte → Counts (decode s) (R .parent c)
+  unfolding kindOf
+  do-counts c l q = reading s chart A .ordered-counts (counts s chart A c l) (rw q)
+
+  pub ordered-parent : (c : ℕ) → c < R .constructs → byte c ≡ orderedByte → R .parent c < 48
+  ordered-parent c l q = omega (arith, reading s chart A .counts-below (do-counts c l q), few s chart A)
+
+  lasting-one : (c : ℕ) → c < R .constructs → Mask (λ d. (d ≡ c) × (Returns R d → ⊥)) (R .constructs) (lastingBit (returning R) c)
+  unfolding lastingBit returning
+  lasting-one c l = rw (has-of (returns R) (R .constructs) c l) (go (truth (returns R c)))
+    where
+      means : (returns R c ≡ true) ↔ Returns R c
+      means = returns-means R (well-formed s chart A) c
+
+      go : (returns R c ≡ true) ⊎ (returns R c ≡ false) → Mask (λ d. (d ≡ c) × (Returns R d → ⊥)) (R .constructs) (cond (returns R c) 0 (2 ^ c))
+      go (inl h) = rw h (no-bit (λ d m p. p .1 (subst (Returns R) (sym (p .0)) (means .0 h))))
+      go (inr h) = rw h (mask-carry (λ d m q. (q, λ r. clash (means .1 (subst (Returns R) q r)) h)) (λ d m p. p .0) (mask-one l))
+
+  -- what a construct gives
+  module _ (c : ℕ) (l : c < R .constructs) (masters : ℕ) (M : OfKind R master masters) where
+    abbrev Own : ℕ → Type 0
+    Own d = Counts (decode s) c × Gives R c d (R .kind c)
+
+    -- by the kind of c
+    given : {kind : Kind} {m : ℕ} → R .kind c ≡ kind → Mask (λ d. Gives R c d kind) (R .constructs) m → Mask Own (R .constructs) m
+    given q v = mask-carry
+        (λ d m g. (counts s chart A c l, subst (Gives R c d) (sym q) g)) (λ d m g. subst (Gives R c d) q (g .1)) v
+
+    own-given : Mask Own (R .constructs) (ownMask (byte c) (R .parent c) c (returning R) masters)
+    unfolding ownMask kindOf
+    own-given = go (ℕ-discrete (byte c) masterByte) (ℕ-discrete (byte c) singleByte) (ℕ-discrete (byte c) orderedByte)
+      where
+        other : byte c ≢ masterByte → byte c ≢ singleByte → byte c ≢ orderedByte → Dec (byte c ≡ loopByte) → (d : ℕ) → Gives R c d (R .kind c) → ⊥
+        other a b o (yes q) d g = rw q at g
+        other a b o (no q) d g = rw (ne-eqb (byte c) masterByte a, ne-eqb (byte c) singleByte b, ne-eqb (byte c) orderedByte o, ne-eqb (byte c) loopByte q) at g
+
+        go : Dec (byte c ≡ masterByte) → Dec (byte c ≡ singleByte) → Dec (byte c ≡ orderedByte)
+            → Mask Own (R .constructs) (ownMask (byte c) (R .parent c) c (returning R) masters)
+        go (yes a) b o = rw (eq-eqb (byte c) masterByte a) (given {kind = master} (rw a) (mask-carry (λ d m k. (k, refl)) (λ d m g. g .0) M))
+        go (no a) (yes b) o = rw (ne-eqb (byte c) masterByte a, eq-eqb (byte c) singleByte b) (given {kind = single} (rw b) (lasting-one c l))
+        go (no a) (no b) (yes o) =
+            rw (ne-eqb (byte c) masterByte a, ne-eqb (byte c) singleByte b, eq-eqb (byte c) orderedByte o)
+            (given {kind = ordered} (rw o) (lasting-one (R .parent c) (reading s chart A .counts-below (do-counts c l o))))
+        go (no a) (no b) (no o) =
+            rw (ne-eqb (byte c) masterByte a, ne-eqb (byte c) singleByte b, ne-eqb (byte c) orderedByte o)
+            (no-bit (λ d m g. other a b o (ℕ-discrete (byte c) loopByte) d (g .1)))
+
+    pub chains-more : {held : List ℕ} → Chains R (Counts (decode s)) c held
+        → Chains R (Counts (decode s)) (c + 1) (set held c (bitOr (maskAt held (R .parent c)) (ownMask (byte c) (R .parent c) c (returning R) masters)))
+    chains-more {held} K =
+        let f = few s chart A in
+        record {
+          long = length-set held c _ ∙ K .long;
+          is-held = stored (λ j m. Mask (HeldIn R (Counts (decode s)) j) (R .constructs) m) held c _ (omega (arith, K .long))
+              (next-held R (Counts (decode s)) c (λ q. omega arith) (held-at K (omega arith) (R .parent c) (parent-lower c l)) own-given) (K .is-held);
+        }
+
+  -- the constructs of a kind
+  of-kind : (kind : ℕ) → 1 ≤ kind → kind ≤ 5 → OfKind R (kindOf kind) (maskOf (isOf (decode s .constructs) kind) (R .constructs))
+  unfolding isOf
+  of-kind kind h k =
+      let T = tables s chart A .constructs .alone in
+      mask-carry (λ c l t. ap kindOf (eqb-true (byte c) kind t))
+      (λ c l t. eq-eqb (byte c) kind (sym (back (byte c) (T c l .least) (T c l .most)) ∙ ap byteOf t ∙ back kind h k))
+      (mask-of (isOf (decode s .constructs) kind) (R .constructs))
+
+  pub kinds : Kinds R (record {
+    masters = maskOf (isOf (decode s .constructs) masterByte) (chart .constructs);
+    singles = maskOf (isOf (decode s .constructs) singleByte) (chart .constructs);
+    dos = maskOf (isOf (decode s .constructs) loopByte) (chart .constructs);
+  })
+  unfolding kindOf
+  kinds = rw (← constructs-length s chart (A .laid)) (record {
+    masters = of-kind masterByte (omega arith) (omega arith);
+    singles = of-kind singleByte (omega arith) (omega arith);
+    dos = of-kind loopByte (omega arith) (omega arith);
+  })

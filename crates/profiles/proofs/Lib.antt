@@ -1,0 +1,3 @@
+pub mod Constructs
+pub mod Facts
+pub mod Nodes

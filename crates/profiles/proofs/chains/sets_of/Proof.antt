@@ -1,0 +1,77 @@
+-- `profiles::chains::sets_of` meets its contract. The loop's invariant: the masks have the constructs passed.
+-- Assumes nothing.
+use mathlib.Core.Path.{_≡_, refl}
+use Prim.Native.Nat.{_-_, _≤_}
+use native.Mathlib.Omega.{arith}
+use Rattle.lists.specs.Mask.{maskOf}
+use Rattle.chart.specs.Format.{decode}
+use Rattle.chart.specs.Scope.{singleByte, masterByte, loopByte}
+use Rattle.profiles.specs.Chains.{isOf}
+use Rattle.profiles.proofs.Constructs.{of-next, kinds}
+use Rattle.profiles.proofs.chains.sets_of.Statement.{statement}
+use Rattle.profiles.proofs.chains.sets_of.Tie as tie
+
+abbrev Inv-loop : tie.InvT-loop
+Inv-loop s chart n masters₀ singles₀ dos₀ c₀ masters singles dos c =
+    (c ≤ chart .constructs)
+    × (masters ≡ maskOf (isOf (decode s .constructs) masterByte) c)
+    × (singles ≡ maskOf (isOf (decode s .constructs) singleByte) c)
+    × (dos ≡ maskOf (isOf (decode s .constructs) loopByte) c)
+
+abbrev μ-loop : tie.MeasureT-loop
+μ-loop s chart n masters₀ singles₀ dos₀ c₀ masters singles dos c = chart .constructs - c
+
+loop-holds : tie.Need-loop-holds Inv-loop μ-loop
+unfolding maskOf
+loop-holds c = (omega arith, refl, refl, refl)
+
+read-requires : tie.Need-read-requires Inv-loop μ-loop
+read-requires c κs = (c .before .before .before .pre .laid, omega arith)
+
+add-kind-requires : tie.Need-add-kind-requires Inv-loop μ-loop
+add-kind-requires c κs = omega (arith, c .before .before .before .before .pre .laid .constructs-most)
+
+add-kind-requires-2 : tie.Need-add-kind-requires-2 Inv-loop μ-loop
+add-kind-requires-2 c κs = omega (arith, c .before .before .before .before .before .pre .laid .constructs-most)
+
+add-kind-requires-3 : tie.Need-add-kind-requires-3 Inv-loop μ-loop
+add-kind-requires-3 c κs = omega (arith, c .before .before .before .before .before .before .pre .laid .constructs-most)
+
+add-c : tie.Need-add-c Inv-loop μ-loop
+add-c c = omega arith
+
+loop-less : tie.Need-loop-less Inv-loop μ-loop
+loop-less c = omega arith
+
+loop-again : tie.Need-loop-again Inv-loop μ-loop
+loop-again c =
+    let r = c .before .before .before in
+    let l = r .before .before in (
+      omega arith,
+      of-next _ _ (l .loop .c) (r .read .ensures .0) (l .loop .inv .1) (c .before .before .add-kind .ensures),
+      of-next _ _ (l .loop .c) (r .read .ensures .0) (l .loop .inv .2) (c .before .add-kind2 .ensures),
+      of-next _ _ (l .loop .c) (r .read .ensures .0) (l .loop .inv .3) (c .add-kind3 .ensures),
+    )
+
+returns : tie.Need-returns Inv-loop μ-loop
+returns c =
+    let l = c .before in
+    let e = l .before .before in
+    let q : l .loop .c ≡ e .args .chart .constructs = omega arith in
+    rw (l .loop .inv .1, l .loop .inv .2, l .loop .inv .3, q) (kinds _ (e .args .chart) (e .pre))
+
+pub sets-of-spec : {M : Type 1} → statement M
+sets-of-spec =
+    tie.close
+    (tie.spec
+    Inv-loop
+    μ-loop
+    loop-holds
+    read-requires
+    add-kind-requires
+    add-kind-requires-2
+    add-kind-requires-3
+    add-c
+    loop-less
+    loop-again
+    returns)

@@ -1,0 +1,36 @@
+-- `profiles::marks::fill_held` meets its contract.
+-- Assumes nothing.
+use mathlib.Core.Path.{refl}
+use borrow.Author.Needs.{needs}
+use Rattle.profiles.proofs.Nodes.{none-held}
+use Rattle.profiles.proofs.marks.fill_held.Statement.{statement}
+use Rattle.profiles.proofs.marks.fill_held.Tie as tie
+
+sets-of-requires : tie.Need-sets-of-requires
+sets-of-requires c κs = search needs
+
+returns : tie.Need-returns
+returns c =
+    let k = c .before in
+    let e = k .before .before .before in
+    (k .sets-of .ensures, λ x l. none-held _ (e .args .chart) (e .pre .0) (c .if1 .taken) x)
+
+fill-chains-requires : tie.Need-fill-chains-requires
+fill-chains-requires c κs =
+    let k = c .before .before in
+    let e = k .before .before .before in
+    (e .pre .0, e .pre .1, k .sets-of .ensures .masters, refl)
+
+mark-nodes-requires : tie.Need-mark-nodes-requires
+mark-nodes-requires c κs =
+    let f = c .before .before in
+    let e = f .before .before .before .before .before .before in
+    (e .pre .0, f .fill-chains .ensures, refl)
+
+returns-2 : tie.Need-returns-2
+returns-2 c =
+    let k = c .before .before .before .before .before .before in
+    (k .sets-of .ensures, c .mark-nodes .ensures)
+
+pub fill-held-spec : {M : Type 1} → statement M
+fill-held-spec = tie.close (tie.spec sets-of-requires returns fill-chains-requires mark-nodes-requires returns-2)

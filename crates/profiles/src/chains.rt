@@ -1,0 +1,138 @@
+// Masks of constructs: what a node in each of them holds, and the constructs of each kind.
+ghost use mathlib.Core.Path.{_≡_};
+ghost use mathlib.Core.Bool.{cond};
+ghost use Prim.Native.Nat.{_+_, _^_, _<_};
+ghost use lib.Bits.{bitOr};
+ghost use lib.Dec.{eqb};
+ghost use lib.ListN.{length};
+ghost use Rattle.chart.specs.Format.{outside, decode};
+ghost use Rattle.chart.specs.Region.{master};
+ghost use Rattle.chart.specs.Scope.{orderedByte};
+ghost use Rattle.chart.specs.Checked.{reading};
+ghost use Rattle.chart.proofs.Whole.{Counts};
+ghost use Rattle.phases.specs.Phases.{returning as returningMask};
+ghost use Rattle.loading.specs.Tables.{Accepted};
+ghost use Rattle.profiles.specs.Chains.{Chains, maskAt, lastingBit, ownMask};
+ghost use Rattle.profiles.specs.Marks.{OfKind, Kinds};
+use bits::bit;
+use bits::has;
+use chart::cursor::wide;
+use chart::format::Chart;
+use chart::format::Construct;
+
+// The mask of construct p, with no bit where p is none.
+pub fn mask_at(masks: &[u64; Chart::CONSTRUCTS], p: u8) -> u64
+    requires { ⌜ ((p ≡ outside → ⊥) → p < 48) ⌝ }
+    ensures { λ r. ⌜ r ≡ maskAt (now (masks .entry)) p ⌝ }
+{
+    if p == Construct::NONE {
+        return 0;
+    }
+    let c = wide(p);
+    masks[c]
+}
+
+// Bit c, where construct c does not return.
+fn lasting(c: usize, returning: u64) -> u64
+    requires { ⌜ c < 48 ⌝ }
+    ensures { λ r. ⌜ r ≡ lastingBit returning c ⌝ }
+{
+    if has(returning, c) {
+        return 0;
+    }
+    bit(c)
+}
+
+// What a node holds for being inside construct c: a single and, for an ordered, its do, where they do not return; for a master all masters,
+// since one thread goes into all of them.
+fn own(construct: Construct, c: usize, returning: u64, masters: u64) -> u64
+    requires { ⌜ (c < 48) × (construct .kind ≡ orderedByte → construct .parent < 48) ⌝ }
+    ensures { λ r. ⌜ r ≡ ownMask (construct .kind) (construct .parent) c returning masters ⌝ }
+{
+    if construct.kind == Construct::MASTER {
+        return masters;
+    }
+    if construct.kind == Construct::SINGLE {
+        return lasting(c, returning);
+    }
+    if construct.kind == Construct::ORDERED {
+        return lasting(wide(construct.parent), returning);
+    }
+    0
+}
+
+// One construct more. Its parent is lower, and so done.
+fn add_construct(
+    s: &[u8],
+    chart: Chart,
+    c: usize,
+    returning: u64,
+    masters: u64,
+    held: &mut [u64; Chart::CONSTRUCTS],
+)
+    requires { ⌜ Accepted (now s) chart × (c < chart .constructs) × (returning ≡ returningMask (reading (now s) chart)) × OfKind (reading (now s) chart) master masters × Chains (reading (now s) chart) (Counts (decode (now s))) c (now held) ⌝ }
+    ensures { λ _. ⌜ Chains (reading (now (s .entry)) chart) (Counts (decode (now (s .entry)))) (c + 1) (now (held .exit)) ⌝ }
+{
+    let construct = Construct::read(s, chart, c);
+    held[c] = mask_at(held, construct.parent) | own(construct, c, returning, masters);
+}
+
+// For each construct what a node that lies in it holds, given the constructs that return and the masters.
+pub fn fill_chains(
+    s: &[u8],
+    chart: Chart,
+    returning: u64,
+    masters: u64,
+    held: &mut [u64; Chart::CONSTRUCTS],
+)
+    requires { ⌜ Accepted (now s) chart × (returning ≡ returningMask (reading (now s) chart)) × OfKind (reading (now s) chart) master masters × (length (now held) ≡ 48) ⌝ }
+    ensures { λ _. ⌜ Chains (reading (now (s .entry)) chart) (Counts (decode (now (s .entry)))) (chart .constructs) (now (held .exit)) ⌝ }
+{
+    let n = chart.constructs;
+    let mut c = 0;
+    while c < n {
+        add_construct(s, chart, c, returning, masters, held);
+        c += 1;
+    }
+}
+
+// The mask with bit c, where construct c is of this kind.
+fn add_kind(construct: Construct, kind: u8, c: usize, mask: u64) -> u64
+    requires { ⌜ c < 64 ⌝ }
+    ensures { λ r. ⌜ r ≡ cond (eqb (construct .kind) kind) (bitOr (2 ^ c) mask) mask ⌝ }
+{
+    if construct.kind != kind {
+        return mask;
+    }
+    bit(c) | mask
+}
+
+// The constructs of the kinds that the rules speak of.
+pub struct Sets {
+    pub masters: u64,
+    pub singles: u64,
+    pub dos: u64,
+}
+
+pub fn sets_of(s: &[u8], chart: Chart) -> Sets
+    requires { ⌜ Accepted (now s) chart ⌝ }
+    ensures { λ r. ⌜ Kinds (reading (now (s .entry)) chart) r ⌝ }
+{
+    let n = chart.constructs;
+    let mut masters = 0;
+    let mut singles = 0;
+    let mut dos = 0;
+    let mut c = 0;
+    while c < n {
+        let construct = Construct::read(s, chart, c);
+        masters = add_kind(construct, Construct::MASTER, c, masters);
+        singles = add_kind(construct, Construct::SINGLE, c, singles);
+        dos = add_kind(construct, Construct::DO, c, dos);
+        c += 1;
+    }
+    Sets {
+        masters,
+        singles,
+        dos,
+    }
+}

@@ -1,0 +1,4 @@
+pub mod Bounds
+pub mod Levels
+pub mod Masks
+pub mod Turns

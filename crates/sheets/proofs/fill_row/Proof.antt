@@ -1,0 +1,63 @@
+-- `sheets::fill_row` meets its contract.
+-- Assumes nothing.
+use mathlib.Core.Path.{sym, _∙_}
+use native.Mathlib.Omega.{arith}
+use borrow.Author.Needs.{needs}
+use Rattle.sheets.proofs.Entries.{flag-closed, flag-asked, entry-closed, row-by}
+use Rattle.sheets.proofs.fill_row.Statement.{statement}
+use Rattle.sheets.proofs.fill_row.Tie as tie
+
+element-copy-out-if1 : tie.Need-element-copy-out-if1
+element-copy-out-if1 c = omega arith
+
+bar-row-requires : tie.Need-bar-row-requires
+bar-row-requires c κs = search needs
+
+same-length : tie.Need-same-length
+same-length c = search needs
+
+returns : tie.Need-returns
+returns c R q M C K =
+    let b = c .before .before in
+    let t = b .before .before in
+    let e = t .before .before .before in
+    let a = e .args .a in
+    let closed = flag-closed C a (omega (arith, q, e .pre .1)) (t .if1 .taken) in (
+      row-by R a _ (b .bar-row .ensures .0 ∙ sym q)
+          (λ j h. b .bar-row .ensures .1 j (omega (arith, q, h)) ∙ sym (entry-closed R a j closed)),
+      K,
+    )
+
+keep-row-requires : tie.Need-keep-row-requires
+keep-row-requires c κs = search needs
+
+copy-row-requires : tie.Need-copy-row-requires
+copy-row-requires c κs = let e = c .before .before .before .before .before .before .before in e .pre .0
+
+same-length-2 : tie.Need-same-length-2
+same-length-2 c = search needs
+
+returns-2 : tie.Need-returns-2
+returns-2 c R q M C K =
+    let y = c .before .before in
+    let k = y .before .before .before in
+    let t = k .before .before in
+    let e = t .before .before .before in
+    let a = e .args .a in
+    let (next, made) = k .keep-row .ensures R q M C (flag-asked C a (omega (arith, q, e .pre .1)) (t .if1 .left)) K in (
+      row-by R a _ (y .copy-row .ensures .0 ∙ sym q) (λ j h. y .copy-row .ensures .1 j (omega (arith, q, h)) ∙ made j (omega (arith, q, h))),
+      next,
+    )
+
+pub fill-row-spec : {M : Type 1} → statement M
+fill-row-spec =
+    tie.close
+    (tie.spec
+    element-copy-out-if1
+    bar-row-requires
+    same-length
+    returns
+    keep-row-requires
+    copy-row-requires
+    same-length-2
+    returns-2)

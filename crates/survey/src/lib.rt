@@ -1,0 +1,74 @@
+// The entrance of the calls that answer pairs: rows 1 to 10 of the refusals, and everything that the answers of a chart are read off.
+ghost use mathlib.Core.Path.{_≡_};
+ghost use lib.ListN.{length};
+ghost use Rattle.chart.specs.Refusal.{firstOf};
+ghost use Rattle.chart.specs.Checked.{countsOf, answer, checked};
+ghost use Rattle.chart.specs.declared.format.Checked.the-variants.{Passed};
+ghost use Rattle.paths.specs.Admission.{admitRows};
+ghost use Rattle.survey.specs.Surveyed.{checkedOf, Survey};
+ghost use Rattle.survey.specs.declared.Surveyed.the-variants.{Marked};
+use chart::format::Chart;
+use chart::format::Checked;
+use chart::format::Refusal;
+use loading::tables::load_tables;
+use marking::masks::fill;
+use marking::returns::returns;
+use profiles::chains::Sets;
+use profiles::marks::ENDS;
+use profiles::marks::HELD;
+use profiles::marks::MaskTable;
+use profiles::marks::STARTS;
+use profiles::marks::fill_held;
+use refusals::check::check;
+
+// A chart whose nodes are marked, with its constructs by kind, or the first row that applies.
+pub enum Surveyed {
+    Marked(Chart, Sets),
+    Refused(Refusal),
+}
+
+// Row 10 and the masks, of a chart that rows 1 to 9 let pass.
+fn survey_chart(s: &[u8], chart: Chart, marks: &mut MaskTable) -> Surveyed
+    requires { ⌜ (checked (now s) ≡ Passed chart) × (length (now marks) ≡ 3) ⌝ }
+    ensures { λ r. ⌜ checkedOf r ≡ answer (firstOf (admitRows (now (s .entry)))) (countsOf (now (s .entry))) ⌝ }
+    ensures { λ r. ⌜ ((chart : Chart) (sets : Sets) → r ≡ Marked chart sets → Survey (now (s .entry)) chart (now (marks .exit)) sets) ⌝ }
+{
+    let mut ahead = [0u8; Chart::EDGES];
+    let mut behind = [0u8; Chart::EDGES];
+    let mut begins = [[0usize; Chart::PLACES]; 2];
+    let mut stops = [0u8; Chart::NODES];
+    let mut nodes = [0u8; Chart::BARRIERS];
+    let extent = load_tables(
+        s,
+        chart,
+        &mut ahead,
+        &mut behind,
+        &mut begins,
+        &mut stops,
+        &mut nodes,
+    );
+    let starts = &mut marks[STARTS];
+    if fill(&ahead, &begins[0], &stops, &nodes, extent, 0, starts) {
+        return Surveyed::Refused(Refusal::PATHS);
+    }
+    let last = extent.barriers - 1;
+    let ends = &mut marks[ENDS];
+    if fill(&behind, &begins[1], &stops, &nodes, extent, last, ends) {
+        return Surveyed::Refused(Refusal::PATHS);
+    }
+    let returning = returns(s, chart, &ahead, &begins[0], &stops);
+    let sets = fill_held(s, chart, returning, &mut marks[HELD]);
+    Surveyed::Marked(chart, sets)
+}
+
+// The first of rows 1 to 10 that applies, or all masks of all nodes.
+pub fn survey(s: &[u8], marks: &mut MaskTable) -> Surveyed
+    requires { ⌜ length (now marks) ≡ 3 ⌝ }
+    ensures { λ r. ⌜ checkedOf r ≡ answer (firstOf (admitRows (now (s .entry)))) (countsOf (now (s .entry))) ⌝ }
+    ensures { λ r. ⌜ ((chart : Chart) (sets : Sets) → r ≡ Marked chart sets → Survey (now (s .entry)) chart (now (marks .exit)) sets) ⌝ }
+{
+    match check(s) {
+        Checked::Refused(refusal) => Surveyed::Refused(refusal),
+        Checked::Passed(chart) => survey_chart(s, chart, marks),
+    }
+}

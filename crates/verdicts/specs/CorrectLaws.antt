@@ -1,0 +1,114 @@
+-- Judge is correct: demand 3 holds of the number that its definition gives, for all bytes. A pair is concurrent exactly when it is answered
+-- 0, which is the theorem of crate exact; what is left is that the verdict is about the first such pair.
+-- Assumes nothing.
+use mathlib.Core.Path.{_≡_, refl, sym, _∙_, subst}
+use mathlib.Core.Logic.{_⊎_, inl, inr, _↔_}
+use mathlib.Core.Bool.{Bool, true, false, cond}
+use mathlib.Core.List.{List}
+use mathlib.Core.Option.{Option, none, some}
+use Prim.Native.Nat.{ℕ, _+_, _*_, _<_}
+use native.Mathlib.Omega.{arith}
+use lib.IntN.{ℤ, pos}
+use lib.ListN.{length, getD}
+use borrow.Author.Tests.{eqb-true, eq-eqb}
+use Rattle.lists.specs.Truth.{clash, truth, false-if}
+use Rattle.lists.specs.Range.{any, first, any-none, none-passes, at-any, first-passes, first-least, first-is}
+use Rattle.chart.specs.Format.{decode}
+use Rattle.chart.specs.Region.{Region}
+use Rattle.chart.specs.Reading.{region}
+use Rattle.chart.specs.WellFormed.{WellFormed}
+use Rattle.chart.specs.Refusal.{firstOf}
+use Rattle.chart.proofs.Rows.{none-applies, both-pass}
+use Rattle.paths.specs.Path.{Open}
+use Rattle.paths.specs.Admission.{admitRows}
+use Rattle.exact.specs.Answered.{chart-exact}
+use Rattle.answers.specs.Numbers.{badNumber, good-open, good-number}
+use Rattle.verdicts.specs.Claims.{total, left, right, badNumbers, isFalse}
+use Rattle.verdicts.specs.Judged.{claimRows, judgeRows, verdict, answered, judged, numberOf}
+use Rattle.verdicts.specs.Correct.{ConcurrentAt, Correct}
+use Rattle.verdicts.specs.declared.Verdict.the-variants.{Passed, Failed}
+
+-- The number for the first of n that passes f, where f tests for P.
+module _ (n : ℕ) (f : ℕ → Bool) (P : ℕ → Type 0) (means : (k : ℕ) → k < n → (f k ≡ true) ↔ P k) where
+  abbrev number : ℤ
+  number = numberOf (cond (any n f) (Failed (first n f)) Passed)
+
+  not-zero : (k : ℕ) → pos (k + 1) ≡ pos 0 → ⊥
+  not-zero k e = let q : k + 1 ≡ 0 = cc in omega arith
+
+  passes : (number ≡ pos 0) ↔ ((k : ℕ) → k < n → P k → ⊥)
+  unfolding numberOf
+  passes = go (truth (any n f))
+    where
+      go : (any n f ≡ true) ⊎ (any n f ≡ false) → (number ≡ pos 0) ↔ ((k : ℕ) → k < n → P k → ⊥)
+      go (inl g) = let (l, p) = first-passes n f g in rw g ((λ e. absurd (not-zero (first n f) e)), λ no. absurd (no (first n f) l (means (first n f) l .0 p)))
+      go (inr g) = rw g ((λ e k l M. clash (means k l .1 M) (none-passes n f g k l)), λ no. refl)
+
+  -- k is the first that has P
+  abbrev First : ℕ → Type 0
+  First k = (k < n) × P k × ((j : ℕ) → j < k → P j → ⊥)
+
+  found : any n f ≡ true → First (first n f)
+  found g =
+      let (l, p) = first-passes n f g in
+      (l, means (first n f) l .0 p, λ j m M. clash (means j (omega arith) .1 M) (first-least n f j m))
+
+  first-found : (k : ℕ) → First k → (any n f ≡ true) × (first n f ≡ k)
+  first-found k (l, M, before) =
+      let p = means k l .1 M in
+      (at-any n f k l p, first-is n f k l p (any-none k f (λ j m. false-if (λ q. before j m (means j (omega arith) .0 q)))))
+
+  fails : (k : ℕ) → (number ≡ pos (k + 1)) ↔ First k
+  unfolding numberOf
+  fails k = (to (truth (any n f)), λ F. let (g, q) = first-found k F in rw (g, q))
+    where
+      to : (any n f ≡ true) ⊎ (any n f ≡ false) → number ≡ pos (k + 1) → First k
+      to (inl g) e = let e' : pos (first n f + 1) ≡ pos (k + 1) = rw g at e in let q : first n f + 1 ≡ k + 1 = cc in subst First (omega arith) (found g)
+      to (inr g) e = absurd (not-zero k (sym (rw g at e)))
+
+-- the numbers of a list that row 13 lets pass are those of nodes, none of them a barrier
+module _ (R : Region) (claims : List ℕ) (h : badNumbers R claims ≡ false) (j : ℕ) (l : j < length claims) where
+  good : badNumber R (getD claims j 0) ≡ false
+  unfolding badNumbers
+  good = none-passes (length claims) (λ j. badNumber R (getD claims j 0)) h j l
+
+  open-numbers : Open R (getD claims j 0)
+  open-numbers = good-open R (getD claims j 0) good
+
+  pub good-numbers : WellFormed R → (getD claims j 0 < R .nodes) × Open R (getD claims j 0)
+  good-numbers W = good-number R (getD claims j 0) W good
+
+-- in a list that is not refused, a claim is false exactly when its pair is concurrent
+pub false-concurrent : (s claims : List ℕ) → firstOf (judgeRows s claims) ≡ none → (k : ℕ) → k < total claims
+    → (isFalse (region (decode s)) claims k ≡ true) ↔ ConcurrentAt s claims k
+unfolding judgeRows claimRows total left right isFalse
+false-concurrent s claims h k l =
+    let R = region (decode s) in
+    let (admitted, rest) = both-pass (admitRows s) (claimRows R claims) h in
+    let free = open-numbers R claims (none-applies (claimRows R claims) rest .1 .0) in
+    let E = chart-exact s admitted (free (2 * k) (omega arith)) (free (2 * k + 1) (omega arith)) in
+    ((λ e. E .0 (eqb-true _ _ e)), λ M. eq-eqb _ _ (E .1 M))
+
+-- Demand 3.
+pub judged-correct : (s claims : List ℕ) → Correct s claims (numberOf (judged s claims))
+unfolding judged answered verdict numberOf
+judged-correct s claims = record {
+  refuses = λ row h. rw h;
+  passes = λ h. rw h (passes (total claims) (isFalse (region (decode s)) claims) (ConcurrentAt s claims) (false-concurrent s claims h));
+  fails = λ h. rw h (fails (total claims) (isFalse (region (decode s)) claims) (ConcurrentAt s claims) (false-concurrent s claims h));
+}
+
+-- No other number is correct.
+pub correct-only : (s claims : List ℕ) (number : ℤ) → Correct s claims number → number ≡ numberOf (judged s claims)
+unfolding judged answered verdict numberOf
+correct-only s claims number C = go (firstOf (judgeRows s claims)) refl
+  where
+    J : Correct s claims (numberOf (judged s claims))
+    J = judged-correct s claims
+
+    go : (o : Option ℕ) → firstOf (judgeRows s claims) ≡ o → number ≡ numberOf (judged s claims)
+    go (some row) h = C .refuses row h ∙ sym (J .refuses row h)
+    go none h = elim (truth (any (total claims) (isFalse (region (decode s)) claims))) [
+      | inl g ↦ (let z : numberOf (judged s claims) ≡ pos (first (total claims) (isFalse (region (decode s)) claims) + 1) = rw (h, g) in C .fails h _ .1 (J .fails h _ .0 z) ∙ sym z)
+      | inr g ↦ (let z : numberOf (judged s claims) ≡ pos 0 = rw (h, g) in C .passes h .1 (J .passes h .0 z) ∙ sym z)
+    ]

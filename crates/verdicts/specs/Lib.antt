@@ -1,0 +1,4 @@
+pub mod Claims
+pub mod Correct
+pub mod CorrectLaws
+pub mod Judged

@@ -1,0 +1,9 @@
+//! Times of the calls by several implementations. All run in one process, by turns; times of different
+//! runs are not to be compared.
+
+#[cfg(feature = "before")]
+pub mod before;
+pub mod calls;
+pub mod subject;
+pub mod table;
+mod timing;

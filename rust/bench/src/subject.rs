@@ -1,0 +1,118 @@
+//! What the calls are made with: one chart again and again, or several in turn.
+
+use crate::calls::Calls;
+use crate::timing::least;
+use bohrali::layout::BYTES_PHASES;
+use reference::answers::Rules;
+use reference::refusals::decode_checked;
+use std::hint::black_box;
+
+const CLAIMS: usize = 1_024;
+
+/// One of the five calls.
+#[derive(Clone, Copy)]
+pub enum Call {
+    Admit,
+    Phases,
+    Pair,
+    Sheet,
+    Judge,
+}
+
+impl Call {
+    pub const ALL: [Call; 5] = [
+        Call::Admit,
+        Call::Phases,
+        Call::Pair,
+        Call::Sheet,
+        Call::Judge,
+    ];
+}
+
+/// A chart with what is asked about it.
+struct Asked {
+    chart: Vec<u8>,
+    nodes: usize,
+    /// A node that is no barrier.
+    node: usize,
+    /// Claims that all hold; none where no pair of the chart is excluded.
+    claims: Vec<u8>,
+}
+
+impl Asked {
+    fn new(chart: Vec<u8>) -> Asked {
+        let rules = Rules::of(decode_checked(&chart).expect("an admitted chart"));
+        let nodes = rules.chart.nodes.len();
+        let open: Vec<usize> = (0..nodes).filter(|&x| !rules.chart.is_barrier(x)).collect();
+        let pairs = open.iter().flat_map(|&a| open.iter().map(move |&b| (a, b)));
+        let held = pairs.filter(|&(a, b)| rules.answer(a, b) != Rules::CONCURRENT);
+        let held: Vec<u8> = held.flat_map(|(a, b)| [a as u8, b as u8]).collect();
+        Asked {
+            chart,
+            nodes,
+            node: open[open.len() / 2],
+            claims: held.into_iter().cycle().take(2 * CLAIMS).collect(),
+        }
+    }
+
+    #[inline]
+    fn ask(&self, call: Call, by: &Calls, out: &mut [u8]) -> i64 {
+        let chart = black_box(&self.chart[..]);
+        match call {
+            Call::Admit => (by.admit)(chart),
+            Call::Phases => (by.phases)(chart, &mut out[..BYTES_PHASES * self.nodes]),
+            Call::Pair => (by.pair)(chart, self.node, self.node),
+            Call::Sheet => (by.sheet)(chart, &mut out[..self.nodes * self.nodes]),
+            Call::Judge => (by.judge)(chart, &self.claims),
+        }
+    }
+}
+
+/// Charts that are asked in turn.
+pub struct Subject {
+    pub name: &'static str,
+    charts: Vec<Asked>,
+    /// The longest result of a chart, Phases' or Sheet's.
+    room: usize,
+}
+
+impl Subject {
+    pub fn new(name: &'static str, charts: impl IntoIterator<Item = Vec<u8>>) -> Subject {
+        let charts: Vec<Asked> = charts.into_iter().map(Asked::new).collect();
+        let result = |x: &Asked| x.nodes * x.nodes.max(BYTES_PHASES);
+        let room = charts.iter().map(result).max().unwrap_or(0);
+        Subject { name, charts, room }
+    }
+
+    /// The charts of the benchmark, each by itself.
+    pub fn each() -> Vec<Subject> {
+        let charts = charts::benchmark::all().into_iter();
+        charts
+            .map(|(name, chart)| Subject::new(name, [chart]))
+            .collect()
+    }
+
+    /// Nanoseconds of one call on one chart by each implementation.
+    pub fn times<const N: usize>(&self, call: Call, by: [&Calls; N]) -> [f64; N] {
+        let mut out = vec![0; self.room];
+        let all = least(|index| {
+            self.charts.iter().fold(0i64, |sum, asked| {
+                let number = asked.ask(call, by[index], &mut out);
+                sum.wrapping_mul(31).wrapping_add(number)
+            })
+        });
+        all.map(|time| time / self.charts.len() as f64)
+    }
+
+    /// The call's name; Judge's with the number of claims where there is one list.
+    pub fn name_of(&self, call: Call) -> String {
+        match (call, &self.charts[..]) {
+            (Call::Admit, _) => "admit".into(),
+            (Call::Phases, _) => "phases".into(),
+            (Call::Pair, _) => "pair".into(),
+            (Call::Sheet, _) => "sheet".into(),
+            (Call::Judge, [one]) => format!("judge {}", one.claims.len() / 2),
+            (Call::Judge, _) => "judge".into(),
+        }
+    }
+}

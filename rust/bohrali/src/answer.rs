@@ -1,0 +1,34 @@
+//! The answers, by the numbers of include/bohrali.h.
+
+/// Whether two threads of one team can be at two nodes together, in a run that finishes, or else the
+/// first rule by which they never are.
+#[derive(Clone, Copy, Debug, PartialEq, Eq, Hash)]
+#[non_exhaustive]
+#[repr(u8)]
+pub enum Answer {
+    /// They can.
+    Concurrent = 0,
+    /// Never: no common start, or no common end.
+    NoCommonPhase = 1,
+    /// Never: each is inside some master.
+    Master = 2,
+    /// Never: both inside one single, which does not return.
+    Single = 3,
+    /// Never: both inside ordereds of one do, which does not return.
+    Ordered = 4,
+}
+
+impl Answer {
+    /// All answers; each stands at its number.
+    pub const ALL: [Answer; 5] = [
+        Answer::Concurrent,
+        Answer::NoCommonPhase,
+        Answer::Master,
+        Answer::Single,
+        Answer::Ordered,
+    ];
+
+    /// What a sheet has where one of the two nodes is a barrier, or both are; every other byte of it
+    /// is the number of an answer.
+    pub const AT_BARRIER: u8 = 255;
+}

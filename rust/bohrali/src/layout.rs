@@ -1,0 +1,45 @@
+//! The numbers that a chart is written with; include/bohrali.h says where each stands and what makes
+//! a chart of them.
+
+/// What a node is: byte 0 of its record.
+#[derive(Clone, Copy, Debug, PartialEq, Eq, Hash)]
+#[repr(u8)]
+pub enum NodeKind {
+    /// Its number names the innermost construct around it, or `CONSTRUCT_NONE`.
+    Plain = 0,
+    /// Its number is `CONSTRUCT_NONE`.
+    Barrier = 1,
+    /// Its number names the construct that it opens.
+    Begin = 2,
+    /// Its number names the construct that it closes.
+    End = 3,
+}
+
+/// What a construct is: byte 0 of its record.
+#[derive(Clone, Copy, Debug, PartialEq, Eq, Hash)]
+#[non_exhaustive]
+#[repr(u8)]
+pub enum ConstructKind {
+    Single = 1,
+    Master = 2,
+    Critical = 3,
+    Do = 4,
+    Ordered = 5,
+}
+
+/// In place of a construct's number: none.
+pub const CONSTRUCT_NONE: u8 = 255;
+
+pub const BYTES_NODE: usize = 4;
+pub const BYTES_EDGE: usize = 2;
+pub const BYTES_CONSTRUCT: usize = 4;
+pub const BYTES_TRAILER: usize = 16;
+
+/// What `phases` writes for each node.
+pub const BYTES_PHASES: usize = 16;
+
+/// The first field of the trailer.
+pub const TRAILER_EDITION: u16 = 1;
+
+/// The last field of the trailer: the bytes 4F 43, little-endian.
+pub const TRAILER_CLOSING: u16 = 0x434F;

@@ -1,0 +1,12 @@
+//! The limits of a chart: a count outside them is refused. Constructs may be none, and barriers are
+//! never fewer than two, Start and Finish.
+
+pub const LEAST_NODES: usize = 2;
+pub const MOST_NODES: usize = 192;
+pub const LEAST_EDGES: usize = 1;
+pub const MOST_EDGES: usize = 1024;
+pub const MOST_CONSTRUCTS: usize = 48;
+pub const MOST_BARRIERS: usize = 64;
+
+/// The length of the longest chart.
+pub const MOST_CHART_BYTES: usize = 3024;

@@ -1,0 +1,108 @@
+//! The constants of include/bohrali.h are those of this crate: all of them, by the same words and
+//! with the same numbers.
+
+use bohrali::layout::{self, ConstructKind, NodeKind};
+use bohrali::{limits, Answer, Refusal};
+use std::collections::BTreeMap;
+use std::{fs, path::PathBuf};
+
+const LIMITS: [(&str, usize); 7] = [
+    ("LEAST_NODES", limits::LEAST_NODES),
+    ("MOST_NODES", limits::MOST_NODES),
+    ("LEAST_EDGES", limits::LEAST_EDGES),
+    ("MOST_EDGES", limits::MOST_EDGES),
+    ("MOST_CONSTRUCTS", limits::MOST_CONSTRUCTS),
+    ("MOST_BARRIERS", limits::MOST_BARRIERS),
+    ("MOST_CHART_BYTES", limits::MOST_CHART_BYTES),
+];
+
+const LAYOUT: [(&str, usize); 17] = [
+    ("BYTES_NODE", layout::BYTES_NODE),
+    ("BYTES_EDGE", layout::BYTES_EDGE),
+    ("BYTES_CONSTRUCT", layout::BYTES_CONSTRUCT),
+    ("BYTES_TRAILER", layout::BYTES_TRAILER),
+    ("BYTES_PHASES", layout::BYTES_PHASES),
+    ("TRAILER_EDITION", layout::TRAILER_EDITION as usize),
+    ("TRAILER_CLOSING", layout::TRAILER_CLOSING as usize),
+    ("NODE_PLAIN", NodeKind::Plain as usize),
+    ("NODE_BARRIER", NodeKind::Barrier as usize),
+    ("NODE_BEGIN", NodeKind::Begin as usize),
+    ("NODE_END", NodeKind::End as usize),
+    ("CONSTRUCT_SINGLE", ConstructKind::Single as usize),
+    ("CONSTRUCT_MASTER", ConstructKind::Master as usize),
+    ("CONSTRUCT_CRITICAL", ConstructKind::Critical as usize),
+    ("CONSTRUCT_DO", ConstructKind::Do as usize),
+    ("CONSTRUCT_ORDERED", ConstructKind::Ordered as usize),
+    ("CONSTRUCT_NONE", layout::CONSTRUCT_NONE as usize),
+];
+
+const AT_BARRIER: (&str, usize) = ("ANSWER_AT_BARRIER", Answer::AT_BARRIER as usize);
+
+/// A name such as `NoCommonPhase` as C spells it, `NO_COMMON_PHASE`.
+fn spelt(name: &str) -> String {
+    let mut words = String::new();
+    for letter in name.chars() {
+        if letter.is_uppercase() && !words.is_empty() {
+            words.push('_');
+        }
+        words.push(letter.to_ascii_uppercase());
+    }
+    words
+}
+
+/// The constants of this crate, by their names in C without `BOHRALI_`.
+fn ours() -> BTreeMap<String, usize> {
+    let named = LIMITS.iter().chain(&LAYOUT).chain([&AT_BARRIER]);
+    let named = named.map(|&(name, number)| (name.to_string(), number));
+    let answers = Answer::ALL
+        .iter()
+        .map(|&x| (format!("ANSWER_{}", spelt(&format!("{x:?}"))), x as usize));
+    let refusals = Refusal::ALL
+        .iter()
+        .map(|&x| (format!("REFUSED_{}", spelt(&format!("{x:?}"))), x as usize));
+    named.chain(answers).chain(refusals).collect()
+}
+
+/// The number of a C constant.
+fn number(text: &str) -> usize {
+    match text.strip_prefix("0x") {
+        Some(digits) => usize::from_str_radix(digits, 16),
+        None => text.parse(),
+    }
+    .unwrap_or_else(|error| panic!("{text}: {error}"))
+}
+
+/// The constants of the header: `#define BOHRALI_NAME NUMBER`, or `BOHRALI_NAME = NUMBER,` in an enum.
+fn declared() -> BTreeMap<String, usize> {
+    let header = PathBuf::from(env!("CARGO_MANIFEST_DIR")).join("../../include/bohrali.h");
+    let header = fs::read_to_string(header).expect("the header");
+    let mut constants = BTreeMap::new();
+    for line in header.lines() {
+        let line = line.trim_start();
+        let line = line.strip_prefix("#define ").unwrap_or(line);
+        let Some(line) = line.strip_prefix("BOHRALI_") else {
+            continue;
+        };
+        let mut words = line.split([' ', '=', ',']).filter(|word| !word.is_empty());
+        if let (Some(name), Some(text)) = (words.next(), words.next()) {
+            let earlier = constants.insert(name.to_string(), number(text));
+            assert_eq!(earlier, None, "{name} is declared twice");
+        }
+    }
+    constants
+}
+
+#[test]
+fn constants_are_those_of_the_header() {
+    assert_eq!(declared(), ours());
+}
+
+#[test]
+fn all_lists_are_in_the_order_of_the_numbers() {
+    for (place, answer) in Answer::ALL.into_iter().enumerate() {
+        assert_eq!(answer as usize, place);
+    }
+    for (place, refusal) in Refusal::ALL.into_iter().enumerate() {
+        assert_eq!(refusal as usize, place + 1);
+    }
+}

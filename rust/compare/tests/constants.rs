@@ -1,0 +1,47 @@
+//! The constants of the wrapper, which are those of the header, are the second implementation's.
+
+use bohrali::layout::{self, ConstructKind, NodeKind};
+use bohrali::{limits, Answer};
+use reference::answers::Rules;
+use reference::calls::PHASE_BYTES;
+use reference::chart::{Chart, Construct, Edge, Node, Trailer};
+
+#[test]
+fn limits_of_a_chart() {
+    assert_eq!(limits::LEAST_NODES..=limits::MOST_NODES, Chart::NODE_LIMITS);
+    assert_eq!(limits::LEAST_EDGES..=limits::MOST_EDGES, Chart::EDGE_LIMITS);
+    assert_eq!(0..=limits::MOST_CONSTRUCTS, Chart::CONSTRUCT_LIMITS);
+    assert_eq!(limits::MOST_BARRIERS, Chart::MOST_BARRIERS);
+    let longest = layout::BYTES_NODE * limits::MOST_NODES
+        + layout::BYTES_EDGE * limits::MOST_EDGES
+        + layout::BYTES_CONSTRUCT * limits::MOST_CONSTRUCTS
+        + layout::BYTES_TRAILER;
+    assert_eq!(limits::MOST_CHART_BYTES, longest);
+}
+
+#[test]
+fn records() {
+    assert_eq!(layout::BYTES_NODE, Node::BYTES);
+    assert_eq!(layout::BYTES_EDGE, Edge::BYTES);
+    assert_eq!(layout::BYTES_CONSTRUCT, Construct::BYTES);
+    assert_eq!(layout::BYTES_TRAILER, Trailer::BYTES);
+    assert_eq!(layout::BYTES_PHASES, PHASE_BYTES);
+    assert_eq!(layout::TRAILER_EDITION, Trailer::EDITION);
+    assert_eq!(layout::TRAILER_CLOSING.to_le_bytes(), Trailer::CLOSING);
+    assert_eq!(layout::CONSTRUCT_NONE, Construct::NONE);
+}
+
+#[test]
+fn kinds() {
+    assert_eq!(NodeKind::Plain as u8, Node::PLAIN);
+    assert_eq!(NodeKind::Barrier as u8, Node::BARRIER);
+    assert_eq!(NodeKind::Begin as u8, Node::BEGIN);
+    assert_eq!(NodeKind::End as u8, Node::END);
+    assert_eq!(ConstructKind::Single as u8, Construct::SINGLE);
+    assert_eq!(ConstructKind::Master as u8, Construct::MASTER);
+    assert_eq!(ConstructKind::Critical as u8, Construct::CRITICAL);
+    assert_eq!(ConstructKind::Do as u8, Construct::DO);
+    assert_eq!(ConstructKind::Ordered as u8, Construct::ORDERED);
+    assert_eq!(Answer::Concurrent as u8, Rules::CONCURRENT);
+    assert_eq!(Answer::AT_BARRIER, Rules::BARRIER);
+}

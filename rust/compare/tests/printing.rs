@@ -1,0 +1,50 @@
+//! The printing program against the second implementation: its whole text, on valid, damaged and
+//! random charts and on input at and past the length where it stops reading.
+
+use charts::random::Random;
+use compare::programs::printed;
+use reference::printing::{text, MOST_BYTES};
+
+const CHARTS: usize = 400;
+const SEED: u64 = 2_026_111_516;
+const PROGRAM: &str = "print_chart";
+
+fn agree(input: &[u8]) {
+    let (ours, theirs) = (printed(PROGRAM, input), text(input));
+    assert_eq!(ours, theirs, "input {input:02X?}");
+}
+
+#[test]
+fn drawn_charts() {
+    let mut random = Random::new(SEED);
+    let mut admitted = 0;
+    for _ in 0..CHARTS {
+        let (_, chart) = charts::draw(&mut random);
+        agree(&chart);
+        admitted += usize::from(text(&chart).starts_with("chart"));
+    }
+    let share = CHARTS / 4..CHARTS * 3 / 4;
+    assert!(share.contains(&admitted), "{admitted} admitted");
+}
+
+#[test]
+fn benchmark_charts() {
+    for (_, chart) in charts::benchmark::all() {
+        agree(&chart);
+    }
+}
+
+/// Past the longest chart the length alone decides: the same bytes, one fewer, are refused by their
+/// trailer. The last input is more than a pipe holds.
+#[test]
+fn long_input() {
+    for (length, line) in [
+        (MOST_BYTES, "refused 2\n"),
+        (MOST_BYTES + 1, "refused 4\n"),
+        (200_000, "refused 4\n"),
+    ] {
+        let input = vec![0; length];
+        agree(&input);
+        assert_eq!(text(&input), line);
+    }
+}
