@@ -1,7 +1,6 @@
 //! What is measured: the five calls of one implementation, each by C's one number.
 
 use bohrali::{Counts, Refusal, Verdict};
-use tuned::{Components, Method, Search};
 
 /// The calls by one implementation. Pointers, so that none of them is merged with the loop that
 /// measures it.
@@ -38,18 +37,18 @@ fn number<T>(result: Result<T, Refusal>, value: impl Fn(T) -> usize) -> i64 {
     }
 }
 
-/// The tuned version by the library's own method.
-pub const SEARCH: Calls = by::<Search>();
+/// The best Rust known, with the fewest edges to every node worked out in each call.
+pub const WITH_LEVELS: Calls = tuned::<true>();
 
-/// The tuned version by strongly connected components.
-pub const COMPONENTS: Calls = by::<Components>();
+/// The best Rust known, without them.
+pub const WITHOUT_LEVELS: Calls = tuned::<false>();
 
-const fn by<M: Method>() -> Calls {
+const fn tuned<const LEVELS: bool>() -> Calls {
     Calls {
-        admit: tuned::admit::<M>,
-        phases: tuned::phases::<M>,
-        pair: |chart, a, b| tuned::pair::<M>(chart, a as u64, b as u64),
-        sheet: tuned::sheet::<M>,
-        judge: tuned::judge::<M>,
+        admit: tuned::admit::<LEVELS>,
+        phases: tuned::phases::<LEVELS>,
+        pair: tuned::pair::<LEVELS>,
+        sheet: tuned::sheet::<LEVELS>,
+        judge: tuned::judge::<LEVELS>,
     }
 }

@@ -1,17 +1,13 @@
-//! Prints, for each chart of the benchmark and each call, the library's time by those of the tuned
-//! versions.
+//! Prints, for each chart of the benchmark and each call, the library's time by those of the best Rust
+//! known for the same job, with the fewest edges to every node worked out in each call and without.
 
-use bench::calls::{COMPONENTS, LIBRARY, SEARCH};
-use bench::subject::Subject;
-use bench::table::Table;
+use bench::calls::{LIBRARY, WITHOUT_LEVELS, WITH_LEVELS};
+use bench::table;
 
 fn main() {
-    println!("the library, and its time by that of two tuned versions");
-    let by = [
-        ("library", LIBRARY),
-        ("search", SEARCH),
-        ("components", COMPONENTS),
-    ];
-    let subjects = Subject::each();
-    Table::of(&subjects, by).print(&subjects);
+    table::print([
+        ("Library", LIBRARY),
+        ("Rust with levels", WITH_LEVELS),
+        ("Rust without", WITHOUT_LEVELS),
+    ]);
 }

@@ -39,9 +39,22 @@ struct Asked {
     claims: Vec<u8>,
 }
 
+/// What a chart that is refused is asked with; nothing is written for it.
+fn refused(chart: Vec<u8>) -> Asked {
+    Asked {
+        chart,
+        nodes: 0,
+        node: 1,
+        claims: Vec::new(),
+    }
+}
+
 impl Asked {
     fn new(chart: Vec<u8>) -> Asked {
-        let rules = Rules::of(decode_checked(&chart).expect("an admitted chart"));
+        let Ok(decoded) = decode_checked(&chart) else {
+            return refused(chart);
+        };
+        let rules = Rules::of(decoded);
         let nodes = rules.chart.nodes.len();
         let open: Vec<usize> = (0..nodes).filter(|&x| !rules.chart.is_barrier(x)).collect();
         let pairs = open.iter().flat_map(|&a| open.iter().map(move |&b| (a, b)));
@@ -77,19 +90,24 @@ pub struct Subject {
 }
 
 impl Subject {
-    pub fn new(name: &'static str, charts: impl IntoIterator<Item = Vec<u8>>) -> Subject {
+    fn new(name: &'static str, charts: impl IntoIterator<Item = Vec<u8>>) -> Subject {
         let charts: Vec<Asked> = charts.into_iter().map(Asked::new).collect();
         let result = |x: &Asked| x.nodes * x.nodes.max(BYTES_PHASES);
         let room = charts.iter().map(result).max().unwrap_or(0);
         Subject { name, charts, room }
     }
 
-    /// The charts of the benchmark, each by itself.
+    /// The charts that are asked again and again, each by itself.
     pub fn each() -> Vec<Subject> {
         let charts = charts::benchmark::all().into_iter();
         charts
             .map(|(name, chart)| Subject::new(name, [chart]))
             .collect()
+    }
+
+    /// The charts that are asked in turn.
+    pub fn in_turn() -> Subject {
+        Subject::new("64 charts in turn", charts::benchmark::in_turn())
     }
 
     /// Nanoseconds of one call on one chart by each implementation.

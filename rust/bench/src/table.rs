@@ -1,4 +1,4 @@
-//! Times as a table: the first implementation's, and its ratio to each other one.
+//! Times as tables: the first implementation's, and its ratio to each other one.
 
 use crate::calls::Calls;
 use crate::subject::{Call, Subject};
@@ -8,47 +8,73 @@ use crate::subject::{Call, Subject};
 const ROUNDS: usize = 3;
 
 /// Implementations by their names; the first is the one that is measured.
-pub struct Table<const N: usize> {
-    by: [(&'static str, Calls); N],
-    /// By subject and call: the least time of each implementation, in nanoseconds.
-    times: Vec<[[f64; N]; Call::ALL.len()]>,
+pub type By<const N: usize> = [(&'static str, Calls); N];
+
+/// The least times by call and implementation, in nanoseconds.
+type Times<const N: usize> = [[f64; N]; Call::ALL.len()];
+
+/// Measures all calls on the charts of the benchmark, then prints a table of those that are asked again
+/// and again, one of those that are asked in turn, and the worst ratios of each.
+pub fn print<const N: usize>(by: By<N>) {
+    let (each, in_turn) = (Subject::each(), Subject::in_turn());
+    let mut times = vec![[[f64::INFINITY; N]; Call::ALL.len()]; each.len() + 1];
+    for _ in 0..ROUNDS {
+        for (subject, times) in each.iter().chain([&in_turn]).zip(&mut times) {
+            measure(subject, &by, times);
+        }
+    }
+    let (last, times) = times.split_last().expect("the charts in turn");
+    let worst = print_table(&by, each.iter().zip(times));
+    let worst_in_turn = print_table(&by, [(&in_turn, last)]);
+    for (index, (name, _)) in by.iter().enumerate().skip(1) {
+        println!(
+            "worst ratio to {name}: {}; in turn {}",
+            worst[index], worst_in_turn[index]
+        );
+    }
 }
 
-impl<const N: usize> Table<N> {
-    /// Measures all calls on all subjects.
-    pub fn of(subjects: &[Subject], by: [(&'static str, Calls); N]) -> Table<N> {
-        let mut times = vec![[[f64::INFINITY; N]; Call::ALL.len()]; subjects.len()];
-        for _ in 0..ROUNDS {
-            for (subject, times) in subjects.iter().zip(&mut times) {
-                for (call, times) in Call::ALL.into_iter().zip(times) {
-                    let taken = subject.times(call, by.each_ref().map(|(_, calls)| calls));
-                    *times = std::array::from_fn(|index| times[index].min(taken[index]));
-                }
-            }
-        }
-        Table { by, times }
+/// Lowers times to those of one round.
+fn measure<const N: usize>(subject: &Subject, by: &By<N>, times: &mut Times<N>) {
+    for (call, times) in Call::ALL.into_iter().zip(times) {
+        let taken = subject.times(call, by.each_ref().map(|(_, calls)| calls));
+        *times = std::array::from_fn(|index| times[index].min(taken[index]));
     }
+}
 
-    /// Prints a line for each call on each subject, then the worst ratios.
-    pub fn print(&self, subjects: &[Subject]) {
-        let mut worst: [(f64, String); N] = std::array::from_fn(|_| (0.0, String::new()));
-        for (subject, times) in subjects.iter().zip(&self.times) {
-            println!("{}", subject.name);
-            for (call, times) in Call::ALL.into_iter().zip(times) {
-                let call = subject.name_of(call);
-                print!("  {call:<10} {:8.2} us", times[0] / 1e3);
-                for (index, (name, _)) in self.by.iter().enumerate().skip(1) {
-                    let ratio = times[0] / times[index];
-                    print!("   {ratio:5.2} of {name}");
-                    if ratio > worst[index].0 {
-                        worst[index] = (ratio, format!("{call} of {}", subject.name));
-                    }
+/// Prints a table and gives the highest ratio to each implementation, with its place.
+fn print_table<'s, const N: usize>(
+    by: &By<N>,
+    subjects: impl IntoIterator<Item = (&'s Subject, &'s Times<N>)>,
+) -> [String; N] {
+    let columns = by[1..].iter().map(|(name, _)| format!(" of {name} |"));
+    let columns: Vec<String> = columns.collect();
+    println!(
+        "| {:<34} | Call       | {:>8} us |{}",
+        "Chart",
+        by[0].0,
+        columns.concat()
+    );
+    println!("|---|---|---|{}", "---|".repeat(N - 1));
+    let mut worst: [(f64, String); N] = std::array::from_fn(|_| (0.0, String::new()));
+    for (subject, times) in subjects {
+        for (call, times) in Call::ALL.into_iter().zip(times) {
+            let call = subject.name_of(call);
+            print!(
+                "| {:<34} | {call:<10} | {:11.2} |",
+                subject.name,
+                times[0] / 1e3
+            );
+            for (index, column) in columns.iter().enumerate() {
+                let ratio = times[0] / times[index + 1];
+                print!("{ratio:>width$.2} |", width = column.len() - 2);
+                if ratio > worst[index + 1].0 {
+                    worst[index + 1] = (ratio, format!("{ratio:.2} ({call}, {})", subject.name));
                 }
-                println!();
             }
-        }
-        for ((name, _), (ratio, place)) in self.by.iter().zip(worst).skip(1) {
-            println!("worst ratio to {name}: {ratio:.2} ({place})");
+            println!();
         }
     }
+    println!();
+    worst.map(|(_, place)| place)
 }

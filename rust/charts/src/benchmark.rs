@@ -1,5 +1,11 @@
-//! The five charts of the benchmark: the costliest ones for each part of the work, and a typical
-//! one. All are fixed.
+//! The charts of the benchmark, all fixed: six to be asked again and again, which are the costliest ones
+//! for each part of the work and a typical one, and 64 to be asked in turn.
+
+mod code;
+mod turns;
+mod zigzag;
+
+pub use turns::in_turn;
 
 use crate::random::Random;
 use reference::builder::ChartBuilder;
@@ -9,14 +15,15 @@ const NODES: usize = 192;
 const EDGES: usize = 1024;
 const NONE: u8 = Construct::NONE;
 
-/// The charts with their names.
-pub fn all() -> [(&'static str, Vec<u8>); 5] {
+/// The charts to be asked again and again, with their names.
+pub fn all() -> [(&'static str, Vec<u8>); 6] {
     [
         ("192 nodes, 1024 edges, 64 barriers", full(64)),
         ("chain of 192, 2 barriers", reference::known::row(NODES, 2)),
         ("192 nodes, 1024 edges, 2 barriers", full(2)),
         ("typical, 62 barriers", typical()),
         ("48 constructs that return", returning()),
+        ("zigzag of 189, 1024 edges", zigzag::chart()),
     ]
 }
 

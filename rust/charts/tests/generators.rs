@@ -3,7 +3,7 @@
 
 use charts::random::Random;
 use charts::{benchmark, damage, draw, large, small, valid, Source};
-use reference::chart::{Chart, Construct};
+use reference::chart::{Chart, Construct, Edge};
 use reference::refusals::decode_checked;
 
 #[test]
@@ -88,6 +88,7 @@ fn benchmark_charts_are_admitted() {
         (192, 1024, 0, 2),
         (192, 275, 7, 62),
         (170, 217, 48, 2),
+        (192, 1024, 1, 3),
     ];
     for ((name, bytes), (nodes, edges, constructs, barriers)) in
         benchmark::all().into_iter().zip(sizes)
@@ -102,7 +103,64 @@ fn benchmark_charts_are_admitted() {
 
 #[test]
 fn all_constructs_of_the_returning_chart_return() {
-    let [.., (_, bytes)] = benchmark::all();
+    let [_, _, _, _, (_, bytes), _] = benchmark::all();
     let phases = reference::phases::Phases::of(&decode_checked(&bytes).unwrap());
     assert_eq!(phases.returns, vec![true; 48]);
+}
+
+/// Sweeps along rising edges and then along falling ones, as many as it takes to bring a mark from
+/// start to all nodes and one that sees no change.
+fn sweeps(chart: &Chart) -> usize {
+    let edges = chart.edges.iter().copied();
+    let open = |node: u8| !chart.is_barrier(node.into());
+    let between = edges.filter(|x| open(x.from) && open(x.to));
+    let (up, mut down): (Vec<Edge>, Vec<Edge>) = between.partition(|x| x.from < x.to);
+    down.reverse();
+    let mut marked = vec![false; chart.nodes.len()];
+    marked[1] = true;
+    for sweep in 0.. {
+        let before = marked.clone();
+        for edge in if sweep % 2 == 0 { &up } else { &down } {
+            marked[usize::from(edge.to)] |= marked[usize::from(edge.from)];
+        }
+        if sweep > 0 && marked == before {
+            return sweep + 1;
+        }
+    }
+    unreachable!("masks grow only so often")
+}
+
+#[test]
+fn the_zigzag_takes_the_most_sweeps() {
+    let [.., (_, bytes)] = benchmark::all();
+    let chart = decode_checked(&bytes).unwrap();
+    // an edge a sweep, past all 189 nodes between the barriers
+    assert_eq!(sweeps(&chart), 189);
+    let distances = reference::distances::distances(&chart);
+    let farthest = distances.iter().filter(|&&x| x != 255).max();
+    assert_eq!(farthest, Some(&189));
+    assert_eq!(reference::phases::Phases::of(&chart).returns, [true]);
+}
+
+#[test]
+fn charts_in_turn_are_admitted_or_refused_by_each_row() {
+    let charts = benchmark::in_turn();
+    let mut outcomes = [0usize; 11];
+    let mut admitted = Vec::new();
+    for bytes in &charts {
+        match decode_checked(bytes) {
+            Ok(chart) => admitted.push(chart),
+            Err(row) => outcomes[usize::from(row)] += 1,
+        }
+    }
+    assert_eq!(admitted.len(), 40);
+    assert_eq!(outcomes, [0, 0, 0, 0, 0, 4, 4, 4, 4, 4, 4]);
+    for kind in Construct::SINGLE..=Construct::ORDERED {
+        let has_kind = |x: &Chart| x.constructs.iter().any(|c| c.kind == kind);
+        assert!(share(&admitted, has_kind) > 10, "kind {kind}");
+    }
+    assert!(share(&admitted, |x| x.edges.len() > 350) >= 12);
+    assert!(share(&admitted, |x| x.barriers().len() > 10) >= 8);
+    let different: std::collections::BTreeSet<&Vec<u8>> = charts.iter().collect();
+    assert_eq!(different.len(), 64);
 }

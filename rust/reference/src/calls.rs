@@ -94,7 +94,7 @@ fn try_judge(chart: &[u8], claims: &[u8]) -> Result<i64, u8> {
 }
 
 /// Row 11: "buffer shorter than the result"; otherwise the part that the result fills.
-fn result_part(out: &mut [u8], length: usize) -> Result<&mut [u8], u8> {
+pub fn result_part(out: &mut [u8], length: usize) -> Result<&mut [u8], u8> {
     out.get_mut(..length).ok_or(11)
 }
 

@@ -6,6 +6,7 @@ pub mod answers;
 pub mod builder;
 pub mod calls;
 pub mod chart;
+pub mod distances;
 pub mod known;
 pub mod phases;
 pub mod printing;

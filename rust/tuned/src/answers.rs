@@ -1,94 +1,154 @@
-//! The pair rules: two ANDs for common phases, then one comparison of classes, since a node is
-//! inside at most one of a master, a single and an ordered.
+//! What the calls make of an admitted chart and its marks.
 
-use crate::marks::Marks;
-use crate::read::{Chart, MASTER_CLASS};
+use crate::bits::{join_at, Masks};
+use crate::constructs::{at, ANY_MASTER};
+use crate::marks::{Marks, Read};
+use std::ops::Range;
 
-/// Starts and ends by node, and the answer for each class of nodes.
-pub struct Rules<'p> {
-    chart: &'p Chart<'p>,
-    marks: &'p Marks,
-    code: [u8; 256],
+/// An admitted chart with its marks.
+pub struct Marked<'a> {
+    pub read: &'a Read<'a>,
+    pub marks: &'a Marks,
 }
 
-impl<'p> Rules<'p> {
-    #[inline]
-    pub fn of(chart: &'p Chart<'p>, marks: &'p Marks) -> Rules<'p> {
-        Rules {
-            chart,
-            marks,
-            code: codes(chart, marks),
-        }
+impl Marked<'_> {
+    #[inline(always)]
+    pub fn size(&self) -> usize {
+        self.read.tables.nodes.len()
     }
 
-    /// The answer for two nodes that are no barriers.
-    #[inline]
-    pub fn answer(&self, a: u8, b: u8) -> u8 {
-        let (a, b) = (usize::from(a), usize::from(b));
-        let class = self.chart.class[a];
+    /// Admit's number.
+    #[inline(always)]
+    pub fn counts(&self) -> i64 {
+        let nodes = self.size() + 256 * self.read.nodes.barriers;
+        nodes as i64 + 65_536 * i64::from(self.phases())
+    }
+
+    /// The number of distinct pairs of a start and an end that some node has. Neighbours often have the
+    /// same ones, which are then added once.
+    #[inline(always)]
+    fn phases(&self) -> u32 {
         let Marks { starts, ends, .. } = self.marks;
-        if starts[a] & starts[b] == 0 || ends[a] & ends[b] == 0 {
-            1
-        } else if class == self.chart.class[b] {
-            self.code[usize::from(class)]
-        } else {
-            0
-        }
-    }
-
-    /// All rows of the sheet, each through its own part of the result. Neighbours often have the same
-    /// row, which is then worked out once.
-    #[inline]
-    pub fn fill_sheet(&self, result: &mut [u8]) {
-        let Chart {
-            nodes,
-            class,
-            closed,
-            ..
-        } = self.chart;
-        let mut same = [0u8; 192];
-        let mut last = None;
-        for (a, row) in result.chunks_exact_mut(*nodes).enumerate() {
-            if closed[a & 255] != 0 {
-                row.fill(255);
+        let mut ends_of_start = [0u64; 64];
+        let mut last = (0, 0);
+        let n = self.size();
+        for (&start, &end) in starts[..n].iter().zip(&ends[..n]) {
+            if (start == 0) | ((start ^ last.0) | (end ^ last.1) == 0) {
                 continue;
             }
-            let Marks { starts, ends, .. } = self.marks;
-            let own = Some((starts[a & 255], ends[a & 255], class[a & 255]));
-            if own != last {
-                self.fill_row(a, &mut same[..*nodes]);
-                last = own;
+            last = (start, end);
+            join_at(&mut ends_of_start, start, end);
+        }
+        let counted = &ends_of_start[..self.read.nodes.barriers];
+        counted.iter().map(|ends| ends.count_ones()).sum()
+    }
+
+    /// The exclusions that hold for each of some nodes: two nodes that share one are never met together.
+    /// A node has at most one.
+    #[inline(always)]
+    fn excludes(&self, nodes: Range<usize>) -> impl Iterator<Item = u64> + '_ {
+        let Read {
+            nodes: table,
+            constructs,
+            ..
+        } = *self.read;
+        let around = table.around(nodes, constructs);
+        around.map(|x| constructs.excludes[at(x)] & self.marks.kept)
+    }
+
+    #[inline(always)]
+    pub fn all_excludes(&self) -> Masks {
+        let mut all = [0; 256];
+        if self.read.constructs.count != 0 {
+            for (entry, excludes) in all.iter_mut().zip(self.excludes(0..self.size())) {
+                *entry = excludes;
             }
-            row.copy_from_slice(&same[..*nodes]);
+        }
+        all
+    }
+
+    /// The answer that shared exclusions give.
+    #[inline(always)]
+    pub fn answer_of(&self, shared: u64) -> u8 {
+        if shared == 0 {
+            0
+        } else if shared == ANY_MASTER {
+            2
+        } else if shared & self.read.constructs.singles != 0 {
+            3
+        } else {
+            4
         }
     }
 
-    /// One row of the sheet, for a node that is no barrier.
-    #[inline]
-    fn fill_row(&self, a: usize, row: &mut [u8]) {
-        let Chart { class, closed, .. } = self.chart;
-        let (starts, ends, own) = (self.marks.starts[a], self.marks.ends[a], class[a]);
-        let code = self.code[usize::from(own)];
+    #[inline(always)]
+    pub fn pair(&self, a: usize, b: usize) -> Result<i64, u8> {
+        let Marks { starts, ends, .. } = self.marks;
+        let nodes = 0..self.size().min(256);
+        if !nodes.contains(&a) || !nodes.contains(&b) || starts[a] == 0 || starts[b] == 0 {
+            return Err(13);
+        }
+        if starts[a] & starts[b] == 0 || ends[a] & ends[b] == 0 {
+            return Ok(1);
+        }
+        let shared = [a, b]
+            .into_iter()
+            .flat_map(|x| self.excludes(x..x + 1))
+            .fold(!0, |shared, own| shared & own);
+        Ok(self.answer_of(shared).into())
+    }
+
+    #[inline(always)]
+    pub fn judge(&self, claims: &[u8]) -> Result<i64, u8> {
+        let (pairs, odd) = claims.as_chunks::<2>();
+        if !odd.is_empty() {
+            return Err(12);
+        }
+        let excludes = self.all_excludes();
+        let Marks { starts, ends, .. } = self.marks;
+        let closed = |node: u8| starts[usize::from(node)] == 0;
+        let mut refused = false;
+        for (index, &[a, b]) in pairs.iter().enumerate() {
+            // A node number that row 13 refuses has no starts, and so is never met here.
+            refused |= closed(a) | closed(b);
+            let (a, b) = (usize::from(a), usize::from(b));
+            let met = (starts[a] & starts[b] != 0)
+                & (ends[a] & ends[b] != 0)
+                & (excludes[a] & excludes[b] == 0);
+            if met {
+                let rest = pairs[index + 1..].as_flattened().iter();
+                refused |= rest.fold(false, |refused, &node| refused | closed(node));
+                return if refused {
+                    Err(13)
+                } else {
+                    Ok(index as i64 + 1)
+                };
+            }
+        }
+        if refused {
+            Err(13)
+        } else {
+            Ok(0)
+        }
+    }
+
+    #[inline(always)]
+    pub fn write_phases(&self, out: &mut [u8]) -> Result<i64, u8> {
+        let length = 16 * self.size();
+        let records = out.get_mut(..length).ok_or(11u8)?.as_chunks_mut::<16>().0;
         let masks = self.marks.starts.iter().zip(&self.marks.ends);
-        let others = masks.zip(class.iter().zip(closed));
-        for (answer, ((x, y), (class, closed))) in row.iter_mut().zip(others) {
-            let apart = (starts & x == 0) | (ends & y == 0);
-            let excluded = if *class == own { code } else { 0 };
-            *answer = closed | if apart { 1 } else { excluded };
+        for (record, (starts, ends)) in records.iter_mut().zip(masks) {
+            record[..8].copy_from_slice(&starts.to_le_bytes());
+            record[8..].copy_from_slice(&ends.to_le_bytes());
         }
+        Ok(length as i64)
     }
-}
 
-/// The answer for two nodes of each class, 0 where the class's construct returns.
-#[inline]
-fn codes(chart: &Chart, marks: &Marks) -> [u8; 256] {
-    let mut code = [0; 256];
-    for (construct, answer) in code.iter_mut().enumerate().take(chart.constructs) {
-        if marks.returns >> construct & 1 == 0 {
-            let single = chart.singles >> construct & 1 == 1;
-            *answer = if single { 3 } else { 4 };
-        }
+    #[inline(always)]
+    pub fn write_levels(&self, out: &mut [u8]) -> Result<i64, u8> {
+        let length = self.size();
+        let result = out.get_mut(..length).ok_or(11u8)?;
+        result.copy_from_slice(&self.marks.levels[..length]);
+        Ok(length as i64)
     }
-    code[usize::from(MASTER_CLASS)] = 2;
-    code
 }

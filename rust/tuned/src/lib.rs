@@ -1,107 +1,111 @@
-//! The five calls written for speed: 64-bit masks for all barriers at once, no heap, no unsafe. They
-//! come by two methods. `Search` is the one of the proved library, which is measured against it;
-//! `Components` is faster on charts with many edges and tells less.
+//! The calls written for speed: the best Rust known for them, which the benchmark measures against. No
+//! heap, no unsafe code, no features of a processor beyond the target's own.
+//!
+//! With `LEVELS` a call also works out the fewest edges on a barrier-free path from any start to every
+//! node, whether it tells them or not, as the library's marking does.
+//!
+//! A set of barriers or constructs is one word, a set of nodes three. The node table is taken apart into
+//! bytes and sets, the edges are sorted once onto lists, marking sweeps these, the sheet works on sets of
+//! nodes. Tables that a node number indexes have 256 entries, those that a construct number indexes 64,
+//! so that no access needs a bounds check. All that a call does is inlined into it.
 
 #![forbid(unsafe_code)]
 
 mod answers;
-mod components;
-mod flow;
+mod bits;
+mod by_node;
+mod constructs;
+mod edges;
+mod levels;
 mod loops;
 mod marks;
-mod read;
-mod search;
+mod nodes;
+mod sheet;
+mod sweeps;
+mod tables;
 
-pub use components::Components;
-pub use marks::Method;
-pub use search::Search;
-
-use answers::Rules;
-use marks::Marks;
-use read::Chart;
+use answers::Marked;
+use constructs::Constructs;
+use edges::Edges;
+use marks::{Marks, Read};
+use nodes::Nodes;
+use tables::Tables;
 
 /// Admit: nodes + 256 × barriers + 65,536 × phases.
-pub fn admit<M: Method>(chart: &[u8]) -> i64 {
-    let (mut read, mut marks) = (Chart::new(), Marks::new());
-    number(read.read(chart).and_then(|()| {
-        M::find(&read, &mut marks, false)?;
-        let phases = i64::from(marks.count(read.nodes));
-        Ok((read.nodes + 256 * read.barrier_count) as i64 + 65_536 * phases)
-    }))
+#[inline(never)]
+pub fn admit<const LEVELS: bool>(chart: &[u8]) -> i64 {
+    with_marks::<false, LEVELS>(chart, |marked| Ok(marked.counts()))
 }
 
 /// Phases: starts and ends of each node, 8 bytes each.
-pub fn phases<M: Method>(chart: &[u8], out: &mut [u8]) -> i64 {
-    number(try_phases::<M>(chart, out))
+#[inline(never)]
+pub fn phases<const LEVELS: bool>(chart: &[u8], out: &mut [u8]) -> i64 {
+    with_marks::<false, LEVELS>(chart, |marked| marked.write_phases(out))
 }
 
 /// Pair: the answer for two nodes.
-pub fn pair<M: Method>(chart: &[u8], a: u64, b: u64) -> i64 {
-    number(try_pair::<M>(chart, a, b))
+#[inline(never)]
+pub fn pair<const LEVELS: bool>(chart: &[u8], a: usize, b: usize) -> i64 {
+    with_marks::<true, LEVELS>(chart, |marked| marked.pair(a, b))
 }
 
 /// Sheet: n rows of n answers.
-pub fn sheet<M: Method>(chart: &[u8], out: &mut [u8]) -> i64 {
-    number(try_sheet::<M>(chart, out))
+#[inline(never)]
+pub fn sheet<const LEVELS: bool>(chart: &[u8], out: &mut [u8]) -> i64 {
+    with_marks::<true, LEVELS>(chart, |marked| marked.write_sheet(out))
 }
 
 /// Judge: 0, or the index plus 1 of the first pair answered 0.
-pub fn judge<M: Method>(chart: &[u8], claims: &[u8]) -> i64 {
-    number(try_judge::<M>(chart, claims))
+#[inline(never)]
+pub fn judge<const LEVELS: bool>(chart: &[u8], claims: &[u8]) -> i64 {
+    with_marks::<true, LEVELS>(chart, |marked| marked.judge(claims))
+}
+
+/// The fewest edges on a barrier-free path from any start, a byte for each node; 255 for barriers.
+#[inline(never)]
+pub fn distances(chart: &[u8], out: &mut [u8]) -> i64 {
+    with_marks::<false, true>(chart, |marked| marked.write_levels(out))
+}
+
+/// Rows 1 to 10, then what is to be done with the marks; C's number.
+#[inline(always)]
+fn with_marks<const RULES: bool, const LEVELS: bool>(
+    chart: &[u8],
+    then: impl FnOnce(Marked) -> Result<i64, u8>,
+) -> i64 {
+    number((|| {
+        let tables = Tables::of(chart)?;
+        let mut constructs = Constructs::new();
+        let row_6 = !constructs.read(tables.constructs);
+        let mut nodes = Nodes::new();
+        nodes.read(&tables, &constructs, row_6)?;
+        let mut edges = Edges::new();
+        if !edges.read(&tables, &nodes) {
+            return Err(9);
+        }
+        // Tables are lent from here on: to move them costs as much as to fill them.
+        let read = Read {
+            tables,
+            nodes: &nodes,
+            constructs: &constructs,
+            edges: &edges,
+        };
+        let mut marks = Marks::new();
+        let sound = if RULES && constructs.returnable() != 0 {
+            marks.find::<true, LEVELS>(&read)
+        } else {
+            marks.find::<false, LEVELS>(&read)
+        };
+        if !sound {
+            return Err(10);
+        }
+        then(Marked {
+            read: &read,
+            marks: &marks,
+        })
+    })())
 }
 
 fn number(result: Result<i64, u8>) -> i64 {
     result.unwrap_or_else(|refusal| -i64::from(refusal))
-}
-
-fn try_phases<M: Method>(chart: &[u8], out: &mut [u8]) -> Result<i64, u8> {
-    let (mut read, mut marks) = (Chart::new(), Marks::new());
-    read.read(chart)?;
-    M::find(&read, &mut marks, false)?;
-    let length = 16 * read.nodes;
-    let records = out.get_mut(..length).ok_or(11u8)?.as_chunks_mut::<16>().0;
-    let masks = marks.starts.iter().zip(&marks.ends);
-    for (record, (starts, ends)) in records.iter_mut().zip(masks) {
-        record[..8].copy_from_slice(&starts.to_le_bytes());
-        record[8..].copy_from_slice(&ends.to_le_bytes());
-    }
-    Ok(length as i64)
-}
-
-fn try_pair<M: Method>(chart: &[u8], a: u64, b: u64) -> Result<i64, u8> {
-    let (mut read, mut marks) = (Chart::new(), Marks::new());
-    read.read(chart)?;
-    M::find(&read, &mut marks, true)?;
-    let node = |x: u64| match u8::try_from(x) {
-        Ok(x) if read.closed[usize::from(x)] == 0 => Ok(x),
-        _ => Err(13),
-    };
-    let (a, b) = (node(a)?, node(b)?);
-    Ok(Rules::of(&read, &marks).answer(a, b).into())
-}
-
-fn try_sheet<M: Method>(chart: &[u8], out: &mut [u8]) -> Result<i64, u8> {
-    let (mut read, mut marks) = (Chart::new(), Marks::new());
-    read.read(chart)?;
-    M::find(&read, &mut marks, true)?;
-    let result = out.get_mut(..read.nodes * read.nodes).ok_or(11u8)?;
-    Rules::of(&read, &marks).fill_sheet(result);
-    Ok((read.nodes * read.nodes) as i64)
-}
-
-fn try_judge<M: Method>(chart: &[u8], claims: &[u8]) -> Result<i64, u8> {
-    let (mut read, mut marks) = (Chart::new(), Marks::new());
-    read.read(chart)?;
-    M::find(&read, &mut marks, true)?;
-    let (pairs, odd) = claims.as_chunks::<2>();
-    if !odd.is_empty() {
-        return Err(12);
-    }
-    let closed = |x: &u8| read.closed[usize::from(*x)];
-    if claims.iter().fold(0, |wrong, x| wrong | closed(x)) != 0 {
-        return Err(13);
-    }
-    let rules = Rules::of(&read, &marks);
-    let failed = pairs.iter().position(|&[a, b]| rules.answer(a, b) == 0);
-    Ok(failed.map_or(0, |index| index as i64 + 1))
 }

@@ -1,73 +1,233 @@
-//! What the calls need of an admitted chart: starts and ends of its nodes and the constructs that
-//! return, by whichever method they were found.
+//! Row 10 and the marks of a chart: starts, ends, the constructs that return and, where they are asked
+//! for, levels.
 
-use crate::read::Chart;
+use crate::bits::{bits, Masks};
+use crate::constructs::Constructs;
+use crate::edges::{ends_of, Edges};
+use crate::levels::{self, Levels, AT_BARRIER, FAR};
+use crate::loops::Loops;
+use crate::nodes::Nodes;
+use crate::sweeps::{close_long, Swept, FEW};
+use crate::tables::Tables;
+use std::hint::black_box;
 
-/// How the marks of a chart are found.
-pub trait Method {
-    /// Fills the marks of a chart that refusals 1 to 9 do not apply to, or gives refusal 10. The
-    /// constructs that return are found where they are asked for.
-    fn find(chart: &Chart, marks: &mut Marks, returns: bool) -> Result<(), u8>;
+/// A chart that passed rows 1 to 9.
+pub struct Read<'a> {
+    pub tables: Tables<'a>,
+    pub nodes: &'a Nodes,
+    pub constructs: &'a Constructs,
+    pub edges: &'a Edges,
 }
 
-/// Masks by node; barriers have none. Bit c of `returns` for construct c.
+/// The marks of an admitted chart.
 pub struct Marks {
-    pub starts: [u64; 256],
-    pub ends: [u64; 256],
-    pub returns: u64,
+    /// 0 for a barrier and where there is no node; never 0 for another node, and so the next.
+    pub starts: Masks,
+    pub ends: Masks,
+    /// Of the exclusions, those that hold: without constructs that return.
+    pub kept: u64,
+    pub levels: Levels,
 }
 
 impl Marks {
-    #[inline]
+    #[inline(always)]
     pub fn new() -> Marks {
         Marks {
             starts: [0; 256],
             ends: [0; 256],
-            returns: 0,
+            kept: !0,
+            levels: [FAR; 256],
         }
     }
 
-    /// The number of distinct pairs of a start and an end that some node has. Neighbours often have
-    /// the same ones, which are then added once.
-    #[inline]
-    pub fn count(&self, nodes: usize) -> u32 {
-        let mut ends_of_start = [0u64; 64];
-        let mut last = (0, 0);
-        for (&starts, &ends) in self.starts.iter().zip(&self.ends).take(nodes) {
-            if starts == 0 || (starts, ends) == last {
-                continue;
-            }
-            last = (starts, ends);
-            let mut left = starts;
-            while left != 0 {
-                ends_of_start[left.trailing_zeros() as usize & 63] |= ends;
-                left &= left - 1;
+    /// Fills the marks; false if row 10 applies. With `LEFT` also the constructs that return.
+    #[inline(always)]
+    pub fn find<const LEFT: bool, const LEVELS: bool>(&mut self, read: &Read) -> bool {
+        let barriers = &read.nodes.barrier[..read.nodes.barriers];
+        self.seed(read.edges, barriers);
+        let mut left = [0u64; 256];
+        if LEFT {
+            for construct in bits(read.constructs.returnable()) {
+                left[usize::from(read.nodes.end[construct])] = 1 << construct;
             }
         }
-        ends_of_start.iter().map(|ends| ends.count_ones()).sum()
+        let measured = self.close::<LEFT, LEVELS>(read, &mut left);
+        if LEFT {
+            for construct in bits(read.constructs.returnable()) {
+                let begin = read.nodes.begin[construct];
+                self.kept &= !(left[usize::from(begin)] & 1 << construct);
+            }
+        }
+        if LEVELS {
+            if !measured {
+                levels::fill(&read.tables, read.nodes, read.edges, &mut self.levels);
+            }
+            for &barrier in barriers {
+                self.levels[usize::from(barrier)] = AT_BARRIER;
+            }
+            // Most calls do not look at them.
+            black_box(&self.levels);
+        }
+        self.all_on_paths(read)
+    }
+
+    /// The masks of nodes next to barriers; a barrier has its own bit as its end.
+    #[inline(always)]
+    fn seed(&mut self, edges: &Edges, barriers: &[u8]) {
+        let Marks { starts, ends, .. } = self;
+        for (number, &barrier) in barriers.iter().enumerate() {
+            ends[usize::from(barrier)] = 1 << number;
+        }
+        for &edge in edges.out() {
+            let (from, to) = ends_of(edge);
+            starts[usize::from(to)] |= ends[usize::from(from)];
+        }
+        for &edge in edges.into() {
+            let (from, to) = ends_of(edge);
+            ends[usize::from(from)] |= ends[usize::from(to)];
+        }
+    }
+
+    /// Closes the masks along the edges; whether the levels have been found with them.
+    #[inline(always)]
+    fn close<const LEFT: bool, const LEVELS: bool>(
+        &mut self,
+        read: &Read,
+        left: &mut Masks,
+    ) -> bool {
+        let edges = read.edges;
+        let two = read.nodes.barriers == 2 && edges.up().len() >= FEW;
+        let closed = if edges.up().len() < FEW {
+            let mut swept = Swept {
+                starts: &mut self.starts,
+                left,
+                ends: &mut self.ends,
+            };
+            swept.close::<LEFT>(edges)
+        } else {
+            let n = read.tables.nodes.len();
+            let marked = match two {
+                true => self.close_two::<LEVELS>(read),
+                false => {
+                    close_long::<false, true>(edges, &mut self.starts, n, None)
+                        && close_long::<true, true>(edges, &mut self.ends, n, None)
+                }
+            };
+            marked && (!LEFT || close_long::<false, false>(edges, left, n, None))
+        };
+        if !closed {
+            close_by_loops(
+                &read.tables,
+                &read.nodes.barrier[..read.nodes.barriers],
+                &mut self.starts,
+                &mut self.ends,
+                LEFT.then_some(left),
+            );
+        }
+        two
+    }
+
+    /// With two barriers, all nodes have the one start and the one end, or row 10 applies: no sweep is
+    /// needed once they have.
+    #[inline(always)]
+    fn close_two<const LEVELS: bool>(&mut self, read: &Read) -> bool {
+        let Marks {
+            starts,
+            ends,
+            levels,
+            ..
+        } = self;
+        let count = read.tables.nodes.len();
+        let last = count - 1;
+        let started = if LEVELS {
+            levels::search(&read.tables, read.nodes, levels);
+            for (mask, &level) in starts[..count].iter_mut().zip(&levels[..count]) {
+                *mask = u64::from(level < FAR);
+            }
+            true
+        } else {
+            (starts[0], starts[last]) = (1, 1);
+            close_long::<false, true>(read.edges, starts, count, Some(1))
+        };
+        (ends[0], ends[last]) = (2, 2);
+        let ended = started && close_long::<true, true>(read.edges, ends, count, Some(2));
+        (ends[0], ends[last]) = (1, 2);
+        ended
+    }
+
+    /// Row 10: each node has a start and an end, and each barrier is on a path from the first barrier to
+    /// the last. Then barriers lose their masks.
+    #[inline(always)]
+    fn all_on_paths(&mut self, read: &Read) -> bool {
+        let Marks { starts, ends, .. } = self;
+        let barriers = &read.nodes.barrier[..read.nodes.barriers];
+        // By barrier the barriers next on a path. All but the last have edges, or row 10 applies, so
+        // that they are met in their order.
+        let mut next = [0u64; 64];
+        let (mut met, mut all, mut before) = (usize::MAX, 0u64, 255u8);
+        for &edge in read.edges.out() {
+            let (from, to) = ends_of(edge);
+            let same = from == before;
+            met = met.wrapping_add(usize::from(!same));
+            all = if same { all } else { 0 } | ends[usize::from(to)];
+            next[met & 63] = all;
+            before = from;
+        }
+        for &barrier in barriers {
+            starts[usize::from(barrier)] = 1;
+        }
+        // The top bit of (x - 1) & !x says that x is 0.
+        let mut none = 0;
+        let n = read.tables.nodes.len();
+        for (&start, &end) in starts[..n].iter().zip(&ends[..n]) {
+            none |= (start.wrapping_sub(1) & !start) | (end.wrapping_sub(1) & !end);
+        }
+        for &barrier in barriers {
+            (starts[usize::from(barrier)], ends[usize::from(barrier)]) = (0, 0);
+        }
+        none >> 63 == 0
+            && met.wrapping_add(2) == barriers.len()
+            && all_joined(&next, barriers.len())
     }
 }
 
-/// Refusal 10, from masks in which barriers have theirs too: whether each barrier but the first is
-/// joined to it by paths between barriers, `number` giving the bit of each. The others come in the
-/// order in which they are likely to be joined.
-#[inline]
-pub fn all_joined(
-    mask: impl Fn(usize) -> u64,
-    first: usize,
-    others: impl Iterator<Item = usize> + Clone,
-) -> bool {
-    let mut joined = 1u64 << first;
+/// Whether each barrier is reached from the first and reaches the last.
+#[inline(always)]
+fn all_joined(next: &[u64; 64], count: usize) -> bool {
+    let all = u64::MAX >> (64 - count);
+    let (mut from, mut to) = (1u64, 1u64 << (count - 1));
     loop {
-        let before = joined;
-        let mut all = true;
-        for number in others.clone() {
-            let found = mask(number) & joined != 0;
-            joined |= u64::from(found) << number;
-            all &= found;
+        let before = (from, to);
+        for b in 0..count {
+            let more = from | next[b & 63];
+            from = if from >> b & 1 != 0 { more } else { from };
+            let p = count - 1 - b;
+            let more = to | 1 << p;
+            to = if next[p & 63] & to != 0 { more } else { to };
         }
-        if all || joined == before {
-            return all;
+        if from & to == all {
+            return true;
         }
+        if before == (from, to) {
+            return false;
+        }
+    }
+}
+
+/// Closes masks that sweeps have not closed.
+#[cold]
+#[inline(never)]
+fn close_by_loops(
+    tables: &Tables,
+    barriers: &[u8],
+    starts: &mut Masks,
+    ends: &mut Masks,
+    left: Option<&mut Masks>,
+) {
+    let loops = Loops::of(tables, barriers);
+    loops.close::<false>(starts);
+    loops.close::<true>(ends);
+    if let Some(left) = left {
+        loops.close::<false>(left);
     }
 }

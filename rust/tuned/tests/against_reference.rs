@@ -1,10 +1,10 @@
-//! The tuned calls give what the reference gives, on random charts of all kinds: numbers, written
-//! bytes, and bytes that must stay.
+//! The tuned calls give what the reference gives, with levels and without: numbers, written bytes,
+//! bytes that must stay, and the levels themselves, on random charts of all kinds and on those of the
+//! benchmark.
 
 use charts::random::Random;
 use charts::{benchmark, draw};
-use reference::calls;
-use tuned::{Components, Method, Search};
+use reference::{calls, distances};
 
 const FILL: u8 = 0xAA;
 
@@ -39,74 +39,93 @@ fn open_claims(random: &mut Random, chart: &[u8]) -> Vec<u8> {
     (0..length).map(|_| random.pick(&open)).collect()
 }
 
-fn assert_alike<M: Method>(chart: &[u8], seed: u64) {
+/// The calls that write, with results of all lengths around their own.
+fn assert_written<const LEVELS: bool>(chart: &[u8], nodes: usize, seed: u64) {
+    let writers: [(usize, Writer, Writer); 3] = [
+        (16 * nodes, tuned::phases::<LEVELS>, calls::phases),
+        (nodes * nodes, tuned::sheet::<LEVELS>, calls::sheet),
+        (nodes, tuned::distances, distances::write),
+    ];
+    for (result, tuned, reference) in writers {
+        for length in [0, result - 1, result, result + 9] {
+            assert_writes_alike(chart, length, tuned, reference, seed);
+        }
+    }
+}
+
+/// The calls about pairs, with node numbers of all kinds.
+fn assert_judged<const LEVELS: bool>(chart: &[u8], nodes: usize, seed: u64) {
     let mut random = Random::new(seed);
-    let number = calls::admit(chart);
-    assert_eq!(tuned::admit::<M>(chart), number, "seed {seed}");
-    let nodes = if number > 0 {
-        number as usize & 255
-    } else {
-        12
+    let pair = |a: usize, b: usize| {
+        let reference = calls::pair(chart, a as u64, b as u64);
+        assert_eq!(tuned::pair::<LEVELS>(chart, a, b), reference, "seed {seed}");
     };
-    for length in [0, 16 * nodes - 1, 16 * nodes, 16 * nodes + 9] {
-        assert_writes_alike(chart, length, tuned::phases::<M>, calls::phases, seed);
-    }
-    for length in [0, nodes * nodes - 1, nodes * nodes, nodes * nodes + 9] {
-        assert_writes_alike(chart, length, tuned::sheet::<M>, calls::sheet, seed);
-    }
+    let judge = |claims: &[u8]| {
+        let reference = calls::judge(chart, claims);
+        let tuned = tuned::judge::<LEVELS>(chart, claims);
+        assert_eq!(tuned, reference, "seed {seed}");
+    };
     for _ in 0..4 {
-        let node = |random: &mut Random| random.below(nodes + 1) as u64;
-        let (a, b) = (node(&mut random), node(&mut random));
-        assert_eq!(tuned::pair::<M>(chart, a, b), calls::pair(chart, a, b));
-        let claims = claims(&mut random, nodes);
-        assert_eq!(
-            tuned::judge::<M>(chart, &claims),
-            calls::judge(chart, &claims)
-        );
+        pair(random.below(nodes + 1), random.below(nodes + 1));
+        judge(&claims(&mut random, nodes));
     }
-    for beyond in [192, 255, 256, 257, u64::MAX] {
-        assert_eq!(
-            tuned::pair::<M>(chart, 1, beyond),
-            calls::pair(chart, 1, beyond)
-        );
+    for beyond in [192, 255, 256, 257, usize::MAX] {
+        pair(1, beyond);
+        pair(beyond, 1);
     }
-    if number > 0 {
-        let claims = open_claims(&mut random, chart);
-        assert_eq!(
-            tuned::judge::<M>(chart, &claims),
-            calls::judge(chart, &claims)
-        );
+    if calls::admit(chart) > 0 {
+        judge(&open_claims(&mut random, chart));
     }
+}
+
+fn assert_alike<const LEVELS: bool>(chart: &[u8], seed: u64) {
+    let number = calls::admit(chart);
+    assert_eq!(tuned::admit::<LEVELS>(chart), number, "seed {seed}");
+    let nodes = match number {
+        1.. => number as usize & 255,
+        _ => 12,
+    };
+    assert_written::<LEVELS>(chart, nodes, seed);
+    assert_judged::<LEVELS>(chart, nodes, seed);
 }
 
 #[test]
 fn drawn_charts() {
     for seed in 0..3_000 {
         let (_, chart) = draw(&mut Random::new(seed));
-        assert_alike::<Search>(&chart, seed);
-        assert_alike::<Components>(&chart, seed);
+        assert_alike::<true>(&chart, seed);
+        assert_alike::<false>(&chart, seed);
     }
 }
 
 #[test]
-fn admit_on_many_charts() {
+fn admit_and_levels_on_many_charts() {
     let mut random = Random::new(77);
     for index in 0..60_000 {
         let (source, chart) = draw(&mut random);
         let reference = calls::admit(&chart);
-        for tuned in [
-            tuned::admit::<Search>(&chart),
-            tuned::admit::<Components>(&chart),
-        ] {
+        for tuned in [tuned::admit::<true>(&chart), tuned::admit::<false>(&chart)] {
             assert_eq!(tuned, reference, "draw {index}, {source:?}");
         }
+        assert_writes_alike(&chart, 192, tuned::distances, distances::write, index);
+    }
+}
+
+/// Dense charts with few barriers and with many: long lists of edges, and every way to the levels.
+#[test]
+fn large_charts() {
+    for seed in 0..150 {
+        let chart = charts::large(&mut Random::new(seed));
+        assert_alike::<true>(&chart, seed);
+        assert_alike::<false>(&chart, seed);
     }
 }
 
 #[test]
 fn benchmark_charts() {
-    for (seed, (_, chart)) in benchmark::all().into_iter().enumerate() {
-        assert_alike::<Search>(&chart, seed as u64);
-        assert_alike::<Components>(&chart, seed as u64);
+    let each = benchmark::all().into_iter().map(|(_, chart)| chart);
+    for (seed, chart) in each.chain(benchmark::in_turn()).enumerate() {
+        assert_alike::<true>(&chart, seed as u64);
+        assert_alike::<false>(&chart, seed as u64);
     }
 }

@@ -3,11 +3,8 @@
 
 use bench::before::BEFORE;
 use bench::calls::LIBRARY;
-use bench::subject::Subject;
-use bench::table::Table;
+use bench::table;
 
 fn main() {
-    println!("the library, and its time by that of the library before");
-    let subjects = Subject::each();
-    Table::of(&subjects, [("now", LIBRARY), ("before", BEFORE)]).print(&subjects);
+    table::print([("Now", LIBRARY), ("before", BEFORE)]);
 }

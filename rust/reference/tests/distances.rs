@@ -1,0 +1,39 @@
+//! Distances of charts that can be checked by eye, and the call that writes them.
+
+use reference::distances::{distances, write};
+use reference::known::*;
+use reference::refusals::decode_checked;
+
+const FILL: u8 = 0xAA;
+
+fn of(chart: &[u8]) -> Vec<u8> {
+    distances(&decode_checked(chart).expect("an admitted chart"))
+}
+
+#[test]
+fn known_charts() {
+    assert_eq!(of(&chart_k()), [255, 1, 255, 1, 255]);
+    assert_eq!(of(&row(2, 2)), [255, 255]);
+    // the way on from a barrier counts from there
+    assert_eq!(of(&chart_s_through_barrier()), [255, 1, 2, 3, 255, 255]);
+    let figure = [255, 1, 255, 255, 1, 1, 2, 3, 3, 255, 255, 1, 255];
+    assert_eq!(of(&figure_2b()), figure);
+}
+
+#[test]
+fn the_longest_path() {
+    let mut expected: Vec<u8> = (0..=191).collect();
+    (expected[0], expected[191]) = (255, 255);
+    assert_eq!(of(&row(192, 2)), expected);
+}
+
+#[test]
+fn the_call_writes_its_result_alone() {
+    let mut out = [FILL; 9];
+    assert_eq!(write(&chart_k(), &mut out), 5);
+    assert_eq!(out, [255, 1, 255, 1, 255, FILL, FILL, FILL, FILL]);
+    let mut short = [FILL; 4];
+    assert_eq!(write(&chart_k(), &mut short), -11);
+    assert_eq!(write(&chart_k()[1..], &mut short), -4);
+    assert_eq!(short, [FILL; 4]);
+}

@@ -1,0 +1,128 @@
+//! Row 6, and what the construct table says.
+
+use crate::tables::{Record, NONE};
+
+const SINGLE: u8 = 1;
+const MASTER: u8 = 2;
+const CRITICAL: u8 = 3;
+const DO: u8 = 4;
+const ORDERED: u8 = 5;
+
+/// By kind, the kinds that may be above, bit k for kind k.
+const ABOVE: [u8; 8] = [0, 0, 1 << CRITICAL, 0b11_1110, 0, 1 << DO, 0, 0];
+
+/// The bit of an exclusion that all masters share; constructs have bits 0 to 47.
+pub const ANY_MASTER: u64 = 1 << 63;
+
+/// The entry of a construct, or of none: 255 falls on 63, which no construct has.
+#[inline(always)]
+pub fn at(construct: u8) -> usize {
+    usize::from(construct & 63)
+}
+
+/// What the construct table says, by construct.
+pub struct Constructs {
+    pub parent: [u8; 64],
+    /// Of a node that lies there: the masters' bit, the single around it, or the do of the ordered
+    /// around it. The nesting table leaves at most one.
+    pub excludes: [u64; 64],
+    pub count: usize,
+    pub singles: u64,
+    /// Dos that have an ordered.
+    pub dos: u64,
+}
+
+/// What is above a construct, itself included.
+struct Above {
+    kinds: [u8; 64],
+    /// Bits of the names of criticals; two names may share one.
+    names: [u64; 64],
+}
+
+impl Constructs {
+    #[inline(always)]
+    pub fn new() -> Constructs {
+        Constructs {
+            parent: [NONE; 64],
+            excludes: [0; 64],
+            count: 0,
+            singles: 0,
+            dos: 0,
+        }
+    }
+
+    /// Constructs whose return takes an exclusion away.
+    #[inline(always)]
+    pub fn returnable(&self) -> u64 {
+        self.singles | self.dos
+    }
+
+    /// Reads the table; false if row 6 applies.
+    #[inline(always)]
+    pub fn read(&mut self, table: &[Record]) -> bool {
+        self.count = table.len();
+        let mut above = Above {
+            kinds: [0; 64],
+            names: [0; 64],
+        };
+        for (number, record) in table.iter().enumerate() {
+            if !above.allow(table, number, record) {
+                return false;
+            }
+            let &[kind, parent, ..] = record;
+            let own = match kind {
+                SINGLE => 1 << number,
+                MASTER => ANY_MASTER,
+                ORDERED => 1 << at(parent),
+                _ => 0,
+            };
+            self.parent[number & 63] = parent;
+            self.excludes[number & 63] = self.excludes[at(parent)] | own;
+            self.singles |= if kind == SINGLE { own } else { 0 };
+            self.dos |= if kind == ORDERED { own } else { 0 };
+        }
+        true
+    }
+}
+
+impl Above {
+    /// Whether a construct is in order below those before it, which are.
+    #[inline(always)]
+    fn allow(&mut self, table: &[Record], number: usize, record: &Record) -> bool {
+        let &[kind, parent, low, high] = record;
+        let critical = kind == CRITICAL;
+        let outer = at(parent);
+        let orphan = kind == ORDERED
+            && table
+                .get(usize::from(parent))
+                .is_none_or(|above| above[0] != DO);
+        if kind.wrapping_sub(1) > 4
+            || (parent != NONE && usize::from(parent) >= number)
+            || (!critical && low | high != 0)
+            || self.kinds[outer] & !ABOVE[usize::from(kind & 7)] != 0
+            || orphan
+        {
+            return false;
+        }
+        let name = if critical { 1u64 << (low & 63) } else { 0 };
+        // Names that share a bit are looked at.
+        if self.names[outer] & name != 0 && repeats_name(table, record) {
+            return false;
+        }
+        self.kinds[number & 63] = self.kinds[outer] | 1 << kind;
+        self.names[number & 63] = self.names[outer] | name;
+        true
+    }
+}
+
+/// Whether a critical is below one of the same name; all parents are lower.
+fn repeats_name(table: &[Record], critical: &Record) -> bool {
+    let mut above = critical[1];
+    while let Some(&[kind, parent, low, high]) = table.get(usize::from(above)) {
+        if kind == CRITICAL && [low, high] == [critical[2], critical[3]] {
+            return true;
+        }
+        above = parent;
+    }
+    false
+}

@@ -1,0 +1,123 @@
+//! The fewest edges on a barrier-free path from any start, by sweeps or by one search.
+
+use crate::by_node::ByNode;
+use crate::edges::{ends_of, Edge, Edges};
+use crate::nodes::Nodes;
+use crate::sweeps::{FEW, MOST};
+use crate::tables::Tables;
+
+/// The fewest edges to each node, `FAR` while there is no path.
+pub type Levels = [u8; 256];
+pub const FAR: u8 = 254;
+pub const AT_BARRIER: u8 = 255;
+
+/// With more falling edges than this, and so many times as many edges between nodes that are no barriers
+/// as out of barriers, a search is faster; else sweeps, which find low levels soon.
+const FALLING: usize = 24;
+const FAR_OFF: usize = 4;
+
+/// Fills the levels of nodes that are no barriers.
+#[inline(always)]
+pub fn fill(t: &Tables, nodes: &Nodes, edges: &Edges, levels: &mut Levels) {
+    let (up, down, out) = (edges.up(), edges.down(), edges.out());
+    if down.len() > FALLING && up.len() + down.len() > FAR_OFF * out.len() {
+        search(t, nodes, levels);
+        return;
+    }
+    for &edge in out {
+        levels[usize::from(ends_of(edge).1)] = 1;
+    }
+    sweep(up, levels);
+    let mut met = 0;
+    while sweep(down, levels) && sweep(up, levels) {
+        met += up.len() + down.len();
+        if met > MOST {
+            levels.fill(FAR);
+            search(t, nodes, levels);
+            return;
+        }
+    }
+}
+
+/// Sweeps a list; whether a level has changed.
+#[inline(always)]
+fn sweep(list: &[Edge], levels: &mut Levels) -> bool {
+    let mut new = 0;
+    if list.len() < FEW {
+        // As with masks: the level written last stays at hand.
+        let (mut node, mut level) = (255, 0);
+        for &edge in list {
+            let (from, to) = ends_of(edge);
+            let (old, read) = (levels[usize::from(to)], levels[usize::from(from)]);
+            level = (if from == node { level } else { read } + 1).min(old);
+            node = to;
+            levels[usize::from(to)] = level;
+            new |= level ^ old;
+        }
+    } else {
+        for &edge in list {
+            let (from, to) = ends_of(edge);
+            let old = levels[usize::from(to)];
+            let level = (levels[usize::from(from)] + 1).min(old);
+            levels[usize::from(to)] = level;
+            new |= level ^ old;
+        }
+    }
+    new != 0
+}
+
+/// A queue of nodes to go on from, each once.
+struct Queue {
+    nodes: [u8; 256],
+    tail: usize,
+}
+
+impl Queue {
+    /// Gives a node its level and queues it, if `own` and it has none yet; no branch.
+    #[inline(always)]
+    fn visit(&mut self, levels: &mut Levels, node: u8, level: u8, own: bool) {
+        let old = levels[usize::from(node)];
+        self.nodes[self.tail & 255] = node;
+        self.tail += usize::from((old == FAR) & own);
+        levels[usize::from(node)] = if own { old.min(level) } else { old };
+    }
+}
+
+/// One search from all barriers, breadth first. Barriers get level 0.
+#[inline(always)]
+pub fn search(t: &Tables, nodes: &Nodes, levels: &mut Levels) {
+    let by_node = ByNode::of(t);
+    let mut queue = Queue {
+        nodes: [0; 256],
+        tail: nodes.barriers,
+    };
+    let barriers = &nodes.barrier[..nodes.barriers];
+    for (place, &barrier) in queue.nodes.iter_mut().zip(barriers) {
+        *place = barrier;
+        levels[usize::from(barrier)] = 0;
+    }
+    let dense = t.edges.len() > 3 * t.nodes.len();
+    let mut head = 0;
+    while head < queue.tail {
+        let node = queue.nodes[head & 255];
+        let level = levels[usize::from(node)] + 1;
+        let (own, count) = by_node.from(node);
+        match own.first_chunk::<8>() {
+            // Most nodes have no more than eight: no branch on how many.
+            Some(eight) if dense => {
+                for (i, &[_, to]) in eight.iter().enumerate() {
+                    queue.visit(levels, to, level, i < count);
+                }
+                for &[_, to] in own[..count].iter().skip(8) {
+                    queue.visit(levels, to, level, true);
+                }
+            }
+            _ => {
+                for &[_, to] in &own[..count] {
+                    queue.visit(levels, to, level, true);
+                }
+            }
+        }
+        head += 1;
+    }
+}
