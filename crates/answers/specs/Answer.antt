@@ -1,12 +1,12 @@
 -- The pair rules (01: "Phases and pair rules"): the answer for two nodes, which may be equal, by computation. It is asked for nodes that are
 -- no barriers. What it means is in specs/AnswerLaws.antt.
 -- Assumes nothing.
-use mathlib.Core.Bool.{Bool, _&&_, _||_, not, cond}
+use mathlib.Core.Bool.{Bool, false, _&&_, _||_, not, cond}
 use Prim.Native.Nat.{ℕ}
 use lib.Dec.{eqb}
 use Rattle.lists.specs.Truth.{is}
 use Rattle.lists.specs.Range.{any}
-use Rattle.chart.specs.Region.{Kind, Kind-discrete, single, master, ordered, Region}
+use Rattle.chart.specs.Region.{Role, plain, barrier, opens, closes, Kind, Kind-discrete, single, master, ordered, section, Region}
 use Rattle.paths.specs.Decide.{returns}
 use Rattle.phases.specs.Phases.{Direction, forward, backward, isBoundary}
 
@@ -17,6 +17,17 @@ isIn R kind x c = is (Kind-discrete (R .kind c) kind) && R .inside x c
 -- x is inside an ordered of the do d.
 unfoldable pub inOrderedOf : Region → ℕ → ℕ → Bool
 inOrderedOf R x d = any (R .constructs) (λ o. isIn R ordered x o && eqb (R .parent o) d)
+
+-- A node of this role is the begin or the end of c.
+abbrev pub frames : Role → ℕ → Bool
+frames plain c = false
+frames barrier c = false
+frames (opens d) c = eqb d c
+frames (closes d) c = eqb d c
+
+-- x is inside the section s, whose begin and end count as inside (02, Note 1).
+unfoldable pub inSection : Region → ℕ → ℕ → Bool
+inSection R x s = is (Kind-discrete (R .kind s) section) && (R .inside x s || frames (R .role x) s)
 
 -- No barrier is a start of a and of b; backward: an end.
 unfoldable pub noCommon : Direction → Region → ℕ → ℕ → Bool
@@ -39,6 +50,10 @@ bothInSingle R a b = any (R .constructs) (λ c. (isIn R single a c && isIn R sin
 unfoldable pub bothInOrdereds : Region → ℕ → ℕ → Bool
 bothInOrdereds R a b = any (R .constructs) (λ d. (inOrderedOf R a d && inOrderedOf R b d) && not (returns R d))
 
+-- Rule 5 (02, Note 1): both inside one section, whose sections construct does not return.
+unfoldable pub bothInSection : Region → ℕ → ℕ → Bool
+bothInSection R a b = any (R .constructs) (λ s. (inSection R a s && inSection R b s) && not (returns R (R .parent s)))
+
 -- The number of the first rule that applies: a reason why the nodes are never concurrent (01: never). 0 otherwise (01: they may meet).
 unfoldable pub answer : Region → ℕ → ℕ → ℕ
 answer R a b =
@@ -46,4 +61,5 @@ answer R a b =
     (cond (bothInMasters R a b) 2
     (cond (bothInSingle R a b) 3
     (cond (bothInOrdereds R a b) 4
-    0)))
+    (cond (bothInSection R a b) 5
+    0))))

@@ -1,33 +1,55 @@
 -- What an answer means: its rule is the first whose condition holds, and 0 is left to exactly the pairs that no rule excludes. An answer is at
--- most 4, and the same both ways round.
+-- most 5, and the same both ways round.
 -- Assumes nothing.
 use mathlib.Core.Path.{_≡_, refl, ap, sym, _∙_, subst}
 use mathlib.Core.Logic.{_⊎_, inl, inr, _↔_}
-use mathlib.Core.Bool.{Bool, true, false, _&&_, cond}
+use mathlib.Core.Bool.{Bool, true, false, _&&_, _||_, cond}
 use mathlib.Core.List.{List}
 use Prim.Native.Nat.{ℕ, suc, _≤_, _<_}
 use native.Mathlib.Omega.{arith}
 use native.Mathlib.Decide.{decLt}
 use lib.Dec.{eqb}
-use Rattle.lists.specs.Truth.{clash, truth, is-true, true-is}
+use borrow.Author.Tests.{eqb-true, eq-eqb}
+use Rattle.lists.specs.Truth.{bad, clash, truth, is, is-true, true-is}
 use Rattle.lists.specs.Means.{both-of, either-of, not-of, unless, some-of, equal-of}
 use Rattle.lists.specs.Range.{any}
 use Rattle.chart.specs.Format.{decode}
-use Rattle.chart.specs.Region.{Kind, Kind-discrete, single, master, ordered, Region}
+use Rattle.chart.specs.Region.{Role, plain, barrier, opens, closes, Kind, Kind-discrete, single, master, ordered, section, Region}
 use Rattle.chart.specs.Reading.{region}
 use Rattle.chart.specs.InOrdered.{InOrdered}
+use Rattle.chart.specs.InSection.{InSection}
 use Rattle.chart.specs.WellFormed.{WellFormed}
+use Rattle.chart.proofs.Sections.{section-below}
 use Rattle.phases.specs.Phases.{Direction, forward, backward, Boundary, isBoundary}
 use Rattle.phases.specs.PhasesLaws.{boundary-means, returns-means}
-use Rattle.answers.specs.Answer.{isIn, inOrderedOf, noCommon, noCommonPhase, bothInMasters, bothInSingle, bothInOrdereds, answer}
-use Rattle.answers.specs.Unexcluded.{Returns, Common, In, Rule, by-phase, by-master, by-single, by-ordered, number, Excludes, First, first, none, Answers, Unexcluded}
+use Rattle.answers.specs.Answer.{isIn, inOrderedOf, frames, inSection, noCommon, noCommonPhase, bothInMasters, bothInSingle, bothInOrdereds, bothInSection, answer}
+use Rattle.answers.specs.Unexcluded.{Returns, Common, In, Rule, by-phase, by-master, by-single, by-ordered, by-section, number, Excludes, First, first, none, Answers, Unexcluded}
 
 in-of : (R : Region) (kind : Kind) (x c : ℕ) → (isIn R kind x c ≡ true) ↔ In R kind x c
 unfolding isIn
 in-of R kind x c = both-of (is-true (Kind-discrete (R .kind c) kind), true-is (Kind-discrete (R .kind c) kind)) ((λ h. h), λ h. h)
 
+-- A node of this role is the begin of c, or the end.
+frames-of : (r : Role) (c : ℕ) → (frames r c ≡ true) ↔ ((r ≡ opens c) ⊎ (r ≡ closes c))
+frames-of plain c = ((λ h. absurd (bad (cc))), λ h. elim h [ inl q ↦ absurd (bad (cc)) | inr q ↦ absurd (bad (cc)) ])
+frames-of barrier c = ((λ h. absurd (bad (cc))), λ h. elim h [ inl q ↦ absurd (bad (cc)) | inr q ↦ absurd (bad (cc)) ])
+frames-of (opens d) c = ((λ h. inl (ap opens (eqb-true d c h))), λ h. elim h [ inl q ↦ eq-eqb d c (cc) | inr q ↦ absurd (bad (cc)) ])
+frames-of (closes d) c = ((λ h. inr (ap closes (eqb-true d c h))), λ h. elim h [ inl q ↦ absurd (bad (cc)) | inr q ↦ eq-eqb d c (cc) ])
+
+pub in-section-of : (R : Region) (x s : ℕ) → (inSection R x s ≡ true) ↔ InSection R x s
+unfolding inSection
+in-section-of R x s = (
+  (λ h. let (k, i) = parts .0 h in record { is-section = k; within = i }),
+  λ h. parts .1 (h .is-section, h .within),
+)
+  where
+    parts : ((is (Kind-discrete (R .kind s) section) && (R .inside x s || frames (R .role x) s)) ≡ true)
+        ↔ ((R .kind s ≡ section) × ((R .inside x s ≡ true) ⊎ ((R .role x ≡ opens s) ⊎ (R .role x ≡ closes s))))
+    parts = both-of (is-true (Kind-discrete (R .kind s) section), true-is (Kind-discrete (R .kind s) section))
+        (either-of ((λ h. h), λ h. h) (frames-of (R .role x) s))
+
 unfoldable ruleOf : ℕ → Rule
-ruleOf k = cond (eqb k 1) by-phase (cond (eqb k 2) by-master (cond (eqb k 3) by-single by-ordered))
+ruleOf k = cond (eqb k 1) by-phase (cond (eqb k 2) by-master (cond (eqb k 3) by-single (cond (eqb k 4) by-ordered by-section)))
 
 one-rule : (r s : Rule) → number r ≡ number s → r ≡ s
 unfolding ruleOf
@@ -38,12 +60,14 @@ one-rule r s e = sym (back r) ∙ ap ruleOf e ∙ back s
     back by-master = refl
     back by-single = refl
     back by-ordered = refl
+    back by-section = refl
 
 number-some : (r : Rule) → number r ≡ 0 → ⊥
 number-some by-phase e = omega arith
 number-some by-master e = omega arith
 number-some by-single e = omega arith
 number-some by-ordered e = omega arith
+number-some by-section e = omega arith
 
 -- None of the rules numbered below k has its condition.
 abbrev None : (Rule → Type 0) → ℕ → Type 0
@@ -88,6 +112,7 @@ swap R a b by-phase (d, n) = (d, λ h. n (h .0, (h .1 .1, h .1 .0)))
 swap R a b by-master (c, (d, ((x, y), e))) = (d, (c, ((y, x), sym e)))
 swap R a b by-single (c, ((x, y), n)) = (c, ((y, x), n))
 swap R a b by-ordered (d, ((x, y), n)) = (d, ((y, x), n))
+swap R a b by-section (s, ((x, y), n)) = (s, ((y, x), n))
 
 first-swap : (R : Region) (a b : ℕ) {v : ℕ} → First (Excludes R a b) v → First (Excludes R b a) v
 first-swap R a b (first r p f) = first r (swap R a b r p) (λ s l q. f s l (swap R b a s q))
@@ -147,6 +172,11 @@ module _ {R : Region} (W : WellFormed R) where
     ordereds-of = some-of (R .constructs) _ (λ d. (InOrdered R a d × InOrdered R b d) × (Returns R d → ⊥))
         (λ d. both-of (both-of (ordered-of a d) (ordered-of b d)) (not-of (returns-means R W d))) (λ d h. do-below (h .0 .0))
 
+    pub section-of : (bothInSection R a b ≡ true) ↔ Excludes R a b by-section
+    unfolding bothInSection
+    section-of = some-of (R .constructs) _ (λ s. (InSection R a s × InSection R b s) × (Returns R (R .parent s) → ⊥))
+        (λ s. both-of (both-of (in-section-of R a s) (in-section-of R b s)) (not-of (returns-means R W (R .parent s)))) (λ s h. section-below W (h .0 .0))
+
     -- What is computed is the answer, and nothing else is.
     pub answer-first : Answers R a b (answer R a b)
     unfolding answer
@@ -155,13 +185,15 @@ module _ {R : Region} (W : WellFormed R) where
         (λ f. first-test by-master masters-of f
         (λ f. first-test by-single single-of f
         (λ f. first-test by-ordered ordereds-of f
-        (λ f. none (λ r. f r (number-most r))))))
+        (λ f. first-test by-section section-of f
+        (λ f. none (λ r. f r (number-most r)))))))
       where
-        number-most : (r : Rule) → number r < 5
+        number-most : (r : Rule) → number r < 6
         number-most by-phase = omega arith
         number-most by-master = omega arith
         number-most by-single = omega arith
         number-most by-ordered = omega arith
+        number-most by-section = omega arith
 
     pub answers-only : {k : ℕ} → Answers R a b k → k ≡ answer R a b
     answers-only A = first-unique A answer-first
@@ -184,6 +216,7 @@ module _ {R : Region} (W : WellFormed R) where
           masters = λ c d k l i j q. f by-master (c, (d, (((k, i), (l, j)), q)));
           singles = λ c k i j. unless _ (returns-means R W c) (λ n. f by-single (c, (((k, i), (k, j)), n)));
           ordereds = λ d x y. unless _ (returns-means R W d) (λ n. f by-ordered (d, ((x, y), n)));
+          sections = λ s x y. unless _ (returns-means R W (R .parent s)) (λ n. f by-section (s, ((x, y), n)));
         }
 
         closed : Unexcluded R a b → (r : Rule) → Excludes R a b r → ⊥
@@ -191,6 +224,7 @@ module _ {R : Region} (W : WellFormed R) where
         closed D by-master (c, (d, ((x, y), e))) = D .masters c d (x .0) (y .0) (x .1) (y .1) e
         closed D by-single (c, ((x, y), n)) = n (D .singles c (x .0) (x .1) (y .1))
         closed D by-ordered (d, ((x, y), n)) = n (D .ordereds d x y)
+        closed D by-section (s, ((x, y), n)) = n (D .sections s x y)
 
   pub answer-symmetric : (a b : ℕ) → answer R a b ≡ answer R b a
   answer-symmetric a b = first-unique (first-swap R a b (answer-first a b)) (answer-first b a)
@@ -199,11 +233,12 @@ cond-most : (b : Bool) (x y : ℕ) {n : ℕ} → x ≤ n → y ≤ n → cond b 
 cond-most true x y h k = h
 cond-most false x y h k = k
 
-pub answer-most : (R : Region) (a b : ℕ) → answer R a b ≤ 4
+pub answer-most : (R : Region) (a b : ℕ) → answer R a b ≤ 5
 unfolding answer
 answer-most R a b =
     cond-most (noCommonPhase R a b) 1 _ (omega arith) (cond-most (bothInMasters R a b) 2 _ (omega arith)
-    (cond-most (bothInSingle R a b) 3 _ (omega arith) (cond-most (bothInOrdereds R a b) 4 0 (omega arith) (omega arith))))
+    (cond-most (bothInSingle R a b) 3 _ (omega arith) (cond-most (bothInOrdereds R a b) 4 _ (omega arith)
+    (cond-most (bothInSection R a b) 5 0 (omega arith) (omega arith)))))
 
 -- Rule 2 where all masters have one thread number, as in a chart of edition 1: each node is inside some master.
 pub any-masters : (R : Region) → ((c : ℕ) → R .thread c ≡ 0) → (a b : ℕ)

@@ -17,7 +17,7 @@ use Rattle.paths.specs.Reach.{marks?, marks, reaches}
 use Rattle.paths.specs.Decide.{reachesFree, reachesAny, returns}
 use Rattle.paths.specs.Admission.{cutOff, badPaths, admitRows}
 use Rattle.phases.specs.Phases.{isBoundary}
-use Rattle.answers.specs.Answer.{isIn, inOrderedOf, noCommon, noCommonPhase, bothInMasters, bothInSingle, bothInOrdereds, answer}
+use Rattle.answers.specs.Answer.{isIn, inOrderedOf, inSection, noCommon, noCommonPhase, bothInMasters, bothInSingle, bothInOrdereds, bothInSection, answer}
 
 -- The bytes of records: the four kinds of nodes, an edge, a construct. Tags and names are 0.
 abbrev barrier : List ℕ
@@ -109,7 +109,7 @@ computed e = (firstOf (admitRows (e .bytes)), answer (region (decode (e .bytes))
 
 -- Every chart of the list is admitted, and every answer is 01's.
 pub starred-answers : map computed starred ≡ map (λ e. (none, e .gives)) starred
-unfolding starred computed answer bothInOrdereds bothInSingle bothInMasters noCommonPhase noCommon inOrderedOf isIn returns isBoundary
+unfolding starred computed answer bothInSection bothInOrdereds bothInSingle bothInMasters noCommonPhase noCommon inOrderedOf inSection isIn returns isBoundary
     admitRows badPaths cutOff reachesAny reachesFree reaches marks marks? chartRows tableRows trailerRows firstOf badEdges badEdgeAt rises badEdge badBarriers
     isBarrier badFrames badFrame framesIn badConstructs badAlone badConstruct badNodes badNodeAt badNode badLengths badCounts badMarks
     misnested strayOrdered wronglyAbove excluded sameCritical mayEnclose edgeIn insideAt frameOf scopeAt liesAt roleAt parentOf encloses scope liesIn kindOf

@@ -7,6 +7,7 @@ use mathlib.Core.Bool.{true}
 use Prim.Native.Nat.{ℕ, _<_}
 use Rattle.chart.specs.Region.{Kind, single, master, Region}
 use Rattle.chart.specs.InOrdered.{InOrdered}
+use Rattle.chart.specs.InSection.{InSection}
 use Rattle.paths.specs.Path.{BarrierFree}
 use Rattle.phases.specs.Phases.{Direction, Boundary}
 
@@ -22,15 +23,16 @@ Common Of a b = (s : ℕ) × (Of a s × Of b s)
 abbrev pub In : Region → Kind → ℕ → ℕ → Type 0
 In R kind x c = (R .kind c ≡ kind) × (R .inside x c ≡ true)
 
--- The rules, with their numbers in 01's list, which are also the answers.
+-- The rules, with their numbers in 01's list, which are also the answers; the fifth is 02's (Note 1).
 pub data Rule : Type 0 where
-  by-phase by-master by-single by-ordered : Rule
+  by-phase by-master by-single by-ordered by-section : Rule
 
 abbrev pub number : Rule → ℕ
 number by-phase = 1
 number by-master = 2
 number by-single = 3
 number by-ordered = 4
+number by-section = 5
 
 -- The condition of each rule by itself, whether or not that of an earlier rule holds too. Of rule 1: no common start (forward), or no
 -- common end (backward).
@@ -39,6 +41,7 @@ Excludes R a b by-phase = (d : Direction) × (Common (Boundary d R) a b → ⊥)
 Excludes R a b by-master = (c : ℕ) × ((d : ℕ) × ((In R master a c × In R master b d) × (R .thread c ≡ R .thread d)))
 Excludes R a b by-single = (c : ℕ) × ((In R single a c × In R single b c) × (Returns R c → ⊥))
 Excludes R a b by-ordered = (d : ℕ) × ((InOrdered R a d × InOrdered R b d) × (Returns R d → ⊥))
+Excludes R a b by-section = (s : ℕ) × ((InSection R a s × InSection R b s) × (Returns R (R .parent s) → ⊥))
 
 -- The number of the first rule whose condition P holds, and 0 where none does.
 pub data First (P : Rule → Type 0) : ℕ → Type 0 where
@@ -59,3 +62,5 @@ pub record Unexcluded (R : Region) (a b : ℕ) : Type 0 where
   pub singles : (c : ℕ) → R .kind c ≡ single → R .inside a c ≡ true → R .inside b c ≡ true → Returns R c
   -- rule 4: a do with both inside its ordereds returns
   pub ordereds : (d : ℕ) → InOrdered R a d → InOrdered R b d → Returns R d
+  -- rule 5: the sections construct of a section with both inside returns
+  pub sections : (s : ℕ) → InSection R a s → InSection R b s → Returns R (R .parent s)

@@ -4,12 +4,13 @@ use mathlib.Core.Path.{_≡_, refl, ap, sym, _∙_, subst}
 use mathlib.Core.Logic.{_⊎_, inl, inr}
 use mathlib.Core.Bool.{true, false}
 use Prim.Native.Nat.{ℕ}
-use Rattle.lists.specs.Truth.{clash, false-if, same-truth}
-use Rattle.chart.specs.Region.{opens, Kind, single, master, critical, loop, ordered, Outermost, Region}
+use Rattle.lists.specs.Truth.{bad, clash, false-if, same-truth}
+use Rattle.chart.specs.Region.{opens, closes, Kind, single, master, critical, loop, ordered, sections, section, Outermost, Region}
+use Rattle.chart.specs.InSection.{SectionOf, InSection}
 use Rattle.chart.specs.Scope.{Encloses, here}
 use Rattle.chart.specs.Nesting.{mayEnclose}
 use Rattle.chart.specs.WellFormed.{WellFormed}
-use Rattle.chart.proofs.Tree.{linear, higher}
+use Rattle.chart.proofs.Tree.{linear, higher, step-below}
 use Rattle.chart.proofs.Reading.{Frame, begin, end, marks, Reads}
 
 outermost-alone : (kind above : Kind) → Outermost kind → mayEnclose kind above ≡ false
@@ -19,6 +20,18 @@ outermost-alone master above u = absurd u
 outermost-alone critical above u = absurd u
 outermost-alone loop above u = refl
 outermost-alone ordered above u = absurd u
+outermost-alone sections above u = refl
+outermost-alone section above u = absurd u
+
+section-above : (kind : Kind) → mayEnclose kind section ≡ true → kind ≡ critical
+unfolding mayEnclose
+section-above single h = absurd (bad (cc))
+section-above master h = absurd (bad (cc))
+section-above critical h = refl
+section-above loop h = absurd (bad (cc))
+section-above ordered h = absurd (bad (cc))
+section-above sections h = absurd (bad (cc))
+section-above section h = absurd (bad (cc))
 
 masters-apart : (kind above : Kind) → kind ≡ master → above ≡ master → mayEnclose kind above ≡ false
 unfolding mayEnclose
@@ -78,6 +91,35 @@ module _ {R : Region} {Counts : ℕ → Type 0} {lies : ℕ → ℕ} {scope : Fr
       let m = F .ordered-counts (F .marks-counts begin o w) k in
       F .enclosed-inside (rw (F .marks-lies begin o w) (here (F .counts-not-outside m))) m
 
+  sections-enclose : {x s : ℕ} → R .inside x s ≡ true → R .kind s ≡ section → R .inside x (R .parent s) ≡ true
+  sections-enclose i k =
+      let m = F .section-counts (F .inside-counts i) k in
+      F .enclosed-inside (higher (F .inside-enclosed i) (here (F .counts-not-outside m))) m
+
+  sections-enclose-begin : {x s : ℕ} → R .role x ≡ opens s → R .kind s ≡ section → R .inside x (R .parent s) ≡ true
+  sections-enclose-begin {x} {s} w k =
+      let m = F .section-counts (F .marks-counts begin s w) k in
+      F .enclosed-inside (rw (F .marks-lies begin s w) (here (F .counts-not-outside m))) m
+
+  -- whatever is inside a sections is inside a section of it, or is its begin or end
+  framing : (f : Frame) (x s : ℕ) → R .role x ≡ marks f s → (R .role x ≡ opens s) ⊎ (R .role x ≡ closes s)
+  framing begin x s w = inl w
+  framing end x s w = inr w
+
+  in-section : {x c : ℕ} → R .inside x c ≡ true → R .kind c ≡ sections → (s : ℕ) × (SectionOf R c s × InSection R x s)
+  in-section {x} {c} i k = elim (step-below (F .inside-enclosed i)) [
+    | inl q ↦ (let (f, s, w, j) = F .directly-in q (F .inside-counts i) k in (
+      s,
+      (
+        record { begun = F .framed begin s (F .marks-counts f s w); is-section = j; of-sections = sym (F .marks-lies f s w) ∙ q },
+        record { is-section = j; within = inr (framing f x s w) },
+      ),
+    ))
+    | inr h ↦ (let (s, q, e) = h in
+        let d = F .directly-below (F .enclosed-below e) q (F .inside-counts i) k in
+        (s, (record { begun = F .framed begin s (d .0); is-section = d .1; of-sections = q }, record { is-section = d .1; within = inl (F .enclosed-inside e (d .0)) })))
+  ]
+
   pub laws : WellFormed R
   laws = record {
     kept-below = F .kept-below;
@@ -108,6 +150,13 @@ module _ {R : Region} {Counts : ℕ → Type 0} {lies : ℕ → ℕ} {scope : Fr
     ordered-inside = loop-encloses;
     ordered-loop = λ i k. F .ordered-loop (F .inside-counts i) k;
     one-thread = λ i j p q. ap (R .thread) (one-of i j (masters-apart _ _ p q) (masters-apart _ _ q p));
+    section-begin = sections-enclose-begin;
+    section-inside = sections-enclose;
+    section-sections = λ {x} {s} w k. F .section-sections (F .marks-counts begin s w) k;
+    section-critical = λ {x} {k} {s} w i q. section-above (R .kind k)
+        (subst (λ (j : Kind). mayEnclose (R .kind k) j ≡ true) q (F .nested (F .marks-counts begin k w) (F .inside-counts i) (begin-enclosed w i)));
+    sections-section = in-section;
+    section-out = F .section-out;
     start-barrier = F .start-barrier;
     finish-barrier = F .finish-barrier;
     start-first = F .start-first;

@@ -7,4 +7,5 @@ pub mod Reading
 pub mod Scopes
 pub mod Whole
 pub mod Laws
+pub mod Sections
 pub mod Accepted

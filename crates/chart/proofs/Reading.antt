@@ -6,7 +6,7 @@ use mathlib.Core.Logic.{_⊎_, _≢_}
 use mathlib.Core.Bool.{true}
 use Prim.Native.Nat.{ℕ, _<_}
 use Rattle.chart.specs.Format.{outside}
-use Rattle.chart.specs.Region.{Role, barrier, opens, closes, loop, ordered, Region}
+use Rattle.chart.specs.Region.{Role, barrier, opens, closes, loop, ordered, sections, section, Region}
 use Rattle.chart.specs.Scope.{Encloses}
 use Rattle.chart.specs.Nesting.{mayEnclose}
 
@@ -55,6 +55,13 @@ pub record Reads (R : Region) (Counts : ℕ → Type 0) (lies : ℕ → ℕ) (sc
   pub nested : {c k : ℕ} → Counts c → Counts k → Encloses (R .parent) (R .parent c) k → mayEnclose (R .kind c) (R .kind k) ≡ true
   pub ordered-counts : {c : ℕ} → Counts c → R .kind c ≡ ordered → Counts (R .parent c)
   pub ordered-loop : {c : ℕ} → Counts c → R .kind c ≡ ordered → R .kind (R .parent c) ≡ loop
+  pub section-counts : {c : ℕ} → Counts c → R .kind c ≡ section → Counts (R .parent c)
+  pub section-sections : {c : ℕ} → Counts c → R .kind c ≡ section → R .kind (R .parent c) ≡ sections
+  -- what lies directly in a sections is the begin or the end of a section, and what stands there is a section
+  pub directly-in : {x c : ℕ} → lies x ≡ c → Counts c → R .kind c ≡ sections → (f : Frame) × (s : ℕ) × (R .role x ≡ marks f s) × (R .kind s ≡ section)
+  pub directly-below : {k c : ℕ} → k < R .constructs → R .parent k ≡ c → Counts c → R .kind c ≡ sections → Counts k × (R .kind k ≡ section)
+  pub enclosed-below : {x k : ℕ} → Encloses (R .parent) (lies x) k → k < R .constructs
+  pub section-out : {x y s : ℕ} → R .edge x y ≡ true → R .role x ≡ closes s → R .kind s ≡ section → R .role y ≡ closes (R .parent s)
   -- start and finish
   pub start-barrier : R .role (R .start) ≡ barrier
   pub finish-barrier : R .role (R .finish) ≡ barrier

@@ -1,15 +1,17 @@
--- What the role and the scopes of a node say of its record, for begins and ends alike, and the bytes of ordered and do.
+-- What the role and the scopes of a node say of its record, for begins and ends alike, and what the bytes of constructs give.
 -- Assumes nothing.
 use mathlib.Core.Path.{_≡_, refl, subst}
 use mathlib.Core.Logic.{_⊎_, inl, inr, _≢_}
+use mathlib.Core.Bool.{Bool, true, false, cond}
 use Prim.Native.Nat.{ℕ, _≤_, _<_}
 use native.Mathlib.Omega.{arith}
 use native.Mathlib.Decide.{ℕ-discrete}
+use lib.Dec.{eqb}
 use borrow.Author.Tests.{eq-eqb, ne-eqb, lt-ltb, le-ltb}
 use Rattle.lists.specs.Truth.{bad}
 use Rattle.chart.specs.Format.{outside}
-use Rattle.chart.specs.Region.{Role, plain, barrier, opens, closes, loop, ordered}
-use Rattle.chart.specs.Scope.{loopByte, orderedByte, barrierNode, beginNode, endNode, roleOf, kindOf, liesIn, scope, Encloses, here, up}
+use Rattle.chart.specs.Region.{Role, plain, barrier, opens, closes, Kind, single, master, critical, loop, ordered, sections, section}
+use Rattle.chart.specs.Scope.{singleByte, masterByte, loopByte, orderedByte, barrierNode, beginNode, endNode, roleOf, kindOf, liesIn, scope, Encloses, here, up}
 use Rattle.chart.proofs.Reading.{Frame, begin, end, marks}
 
 -- the kind of a frame's node
@@ -112,3 +114,29 @@ ordered-byte byte h = go (ℕ-discrete byte 1) (ℕ-discrete byte 2) (ℕ-discre
 pub loop-byte : {byte : ℕ} → byte ≡ loopByte → kindOf byte ≡ loop
 unfolding kindOf
 loop-byte h = rw h
+
+-- No byte gives a sections or a section yet, so that what the laws ask of these two is asked of no construct.
+abbrev Older : Kind → Type 0
+Older single = Unit {0}
+Older master = Unit {0}
+Older critical = Unit {0}
+Older loop = Unit {0}
+Older ordered = Unit {0}
+Older sections = ⊥
+Older section = ⊥
+
+older : (byte : ℕ) → Older (kindOf byte)
+unfolding kindOf
+older byte =
+    either (eqb byte singleByte) single _ tt (either (eqb byte masterByte) master _ tt
+    (either (eqb byte loopByte) loop _ tt (either (eqb byte orderedByte) ordered critical tt tt)))
+  where
+    either : (b : Bool) (k j : Kind) → Older k → Older j → Older (cond b k j)
+    either true k j h g = h
+    either false k j h g = g
+
+pub no-sections : (byte : ℕ) → kindOf byte ≢ sections
+no-sections byte h = subst Older h (older byte)
+
+pub no-section : (byte : ℕ) → kindOf byte ≢ section
+no-section byte h = subst Older h (older byte)

@@ -21,7 +21,7 @@ use Rattle.chart.proofs.Tree.{Below, below-more, outside-encloses, comp
 use Rattle.chart.proofs.NestingFacts.{parents-lower}
 use Rattle.chart.proofs.Facts.{NodeFits, TablesFit, FrameAt, OneFrame, EdgeFits, frame-construct, isFrame, is-frame, frame-is}
 use Rattle.chart.proofs.Reading.{Frame, begin, end, marks, frameIn, Reads}
-use Rattle.chart.proofs.Scopes.{byteOf, frame-byte, role-is, role-marks, marks-role, barrier-role, ordered-byte, loop-byte, lies-number, lies-parent, scope-own, to-scope, of-scope}
+use Rattle.chart.proofs.Scopes.{byteOf, frame-byte, role-is, role-marks, marks-role, barrier-role, ordered-byte, loop-byte, no-sections, no-section, lies-number, lies-parent, scope-own, to-scope, of-scope}
 
 module _ (nodes : List Node) (kind c : ℕ) (one : OneFrame nodes kind c) where
   -- the one begin or end of c is the one that is found
@@ -224,6 +224,12 @@ module _ (D : Decoded) where
       nested = λ {c} l m e. F .constructs .nested c l .below e .kinds;
       ordered-counts = λ {c} l k. loop-counts c l k;
       ordered-loop = λ {c} l k. loop-byte (loop-above c l k);
+      section-counts = λ {c} l k. absurd (no-section (constructAt (D .constructs) c .kind) k);
+      section-sections = λ {c} l k. absurd (no-section (constructAt (D .constructs) c .kind) k);
+      directly-in = λ {x} {c} q l k. absurd (no-sections (constructAt (D .constructs) c .kind) k);
+      directly-below = λ {k} {c} l q m h. absurd (no-sections (constructAt (D .constructs) c .kind) h);
+      enclosed-below = λ {x} e. lower parent size parents e size (omega arith) (lies-below x);
+      section-out = λ {x} {y} {s} e w k. absurd (no-section (constructAt (D .constructs) s .kind) k);
       start-barrier = kind-barrier 0 (F .barriers .start);
       finish-barrier = kind-barrier (length (D .nodes) - 1) (F .barriers .finish);
       start-first = λ {x} e. edge-at x 0 e .not-into-start refl;

@@ -1,6 +1,7 @@
 pub mod Format
 pub mod Region
 pub mod InOrdered
+pub mod InSection
 pub mod Scope
 pub mod Nesting
 pub mod Refusal

@@ -8,11 +8,11 @@ use lib.Dec.{eqb}
 use lib.ListN.{length, getD}
 use Rattle.lists.specs.Range.{any}
 use Rattle.chart.specs.Format.{Construct, constructAt}
-use Rattle.chart.specs.Region.{Kind, single, master, critical, loop, ordered}
+use Rattle.chart.specs.Region.{Kind, single, master, critical, loop, ordered, sections, section}
 use Rattle.chart.specs.Scope.{criticalByte, loopByte, orderedByte, kindOf, encloses, parentOf}
 
--- May a construct of the second kind stand above one of the first? Above single and do: nothing. Above master: critical. Above ordered:
--- do. Above critical: every kind.
+-- May a construct of the second kind stand above one of the first? Above single, do and sections: nothing. Above master: critical. Above
+-- ordered: do. Above section: sections. Above critical: every kind.
 unfoldable pub mayEnclose : Kind → Kind → Bool
 mayEnclose single above = false
 mayEnclose master single = false
@@ -20,6 +20,8 @@ mayEnclose master master = false
 mayEnclose master critical = true
 mayEnclose master loop = false
 mayEnclose master ordered = false
+mayEnclose master sections = false
+mayEnclose master section = false
 mayEnclose critical above = true
 mayEnclose loop above = false
 mayEnclose ordered single = false
@@ -27,6 +29,16 @@ mayEnclose ordered master = false
 mayEnclose ordered critical = false
 mayEnclose ordered loop = true
 mayEnclose ordered ordered = false
+mayEnclose ordered sections = false
+mayEnclose ordered section = false
+mayEnclose sections above = false
+mayEnclose section single = false
+mayEnclose section master = false
+mayEnclose section critical = false
+mayEnclose section loop = false
+mayEnclose section ordered = false
+mayEnclose section sections = true
+mayEnclose section section = false
 
 -- Two criticals of the same name, the unnamed ones among them.
 unfoldable pub sameCritical : ℕ → ℕ → ℕ → ℕ → Bool

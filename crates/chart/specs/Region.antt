@@ -9,9 +9,9 @@ pub data Role : Type 0 where
   plain barrier : Role
   opens closes : ℕ → Role
 
--- The kinds of constructs; `loop` is 01's do.
+-- The kinds of constructs; `loop` is 01's do. A `section` stands in a `sections` (02, Note 1); no chart has these two yet.
 pub data Kind : Type 0 where
-  single master critical loop ordered : Kind
+  single master critical loop ordered sections section : Kind
   deriving Discrete as Kind-discrete
 
 -- Kinds above which nothing may stand.
@@ -21,6 +21,8 @@ Outermost master = ⊥
 Outermost critical = ⊥
 Outermost loop = Unit {0}
 Outermost ordered = ⊥
+Outermost sections = Unit {0}
+Outermost section = ⊥
 
 pub record Region : Type 0 where
   -- node numbers and construct numbers that occur are below these

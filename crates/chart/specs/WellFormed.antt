@@ -5,7 +5,8 @@ use mathlib.Core.Path.{_≡_}
 use mathlib.Core.Logic.{_⊎_}
 use mathlib.Core.Bool.{true, false}
 use Prim.Native.Nat.{ℕ, _<_}
-use Rattle.chart.specs.Region.{barrier, opens, closes, master, loop, ordered, Outermost, Region}
+use Rattle.chart.specs.Region.{barrier, opens, closes, master, critical, loop, ordered, sections, section, Outermost, Region}
+use Rattle.chart.specs.InSection.{SectionOf, InSection}
 
 pub record WellFormed (R : Region) : Type 0 where
   -- numbers that occur are below the counts
@@ -39,6 +40,14 @@ pub record WellFormed (R : Region) : Type 0 where
   pub ordered-inside : {x o : ℕ} → R .inside x o ≡ true → R .kind o ≡ ordered → R .inside x (R .parent o) ≡ true
   pub ordered-loop : {x o : ℕ} → R .inside x o ≡ true → R .kind o ≡ ordered → R .kind (R .parent o) ≡ loop
   pub one-thread : {x c k : ℕ} → R .inside x c ≡ true → R .inside x k ≡ true → R .kind c ≡ master → R .kind k ≡ master → R .thread c ≡ R .thread k
+  -- sections: a section's parent is a sections, and only criticals begin in a section; whatever is inside a sections is in a section of it, or is
+  -- the begin or the end of one; and no edge leads from a section's end to a section's begin, so that it leads to the end of the sections
+  pub section-begin : {x s : ℕ} → R .role x ≡ opens s → R .kind s ≡ section → R .inside x (R .parent s) ≡ true
+  pub section-inside : {x s : ℕ} → R .inside x s ≡ true → R .kind s ≡ section → R .inside x (R .parent s) ≡ true
+  pub section-sections : {x s : ℕ} → R .role x ≡ opens s → R .kind s ≡ section → R .kind (R .parent s) ≡ sections
+  pub section-critical : {x k s : ℕ} → R .role x ≡ opens k → R .inside x s ≡ true → R .kind s ≡ section → R .kind k ≡ critical
+  pub sections-section : {x c : ℕ} → R .inside x c ≡ true → R .kind c ≡ sections → (s : ℕ) × (SectionOf R c s × InSection R x s)
+  pub section-out : {x y s : ℕ} → R .edge x y ≡ true → R .role x ≡ closes s → R .kind s ≡ section → R .role y ≡ closes (R .parent s)
   -- start and finish
   pub start-barrier : R .role (R .start) ≡ barrier
   pub finish-barrier : R .role (R .finish) ≡ barrier

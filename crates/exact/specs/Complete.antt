@@ -6,26 +6,29 @@ use mathlib.Core.Bool.{true}
 use Prim.Native.Nat.{ℕ, _<_}
 use native.Mathlib.Decide.{ℕ-discrete}
 use Rattle.lists.specs.Truth.{bad}
-use Rattle.chart.specs.Region.{barrier, single, ordered, Outermost, Region}
+use Rattle.chart.specs.Region.{barrier, Kind, single, master, critical, loop, ordered, sections, section, Outermost, Region}
 use Rattle.chart.specs.InOrdered.{InOrdered}
+use Rattle.chart.specs.InSection.{SectionOf, InSection}
 use Rattle.chart.specs.WellFormed.{WellFormed}
 use Rattle.paths.specs.Path.{Path, Edge, Open, BarrierFree}
+use Rattle.paths.specs.Doors.{Both, Not, avoid}
 use Rattle.paths.specs.Connected.{Connected}
-use Rattle.paths.specs.PathLaws.{carry}
+use Rattle.paths.specs.PathLaws.{append as follow, carry, Rest, first-edge, last-edge}
 use Rattle.phases.specs.Phases.{forward, backward}
 use Rattle.team.specs.State.{State, initial}
 use Rattle.team.specs.Step.{NoneOrdered}
 use Rattle.team.specs.Run.{Run, done, ConcurrentIn}
 use Rattle.answers.specs.Unexcluded.{Returns, Unexcluded}
-use Rattle.exact.specs.Paths.{first-edge, last-edge}
-use Rattle.exact.specs.Constructs.{entry, part}
-use Rattle.exact.specs.Nesting.{Within, Without, in-ordered, single-outermost, within, inside-do, do-outermost, single-or-ordered}
+use Rattle.exact.specs.Constructs.{AfterBegin, from-barrier, part}
+use Rattle.exact.specs.Nesting.{Within, Without, in-ordered, single-outermost, sections-outermost, within, inside-do, do-outermost, Exclusive, exclusive-outermost, WithinExclusive, WithoutExclusive, within-exclusive, exclusive-or-ordered}
 use Rattle.exact.specs.Hops.{EndsAt}
 use Rattle.exact.specs.Runs.{append, append-state}
 use Rattle.exact.specs.Invariant.{Invariant, invariant-first, invariant}
-use Rattle.exact.specs.Walk.{Comes, settled}
+use Rattle.exact.specs.Solo.{Comes, settled}
+use Rattle.exact.specs.Sections.{in-or-not}
 use Rattle.exact.specs.Travel.{AllAt, AllCome, Bound, run-then, bound-there, come, all-come, travel}
-use Rattle.exact.specs.Rendezvous.{Chosen, Rendezvous, NoSingle, NoDo, second-direct, second-rounds, rendezvous}
+use Rattle.exact.specs.Rendezvous.{Chosen, Rendezvous, rendezvous}
+use Rattle.exact.specs.Legs.{NotLeft, NoDo, first-walk, first-section, second-direct, second-rounds, second-section}
 
 -- The common start and the common end of two nodes that no rule excludes.
 abbrev start : {R : Region} {a b : ℕ} → Unexcluded R a b → ℕ
@@ -59,6 +62,7 @@ swap D = record {
   masters = λ c d k l i j q. D .masters d c l k j i (sym q);
   singles = λ c k i j. D .singles c k j i;
   ordereds = λ d x y. D .ordereds d y x;
+  sections = λ s x y. D .sections s y x;
 }
 
 abbrev swap-chosen : {R : Region} {m a b : ℕ} → Chosen R m a b → Chosen R m b a
@@ -67,59 +71,104 @@ swap-chosen X = record { p = X .q; q = X .p; p-in = X .q-in; q-in = X .p-in; dif
 swap-rendezvous : {R : Region} {m a b : ℕ} {X : Chosen R m a b} {σ : State} {e : ℕ} → Rendezvous (swap-chosen X) σ e → Rendezvous X σ e
 swap-rendezvous M = record { state = M .state; run = M .run; at-a = M .at-b; at-b = M .at-a; others = λ k l i j. M .others k l j i }
 
-module _ {R : Region} (W : WellFormed R) {m : ℕ} where
+-- what is left of a path to x, and then a path from x to e
+rest-ends : (R : Region) {P : ℕ → Type 0} → ((z : ℕ) → P z → Open R z) → {v x e : ℕ} → Rest (Edge R) P v x → Open R x → BarrierFree R x e → EndsAt R e v
+rest-ends R free {e = e} (inl q) o w = inr (subst (Open R) (sym q) o, subst (λ (n : ℕ). BarrierFree R n e) (sym q) w)
+rest-ends R free {v} (inr h) o w = inr (free v (h .0), follow (carry (λ x y e. e) free (h .1)) o w)
+
+module _ {R : Region} (W : WellFormed R) (C : Connected R) {m : ℕ} where
   -- the thread for a goes first, and the thread for b straight after it
   first-a : {a b : ℕ} (X : Chosen R m a b) (D : Unexcluded R a b) → Open R a → {σ : State} → AllAt m σ (start D) → {P : ℕ → Type 0}
-      → ((z : ℕ) → P z → Open R z) → Path (Edge R) P (start D) a → NoSingle R P b → NoDo R a b → Rendezvous X σ (end D)
-  first-a X D oa all free w no-single no-do = rendezvous W X oa (start-barrier D) (end-a D) free w (start-b D) (second-direct W X no-single no-do) all
+      → ((z : ℕ) → P z → Open R z) → Path (Edge R) P (start D) a → NotLeft R P b → NoDo R a b → Rendezvous X σ (end D)
+  first-a X D oa all {P} free w not-left no-do =
+      let H = first-edge w in
+      rendezvous W C X (start-barrier D) (H .1) (rest-ends R free (H .2) oa (end-a D)) (first-walk W C X free (H .2)) (start-b D)
+      (second-direct W C X P not-left no-do) all
 
   module _ {a b : ℕ} (X : Chosen R m a b) (D : Unexcluded R a b) (oa : Open R a) (ob : Open R b) {σ : State} (all : AllAt m σ (start D)) where
-    first-b : {P : ℕ → Type 0} → ((z : ℕ) → P z → Open R z) → Path (Edge R) P (start D) b → NoSingle R P a → NoDo R b a → Rendezvous X σ (end D)
-    first-b free w no-single no-do = swap-rendezvous (first-a (swap-chosen X) (swap D) ob all free w no-single no-do)
+    first-b : {P : ℕ → Type 0} → ((z : ℕ) → P z → Open R z) → Path (Edge R) P (start D) b → NotLeft R P a → NoDo R b a → Rendezvous X σ (end D)
+    first-b free w not-left no-do = swap-rendezvous (first-a (swap-chosen X) (swap D) ob all free w not-left no-do)
 
     -- both in one outermost construct, which returns
     in-one : {c : ℕ} → Outermost (R .kind c) → R .inside b c ≡ true → Returns R c → Rendezvous X σ (end D)
     in-one {c} u i ret =
-        let bar : R .role (start D) ≡ barrier = start-barrier D in
-        let g = entry W (W .barrier-outside bar c) (λ q. bad (cc)) (start-b D) (inl i) in
-        rendezvous W X oa bar (end-a D) (λ z h. h) (start-a D) (g .0) (second-rounds W X u i ret (carry (λ x y e. e) (λ z h. h .0) (g .1))) all
+        let H = first-edge (start-a D) in
+        let g = from-barrier W (start-barrier D) (start-b D) (inl i) in
+        rendezvous W C X (start-barrier D) (H .1) (rest-ends R (λ z h. h) (H .2) oa (end-a D)) (first-walk W C X (λ z h. h) (H .2)) (g .0)
+        (second-rounds W C X u i ret (carry (λ x y e. e) (λ z h. h .0) (g .1))) all
 
-    two-singles : {c d : ℕ} → R .kind c ≡ single → R .inside a c ≡ true → R .kind d ≡ single → R .inside b d ≡ true → Dec (c ≡ d) → Rendezvous X σ (end D)
-    two-singles {d = d} k i l j (yes z) = in-one (single-outermost l) j (D .singles d l (subst (λ (n : ℕ). R .inside a n ≡ true) z i) j)
-    two-singles k i l j (no z) = elim (part W (start-barrier D) (start-a D) (start-b D) i j (single-outermost k) (single-outermost l) z) [
-      | inl w ↦ first-a X D oa all (λ n h. h .0) w (λ e g h y. only l j g h (y .1)) (λ e h o. single-or-ordered W k i o)
-      | inr w ↦ first-b (λ n h. h .0) w (λ e g h y. only k i g h (y .1)) (λ e h o. single-or-ordered W l j o)
-    ]
+    -- in two sections of one sections construct: both in its first instance
+    in-sections : {c x : ℕ} → R .kind c ≡ sections → R .inside a c ≡ true → R .inside b c ≡ true → SectionOf R c x → InSection R a x → (InSection R b x → ⊥)
+        → Rendezvous X σ (end D)
+    in-sections {c} {x} k i j S h n =
+        let g = from-barrier W (start-barrier D) (start-a D) (inl i) in
+        let o = W .inside-begun i in
+        let H = first-edge (before (g .0)) in
+        rendezvous W C X (start-barrier D) (H .1)
+        (rest-ends R (λ z p. p .0) (H .2) (λ q. bad (cc o)) (follow (carry (λ x y e. e) (λ z p. p .0) (g .1)) oa (end-a D)))
+        (first-section W C X k o S (H .2) (elim (h .within) [
+          | inl q ↦ inr (inside (inl q))
+          | inr (inl q) ↦ inl (sym (W .opens-begin q))
+          | inr (inr q) ↦ inr (inside (inr q))
+        ])) (start-b D) (second-section W C X k j n) all
       where
-        only : {y s t : ℕ} → R .kind s ≡ single → R .inside y s ≡ true → R .kind t ≡ single → R .inside y t ≡ true → R .begin t ≢ R .begin s → ⊥
-        only k i l j n = n (ap (R .begin) (W .one-outermost j i (single-outermost l) (single-outermost k)))
+        -- to the begin of c for the first time
+        before : BarrierFree R (start D) (R .begin c) → Path (Edge R) (Both (Open R) (Not (R .begin c))) (start D) (R .begin c)
+        before w = elim (avoid (R .begin c) w) [ inl v ↦ v | inr v ↦ v ]
+
+        inside : AfterBegin R a x → Path (Edge R) (λ z. InSection R z x) (R .begin x) a
+        inside q = carry (λ x y e. e) (λ z p. record { is-section = S .is-section; within = inl (p .1) }) (from-barrier W (start-barrier D) (start-a D) q .1)
+
+    one-exclusive : {c : ℕ} (k : Kind) → R .kind c ≡ k → Exclusive k → R .inside a c ≡ true → R .inside b c ≡ true → Rendezvous X σ (end D)
+    one-exclusive {c} single k h i j = in-one (single-outermost k) j (D .singles c k i j)
+    one-exclusive master k h i j = absurd h
+    one-exclusive critical k h i j = absurd h
+    one-exclusive loop k h i j = absurd h
+    one-exclusive ordered k h i j = absurd h
+    one-exclusive section k h i j = absurd h
+    one-exclusive {c} sections k h i j = let (x, (S, q)) = W .sections-section i k in go x S q (in-or-not R b x)
+      where
+        go : (x : ℕ) → SectionOf R c x → InSection R a x → InSection R b x ⊎ (InSection R b x → ⊥) → Rendezvous X σ (end D)
+        go x S q (inl p) = in-one (sections-outermost k) j (subst (Returns R) (S .of-sections) (D .sections x q p))
+        go x S q (inr n) = in-sections k i j S q n
+
+    two-exclusive : {c d : ℕ} → Exclusive (R .kind c) → R .inside a c ≡ true → Exclusive (R .kind d) → R .inside b d ≡ true → Dec (c ≡ d) → Rendezvous X σ (end D)
+    two-exclusive {d = d} k i l j (yes z) = one-exclusive (R .kind d) refl l (subst (λ (n : ℕ). R .inside a n ≡ true) z i) j
+    two-exclusive {c} {d} k i l j (no z) =
+        elim (part W (start-barrier D) (start-a D) (start-b D) i j (exclusive-outermost (R .kind c) k) (exclusive-outermost (R .kind d) l) z) [
+          | inl w ↦ first-a X D oa all (λ n h. h .0) w (λ e g h y. only l j g h (y .1)) (λ e h o. exclusive-or-ordered W k i o)
+          | inr w ↦ first-b (λ n h. h .0) w (λ e g h y. only k i g h (y .1)) (λ e h o. exclusive-or-ordered W l j o)
+        ]
+      where
+        only : {y s t : ℕ} → Exclusive (R .kind s) → R .inside y s ≡ true → Exclusive (R .kind t) → R .inside y t ≡ true → R .begin t ≢ R .begin s → ⊥
+        only {s = s} {t} k i l j n = n (ap (R .begin) (W .one-outermost j i (exclusive-outermost (R .kind t) l) (exclusive-outermost (R .kind s) k)))
 
     two-ordereds : {c d : ℕ} → InOrdered R a c → InOrdered R b d → Dec (c ≡ d) → Rendezvous X σ (end D)
     two-ordereds {d = d} x y (yes z) = in-one (do-outermost W y) (inside-do W y) (D .ordereds d (subst (InOrdered R a) z x) y)
-    two-ordereds x y (no z) = first-a X D oa all (λ n h. h) (start-a D) (λ e g h w. single-or-ordered W g h y)
+    two-ordereds x y (no z) = first-a X D oa all (λ n h. h) (start-a D) (λ e g h w. exclusive-or-ordered W g h y)
         (λ e h o. z (W .one-outermost (inside-do W x) (inside-do W o) (do-outermost W x) (do-outermost W o)
         ∙ W .one-outermost h (inside-do W y) (do-outermost W o) (do-outermost W y)))
 
-    -- a thread bound for a single goes first, one bound for an ordered last
-    choose : Within R single a ⊎ Without R single a → Within R single b ⊎ Without R single b → Within R ordered a ⊎ Without R ordered a
+    -- a thread bound for a single or a sections goes first, one bound for an ordered last
+    choose : WithinExclusive R a ⊎ WithoutExclusive R a → WithinExclusive R b ⊎ WithoutExclusive R b → Within R ordered a ⊎ Without R ordered a
         → Within R ordered b ⊎ Without R ordered b → Rendezvous X σ (end D)
     choose sa (inr nb) (inr na) y = first-a X D oa all (λ n h. h) (start-a D) (λ c g h w. nb c g h) (λ c h o. na (o .construct) (o .is-ordered) (o .within))
     choose sa (inr nb) (inl x) (inl y) = two-ordereds (in-ordered x) (in-ordered y) (ℕ-discrete (R .parent (x .0)) (R .parent (y .0)))
-    choose sa (inr nb) (inl x) (inr ny) = first-b (λ n h. h) (start-b D) (λ c g h w. single-or-ordered W g h (in-ordered x))
+    choose sa (inr nb) (inl x) (inr ny) = first-b (λ n h. h) (start-b D) (λ c g h w. exclusive-or-ordered W g h (in-ordered x))
         (λ c h o. ny (o .construct) (o .is-ordered) (o .within))
-    choose (inl sa) (inl sb) x y = two-singles (sa .1) (sa .2) (sb .1) (sb .2) (ℕ-discrete (sa .0) (sb .0))
-    choose (inr na) (inl sb) x y = first-b (λ n h. h) (start-b D) (λ c g h w. na c g h) (λ c h o. single-or-ordered W (sb .1) (sb .2) o)
+    choose (inl sa) (inl sb) x y = two-exclusive (sa .1) (sa .2) (sb .1) (sb .2) (ℕ-discrete (sa .0) (sb .0))
+    choose (inr na) (inl sb) x y = first-b (λ n h. h) (start-b D) (λ c g h w. na c g h) (λ c h o. exclusive-or-ordered W (sb .1) (sb .2) o)
 
     come-together : Rendezvous X σ (end D)
-    come-together = choose (within W single a) (within W single b) (within W ordered a) (within W ordered b)
+    come-together = choose (within-exclusive W a) (within-exclusive W b) (within W ordered a) (within W ordered b)
 
   -- all go on to the barrier e: first a thread that is in an ordered, since the rest may need that ordered
   module _ {e : ℕ} (bar : R .role e ≡ barrier) where
     -- all but q block nobody; all but p and q
     with-one : {q : ℕ} → q < m → (τ : State) → EndsAt R e (τ .node q) → ((k : ℕ) → k < m → k ≢ q → Bound R e (τ .node k)) → AllCome R m τ e
     with-one q-in τ w f =
-        let H = come W q-in τ bar w (λ d i k l n o. absurd (f k l n .1 d o)) in
-        run-then (H .1 .run) (all-come W bar (λ k l. settled (Bound R e) H (bound-there W bar) k (f k l)))
+        let H = come W C q-in τ bar w (λ d i k l n o. absurd (f k l n .1 d o)) in
+        run-then (H .1 .run) (all-come W C bar (λ k l. settled (Bound R e) H (bound-there W bar) k (f k l)))
 
     with-two : {p q : ℕ} → p < m → q < m → (τ : State) → Invariant R m τ → EndsAt R e (τ .node p) → EndsAt R e (τ .node q)
         → ((k : ℕ) → k < m → k ≢ p → k ≢ q → Bound R e (τ .node k)) → Within R ordered (τ .node p) ⊎ Without R ordered (τ .node p) → AllCome R m τ e
@@ -128,7 +177,7 @@ module _ {R : Region} (W : WellFormed R) {m : ℕ} where
       | no z ↦ f k l z n
     ])
     with-two {p} {q} p-in q-in τ I wp wq f (inl x) =
-        let H : Comes R (Open R) m p τ e = come W p-in τ bar wp clear in
+        let H : Comes R (Open R) m p τ e = come W C p-in τ bar wp clear in
         run-then (H .1 .run) (with-one q-in (H .0) (settled (EndsAt R e) H (inl refl) q (λ z. wq))
         (λ k l n. settled (Bound R e) H (bound-there W bar) k (λ z. f k l z n)))
       where
@@ -139,15 +188,15 @@ module _ {R : Region} (W : WellFormed R) {m : ℕ} where
         clear d i k l n y = I .ordereds d k p l p-in n y
             (subst (InOrdered R (τ .node p)) (W .one-outermost (inside-do W o) i (do-outermost W o) (do-outermost W y)) o)
 
-  module _ (C : Connected R) {a b : ℕ} (X : Chosen R m a b) (D : Unexcluded R a b) (oa : Open R a) (ob : Open R b) where
+  module _ {a b : ℕ} (X : Chosen R m a b) (D : Unexcluded R a b) (oa : Open R a) (ob : Open R b) where
     from-start : Dec (start D ≡ R .start) → AllCome R m (initial R) (start D)
     unfolding initial
     from-start (yes z) = (initial R, done, λ t l. sym z)
-    from-start (no z) = travel W (C .from-start (first-edge (start-a D) .1) z) (W .start-barrier) (start-barrier D) (inl refl) (λ t l. refl)
+    from-start (no z) = travel W C (C .from-start (first-edge (start-a D) .1) z) (W .start-barrier) (start-barrier D) (inl refl) (λ t l. refl)
 
     to-finish : {τ : State} → AllAt m τ (end D) → Dec (end D ≡ R .finish) → AllCome R m τ (R .finish)
     to-finish {τ} all (yes z) = (τ, done, λ t l. all t l ∙ z)
-    to-finish all (no z) = travel W (C .to-finish (last-edge (end-a D) .1) z) (end-barrier D) (W .finish-barrier) (inl refl) all
+    to-finish all (no z) = travel W C (C .to-finish (last-edge (end-a D) .1) z) (end-barrier D) (W .finish-barrier) (inl refl) all
 
     pub complete : ConcurrentIn R m a b
     complete = record {

@@ -40,6 +40,10 @@ module _ {R : Region} (W : WellFormed R) where
   entry {c = c} out n w a = by-door (Inside R c) (λ z. R .role z ≡ opens c) (λ z. R .role z ≡ closes c) (λ z o. W .opens-begin o) (λ u v e b. back e b)
       (λ i. clash i out) n w a
 
+  pub from-barrier : {P : ℕ → Type 0} {x y c : ℕ} → R .role x ≡ barrier → Path (Edge R) P x y → AfterBegin R y c
+      → Path (Edge R) P x (R .begin c) × Path (Edge R) (Both P (Inside R c)) (R .begin c) y
+  from-barrier {c = c} h w a = entry (W .barrier-outside h c) (λ q. bad (cc)) w a
+
   -- and one that comes out of c leads inside c to c's end and on: the same, turned round
   pub exit : {P : ℕ → Type 0} {x y c : ℕ} → R .inside y c ≡ false → R .role y ≢ closes c → Path (Edge R) P x y → BeforeEnd R x c
       → Path (Edge R) (Both P (Inside R c)) x (R .end c) × Path (Edge R) P (R .end c) y
@@ -78,4 +82,4 @@ module _ {R : Region} (W : WellFormed R) where
   ]
     where
       inner : {y c : ℕ} → BarrierFree R x y → R .inside y c ≡ true → Path (Edge R) (Both (Open R) (Inside R c)) (R .begin c) y
-      inner {c = c} w i = entry (W .barrier-outside h c) (λ q. bad (cc)) w (inl i) .1
+      inner w i = from-barrier h w (inl i) .1

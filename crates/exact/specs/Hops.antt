@@ -5,27 +5,50 @@ use mathlib.Core.Logic.{_⊎_, inl, inr, _≢_}
 use mathlib.Core.Bool.{true, false}
 use Prim.Native.Nat.{ℕ}
 use Rattle.lists.specs.Truth.{bad, clash}
-use Rattle.chart.specs.Region.{barrier, opens, closes, loop, Outermost, Region}
+use Rattle.chart.specs.Region.{barrier, opens, closes, Kind, single, master, critical, loop, ordered, sections, section, Outermost, Region}
+use Rattle.chart.specs.InSection.{SectionOf, InSection}
 use Rattle.chart.specs.WellFormed.{WellFormed}
 use Rattle.paths.specs.Path.{last, next, Open, BarrierFree}
 use Rattle.paths.specs.Connected.{Connected}
+use Rattle.paths.specs.Assigned.{assigned}
 use Rattle.paths.specs.PathLaws.{append}
 use Rattle.team.specs.State.{State}
-use Rattle.team.specs.Step.{ThreadStep, move, enter, pass, again}
-use Rattle.team.specs.Laws.{one-construct, ordinary-no-barrier}
+use Rattle.team.specs.Step.{ThreadStep, move, enter, pass, again, take, take-next}
+use Rattle.team.specs.Laws.{one-construct, move-no-barrier}
 use Rattle.answers.specs.Unexcluded.{Returns}
 use Rattle.exact.specs.Constructs.{AfterBegin, BeforeEnd, back, forth, inside-open, entry, exit, through}
+
+-- Kinds of constructs at whose end a thread may go in again: a do for another round, a sections for another section.
+abbrev pub Reenters : Kind → Type 0
+Reenters single = ⊥
+Reenters master = ⊥
+Reenters critical = ⊥
+Reenters loop = Unit {0}
+Reenters ordered = ⊥
+Reenters sections = Unit {0}
+Reenters section = ⊥
 
 pub data Hop (R : Region) (x v : ℕ) : Type 0 where
   by-edge : Open R x → R .edge x v ≡ true → Hop R x v
   by-pass : {c : ℕ} → R .role x ≡ opens c → v ≡ R .end c → Hop R x v
-  by-again : {c : ℕ} → R .role x ≡ closes c → R .kind c ≡ loop → R .edge (R .begin c) v ≡ true → Hop R x v
+  by-again : {c : ℕ} → R .role x ≡ closes c → Reenters (R .kind c) → R .edge (R .begin c) v ≡ true → Hop R x v
 
-pub hop : {R : Region} {m : ℕ} {σ τ : State} {t v : ℕ} → ThreadStep R m σ t v τ → Hop R (σ .node t) v
-hop {R} {σ = σ} {t = t} (move h e) = by-edge (ordinary-no-barrier (R .role (σ .node t)) h) e
-hop (enter h g e) = by-edge (λ q. bad (cc)) e
-hop (pass h g e) = by-pass h e
-hop (again h k e) = by-again h k e
+-- The begin of a sections leads to its sections, so that a section is come to as along an edge from there.
+pub hop : {R : Region} → WellFormed R → Connected R → {m : ℕ} {σ τ : State} {t v : ℕ} → ThreadStep R m σ t v τ → Hop R (σ .node t) v
+hop {R} W C {m} {σ} {t = t} {v} = go
+  where
+    to-section : {c x : ℕ} → SectionOf R c x → v ≡ R .begin x → R .edge (R .begin c) v ≡ true
+    to-section p q =
+        subst (λ (n : ℕ). R .edge (R .begin n) v ≡ true) (p .of-sections)
+        (assigned W C (ap (R .role) q ∙ p .begun) (p .is-section))
+
+    go : {τ : State} → ThreadStep R m σ t v τ → Hop R (σ .node t) v
+    go (move h e) = by-edge (move-no-barrier R m σ t (R .role (σ .node t)) h) e
+    go (enter h g e) = by-edge (λ q. bad (cc)) e
+    go (pass h g e) = by-pass h e
+    go (again h k e) = by-again h (subst Reenters (sym k) tt) e
+    go (take h k p u q) = by-edge (λ z. bad (cc)) (subst (λ (n : ℕ). R .edge n v ≡ true) (sym (W .opens-begin h)) (to-section p q))
+    go (take-next h k p u q) = by-again h (subst Reenters (sym k) tt) (to-section p q)
 
 hop-open : {R : Region} {x v : ℕ} → Hop R x v → Open R x
 hop-open (by-edge o e) = o
@@ -46,7 +69,7 @@ Past R x c = AfterBegin R x c ⊎ BarrierFree R (R .end c) x
 
 -- where a hop to a node after the begin of c can have come from
 abbrev pub CameFrom : Region → ℕ → ℕ → Type 0
-CameFrom R x c = (R .inside x c ≡ true) ⊎ ((R .role x ≡ opens c) ⊎ ((R .role x ≡ closes c) × (R .kind c ≡ loop)))
+CameFrom R x c = (R .inside x c ≡ true) ⊎ ((R .role x ≡ opens c) ⊎ ((R .role x ≡ closes c) × Reenters (R .kind c)))
 
 module _ {R : Region} (W : WellFormed R) where
   pub barrier-top : {s : ℕ} → R .role s ≡ barrier → TopLevel R s
@@ -75,7 +98,7 @@ module _ {R : Region} (W : WellFormed R) where
   came-from (by-pass h q) (inr g) = inr (inl (cc (W .opens-ended h)))
   came-from {c = c} (by-again h k e) a = elim (back W e a) [
     | inl i ↦ inl (end-scope h c ∙ i)
-    | inr o ↦ let q = one-construct (W .closes-begun h) o in inr (inr ((cc), (cc)))
+    | inr o ↦ let q = one-construct (W .closes-begun h) o in inr (inr ((cc), subst (λ (d : ℕ). Reenters (R .kind d)) q k))
   ]
 
   pub hop-after : {x v c : ℕ} → Hop R x v → BeforeEnd R x c → AfterBegin R v c
@@ -84,6 +107,23 @@ module _ {R : Region} (W : WellFormed R) where
   hop-after (by-pass h q) (inr o) = inr (cc (W .opens-ended h))
   hop-after {c = c} (by-again h k e) (inl i) = W .leave e (sym (end-scope h c) ∙ i)
   hop-after (by-again h k e) (inr o) = absurd (bad (cc))
+
+  -- in a section after a hop: there before, or come to its begin
+  pub hop-section : {x v s : ℕ} → Hop R x v → InSection R v s → InSection R x s ⊎ (R .role v ≡ opens s)
+  hop-section {x} {v} {s} h i = go (i .within)
+    where
+      here : (R .inside x s ≡ true) ⊎ ((R .role x ≡ opens s) ⊎ (R .role x ≡ closes s)) → InSection R x s
+      here w = record { is-section = i .is-section; within = w }
+
+      from : CameFrom R x s → InSection R x s
+      from (inl a) = here (inl a)
+      from (inr (inl o)) = here (inr (inl o))
+      from (inr (inr o)) = here (inr (inr (o .0)))
+
+      go : (R .inside v s ≡ true) ⊎ ((R .role v ≡ opens s) ⊎ (R .role v ≡ closes s)) → InSection R x s ⊎ (R .role v ≡ opens s)
+      go (inl a) = inl (from (came-from h (inl a)))
+      go (inr (inl o)) = inr o
+      go (inr (inr o)) = inl (from (came-from h (inr o)))
 
   -- at the begin of c again, having passed c
   pub past-returns : {x c : ℕ} → R .role x ≡ opens c → Past R x c → Returns R c

@@ -1,14 +1,16 @@
-pub mod Paths
 pub mod Constructs
 pub mod Nesting
 pub mod Hops
 pub mod Runs
 pub mod Invariant
 pub mod Sound
+pub mod Solo
+pub mod Sections
 pub mod Walk
 pub mod Travel
 pub mod Rounds
 pub mod Rendezvous
+pub mod Legs
 pub mod Complete
 pub mod Exact
 pub mod Answered

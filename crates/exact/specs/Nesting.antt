@@ -1,12 +1,12 @@
--- Which singles, dos, ordereds and masters a node is inside.
+-- Which singles, sections, dos, ordereds and masters a node is inside.
 -- Assumes nothing.
 use mathlib.Core.Path.{_≡_, refl, ap, sym, _∙_, subst}
 use mathlib.Core.Logic.{_⊎_, inl, inr}
 use mathlib.Core.Bool.{Bool, true, _&&_}
 use Prim.Native.Nat.{ℕ, _<_}
-use Rattle.lists.specs.Truth.{bad, clash, truth, is, is-true, true-is, and-both, both-and}
+use Rattle.lists.specs.Truth.{clash, truth, is, is-true, true-is, and-both, both-and}
 use Rattle.lists.specs.Range.{any, any-at, at-any}
-use Rattle.chart.specs.Region.{Kind, Kind-discrete, single, loop, ordered, Outermost, Region}
+use Rattle.chart.specs.Region.{Kind, Kind-discrete, single, master, critical, loop, ordered, sections, section, Outermost, Region}
 use Rattle.chart.specs.InOrdered.{InOrdered}
 use Rattle.chart.specs.WellFormed.{WellFormed}
 
@@ -22,6 +22,35 @@ in-ordered h = record { construct = h .0; is-ordered = h .1; of-do = refl; withi
 
 pub single-outermost : {k : Kind} → k ≡ single → Outermost k
 single-outermost q = subst Outermost (sym q) tt
+
+pub sections-outermost : {k : Kind} → k ≡ sections → Outermost k
+sections-outermost q = subst Outermost (sym q) tt
+
+-- Kinds of constructs whose every instance gives each part of the work to one thread.
+abbrev pub Exclusive : Kind → Type 0
+Exclusive single = Unit {0}
+Exclusive master = ⊥
+Exclusive critical = ⊥
+Exclusive loop = ⊥
+Exclusive ordered = ⊥
+Exclusive sections = Unit {0}
+Exclusive section = ⊥
+
+pub exclusive-outermost : (k : Kind) → Exclusive k → Outermost k
+exclusive-outermost single h = tt
+exclusive-outermost master h = h
+exclusive-outermost critical h = h
+exclusive-outermost loop h = absurd h
+exclusive-outermost ordered h = h
+exclusive-outermost sections h = tt
+exclusive-outermost section h = h
+
+-- x is inside a construct of such a kind; inside none
+abbrev pub WithinExclusive : Region → ℕ → Type 0
+WithinExclusive R x = (c : ℕ) × Exclusive (R .kind c) × (R .inside x c ≡ true)
+
+abbrev pub WithoutExclusive : Region → ℕ → Type 0
+WithoutExclusive R x = (c : ℕ) → Exclusive (R .kind c) → R .inside x c ≡ true → ⊥
 
 module _ {R : Region} (W : WellFormed R) where
   pub within : (k : Kind) (x : ℕ) → Within R k x ⊎ Without R k x
@@ -45,5 +74,28 @@ module _ {R : Region} (W : WellFormed R) where
   pub do-outermost : {x d : ℕ} → InOrdered R x d → Outermost (R .kind d)
   do-outermost o = subst Outermost (sym (is-do o)) tt
 
-  pub single-or-ordered : {x c d : ℕ} → R .kind c ≡ single → R .inside x c ≡ true → InOrdered R x d → ⊥
-  single-or-ordered q i o = let z = W .one-outermost i (inside-do o) (single-outermost q) (do-outermost o) in bad (cc (is-do o))
+  pub within-exclusive : (x : ℕ) → WithinExclusive R x ⊎ WithoutExclusive R x
+  within-exclusive x = elim (within single x) [
+    | inl (c, k, i) ↦ inl (c, subst Exclusive (sym k) tt, i)
+    | inr n ↦ elim (within sections x) [
+      | inl (c, k, i) ↦ inl (c, subst Exclusive (sym k) tt, i)
+      | inr l ↦ inr (λ c h i. neither (R .kind c) h (λ q. n c q i) (λ q. l c q i))
+    ]
+  ]
+    where
+      neither : (k : Kind) → Exclusive k → ¬ (k ≡ single) → ¬ (k ≡ sections) → ⊥
+      neither single h n l = n refl
+      neither master h n l = h
+      neither critical h n l = h
+      neither loop h n l = h
+      neither ordered h n l = h
+      neither sections h n l = l refl
+      neither section h n l = h
+
+  -- no node is inside a single or a sections and inside a do
+  pub exclusive-or-do : {x c d : ℕ} → Exclusive (R .kind c) → R .inside x c ≡ true → R .kind d ≡ loop → R .inside x d ≡ true → ⊥
+  exclusive-or-do {c = c} h i k j =
+      subst Exclusive (ap (R .kind) (W .one-outermost i j (exclusive-outermost (R .kind c) h) (subst Outermost (sym k) tt)) ∙ k) h
+
+  pub exclusive-or-ordered : {x c d : ℕ} → Exclusive (R .kind c) → R .inside x c ≡ true → InOrdered R x d → ⊥
+  exclusive-or-ordered h i o = exclusive-or-do h i (is-do o) (inside-do o)

@@ -7,16 +7,19 @@ use Prim.Native.Nat.{ℕ, zero, suc, _+_, _≤_, _<_}
 use native.Mathlib.Omega.{arith}
 use native.Mathlib.Decide.{ℕ-discrete}
 use Rattle.lists.specs.Truth.{bad, clash}
-use Rattle.chart.specs.Region.{opens, Kind, single, master, critical, loop, ordered, Outermost, Region}
+use Rattle.chart.specs.Region.{opens, Kind, single, master, critical, loop, ordered, sections, section, Outermost, Region}
 use Rattle.chart.specs.WellFormed.{WellFormed}
 use Rattle.paths.specs.Path.{Open}
+use Rattle.paths.specs.Connected.{Connected}
 use Rattle.team.specs.State.{State, left}
 use Rattle.team.specs.Step.{First, NotFirst, MayPass, ThreadStep, pass}
 use Rattle.team.specs.Laws.{arrives}
 use Rattle.answers.specs.Unexcluded.{Returns}
 use Rattle.exact.specs.Hops.{end-top}
 use Rattle.exact.specs.Invariant.{rises}
-use Rattle.exact.specs.Walk.{Solo, stay, then, alone, first-or-not, ready-outside, walk}
+use Rattle.exact.specs.Solo.{Solo, stay, then, alone-at}
+use Rattle.exact.specs.Sections.{to-end}
+use Rattle.exact.specs.Walk.{first-or-not, ready-outside, walk}
 
 -- the first n values of f have a bound
 bounded : (n : ℕ) (f : ℕ → ℕ) → (b : ℕ) × ((k : ℕ) → k < n → f k ≤ b)
@@ -30,24 +33,35 @@ bounded (suc n) f = let B = bounded n f in (B .0 + f n, λ k l. go (B .1) k l (�
     go {b} h k l (yes q) = subst (λ (j : ℕ). f j ≤ b + f n) (sym q) (omega arith)
     go h k l (no q) = omega (arith, h k (omega arith))
 
-module _ {R : Region} (W : WellFormed R) {m t : ℕ} (t-in : t < m)
+module _ {R : Region} (W : WellFormed R) (C : Connected R) {m t : ℕ} (t-in : t < m)
     {c : ℕ} (o : R .role (R .begin c) ≡ opens c) (u : Outermost (R .kind c)) (ret : Returns R c) where
-  may-pass : (σ : State) (k : Kind) → Outermost k → NotFirst m σ t c → MayPass R m σ t c k
-  may-pass σ single h n = n
-  may-pass σ master h n = absurd h
-  may-pass σ critical h n = absurd h
-  may-pass σ loop h n = tt
-  may-pass σ ordered h n = absurd h
+  -- another instance of c, from its begin to its end
+  abbrev Through : State → Type 0
+  Through σ = (τ : State) × Solo R (Open R) m t σ τ × (τ .node t ≡ R .end c) × (σ .encounters t c < τ .encounters t c)
+
+  module _ (σ : State) (w : R .role (σ .node t) ≡ opens c) where
+    straight : (k : Kind) → R .kind c ≡ k → MayPass R m σ t c k → Through σ
+    straight k q g =
+        let S : ThreadStep R m σ t (R .end c) (left σ t c (R .end c)) = pass w (subst (MayPass R m σ t c) (sym q) g) refl in
+        (left σ t c (R .end c), alone-at W t-in S (λ z. bad (cc)), arrives S, omega (arith, rises S w))
+
+    once-through : (k : Kind) → R .kind c ≡ k → Outermost k → NotFirst m σ t c → Through σ
+    once-through single q h n = straight single q n
+    once-through master q h n = absurd h
+    once-through critical q h n = absurd h
+    once-through loop q h n = straight loop q tt
+    once-through ordered q h n = absurd h
+    once-through sections q h n = to-end W C t-in q σ w (λ z. bad (cc))
+    once-through section q h n = absurd h
 
   once-round : (σ : State) → σ .node t ≡ R .begin c → NotFirst m σ t c
       → (τ : State) × Solo R (Open R) m t σ τ × (τ .node t ≡ R .begin c) × (σ .encounters t c < τ .encounters t c)
   once-round σ h n =
-      let w : R .role (σ .node t) ≡ opens c = ap (R .role) h ∙ o in
-      let S : ThreadStep R m σ t (R .end c) (left σ t c (R .end c)) = pass w (may-pass σ (R .kind c) u n) refl in
-      let out : (d : ℕ) → R .inside (left σ t c (R .end c) .node t) d ≡ false = λ d. ap (λ (x : ℕ). R .inside x d) (arrives S) ∙ end-top W o u d .0 in
-      let B = walk W t-in (λ z p. p) ret (λ q. bad (cc (W .opens-ended o))) (left σ t c (R .end c))
-      (ready-outside (λ d i. clash i (W .outermost o u d)) (λ d i. absurd (clash i (out d)))) (inl (arrives S)) in
-      (B .0, then (alone W t-in S (λ q. bad (cc))) (B .1), B .2, omega (arith, B .1 .grow c, rises S w))
+      let A = once-through σ (ap (R .role) h ∙ o) (R .kind c) refl u n in
+      let out : (d : ℕ) → R .inside (A .0 .node t) d ≡ false = λ d. ap (λ (x : ℕ). R .inside x d) (A .2) ∙ end-top W o u d .0 in
+      let B = walk W C t-in (λ z p. p) ret (λ q. bad (cc (W .opens-ended o))) (A .0)
+      (ready-outside W (λ d i. clash i (W .outermost o u d)) (λ d i. absurd (clash i (out d)))) (inl (A .2)) in
+      (B .0, then (A .1) (B .1), B .2, omega (arith, A .3, B .1 .grow c))
 
   rounds : (n : ℕ) (σ : State) → σ .node t ≡ R .begin c → ((k : ℕ) → k < m → σ .encounters k c ≤ n + σ .encounters t c)
       → (τ : State) × Solo R (Open R) m t σ τ × (τ .node t ≡ R .begin c) × First m τ t c

@@ -8,14 +8,16 @@ use native.Mathlib.Omega.{arith}
 use native.Mathlib.Decide.{decLe}
 use Rattle.chart.specs.Region.{Outermost, Region}
 use Rattle.chart.specs.InOrdered.{InOrdered}
+use Rattle.chart.specs.InSection.{InSection}
 use Rattle.chart.specs.WellFormed.{WellFormed}
+use Rattle.chart.proofs.Sections.{sections-of, inside-sections}
 use Rattle.paths.specs.Path.{Open, BarrierFree}
 use Rattle.paths.specs.Connected.{Connected}
 use Rattle.phases.specs.Phases.{Direction, forward, backward, Boundary}
 use Rattle.team.specs.Run.{ConcurrentIn}
 use Rattle.answers.specs.Unexcluded.{Returns, Common, Unexcluded}
 use Rattle.exact.specs.Runs.{before, after}
-use Rattle.exact.specs.Nesting.{inside-do, do-outermost, single-outermost}
+use Rattle.exact.specs.Nesting.{inside-do, do-outermost, single-outermost, sections-outermost}
 use Rattle.exact.specs.Hops.{EndsAt, ends-path}
 use Rattle.exact.specs.Invariant.{MasterOf, Since, Until, Invariant, invariant, invariant-first, next-barrier}
 
@@ -76,4 +78,6 @@ module _ {R : Region} (W : WellFormed R) (C : Connected R) {m a b : ℕ} (M : Co
             (I .singles c q (M .t) (M .u) (M .t-in) (M .u-in) (M .differ) (on-a (λ x. R .inside x c ≡ true) i) (on-b (λ x. R .inside x c ≡ true) j));
         ordereds = λ d p q. returns (do-outermost W p) (inside-do W p) (inside-do W q)
             (I .ordereds d (M .t) (M .u) (M .t-in) (M .u-in) (M .differ) (on-a (λ x. InOrdered R x d) p) (on-b (λ x. InOrdered R x d) q));
+        sections = λ s p q. returns (sections-outermost (sections-of W p)) (inside-sections W p) (inside-sections W q)
+            (I .sections s (M .t) (M .u) (M .t-in) (M .u-in) (M .differ) (on-a (λ x. InSection R x s) p) (on-b (λ x. InSection R x s) q));
       }

@@ -14,11 +14,13 @@ use Rattle.team.specs.State.{State, released}
 use Rattle.team.specs.Step.{NoneOrdered, Step, release}
 use Rattle.team.specs.Run.{Run, done, step}
 use Rattle.team.specs.Laws.{released-at}
-use Rattle.exact.specs.Paths.{first-edge, extend}
+use Rattle.paths.specs.Connected.{Connected}
+use Rattle.paths.specs.PathLaws.{first-edge, extend}
 use Rattle.exact.specs.Constructs.{inside-open}
 use Rattle.exact.specs.Hops.{EndsAt, released-outside}
 use Rattle.exact.specs.Runs.{append}
-use Rattle.exact.specs.Walk.{Comes, settled, ready-outside, walk-rest}
+use Rattle.exact.specs.Solo.{Comes, settled}
+use Rattle.exact.specs.Walk.{ready-outside, walk-rest}
 
 abbrev pub AllAt : ℕ → State → ℕ → Type 0
 AllAt m σ b = (t : ℕ) → t < m → σ .node t ≡ b
@@ -46,11 +48,11 @@ barrier? (closes c) = no (λ q. bad (cc))
 pub bound-there : {R : Region} → WellFormed R → {e : ℕ} → R .role e ≡ barrier → Bound R e e
 bound-there W b = (inl refl, λ d o. inside-open W (o .within) b)
 
-module _ {R : Region} (W : WellFormed R) {m : ℕ} where
+module _ {R : Region} (W : WellFormed R) (C : Connected R) {m : ℕ} where
   -- one thread alone
   pub come : {t : ℕ} → t < m → (σ : State) {e : ℕ} → R .role e ≡ barrier → EndsAt R e (σ .node t)
       → ((d : ℕ) → R .inside (σ .node t) d ≡ true → NoneOrdered R m σ t d) → Comes R (Open R) m t σ e
-  come l σ b w f = walk-rest W l (λ z p. p) w σ (ready-outside (λ c i. inside-open W i b) f) refl
+  come l σ b w f = walk-rest W C l (λ z p. p) w σ (ready-outside W (λ c i. inside-open W i b) f) refl
 
   -- the threads below n, one after the other
   gather : {σ : State} {e : ℕ} → R .role e ≡ barrier → ((k : ℕ) → k < m → Bound R e (σ .node k)) → (n : ℕ) → n ≤ m

@@ -1,23 +1,23 @@
 -- The pair rules as common bits: rule 1 is no common start or no common end, and rules 2 to 4 are each a construct of their kind that both
--- nodes hold. So the answer is read off the masks.
+-- nodes hold. So the answer is read off the masks. Rule 5 applies to none: no chart has a section yet.
 -- Assumes nothing.
 use mathlib.Core.Path.{_≡_, refl, sym, _∙_, subst}
-use mathlib.Core.Logic.{_↔_}
-use mathlib.Core.Bool.{true, _||_, not, cond}
+use mathlib.Core.Logic.{_↔_, _≢_}
+use mathlib.Core.Bool.{true, false, _||_, not, cond}
 use mathlib.Core.List.{List}
 use Prim.Native.Nat.{ℕ, _<_}
 use native.Mathlib.Omega.{arith}
 use lib.Bits.{bitAnd}
 use lib.ListN.{length, getD}
-use Rattle.lists.specs.Truth.{same-truth}
+use Rattle.lists.specs.Truth.{false-if, same-truth}
 use Rattle.lists.specs.Means.{not-of}
 use Rattle.lists.specs.Mask.{Mask, mask-carry, mask-of}
 use Rattle.lists.specs.Common.{mask-both, common, common-test}
-use Rattle.chart.specs.Region.{Kind, single, master, loop, Region}
+use Rattle.chart.specs.Region.{Kind, single, master, loop, section, Region}
 use Rattle.chart.specs.WellFormed.{WellFormed}
-use Rattle.answers.specs.Answer.{noCommon, noCommonPhase, bothInMasters, bothInSingle, bothInOrdereds, answer}
+use Rattle.answers.specs.Answer.{noCommon, noCommonPhase, bothInMasters, bothInSingle, bothInOrdereds, bothInSection, answer}
 use Rattle.answers.specs.Unexcluded.{Common}
-use Rattle.answers.specs.AnswerLaws.{do-below, no-common-of, masters-of, single-of, ordereds-of}
+use Rattle.answers.specs.AnswerLaws.{do-below, no-common-of, masters-of, single-of, ordereds-of, section-of}
 use Rattle.phases.specs.Phases.{Direction, forward, backward, Boundary, barriers, barrierAt, marked, marks}
 use Rattle.phases.specs.PhasesLaws.{Marked, marked-means, barrier-number}
 use Rattle.profiles.specs.Marks.{Holds, Held, OfKind, startsIn, endsIn, heldIn, Marks}
@@ -63,6 +63,9 @@ module _ {R : Region} (W : WellFormed R) where
     unfolding noCommonPhase
     phase-by = rw (apart-by forward, apart-by backward)
 
+    no-section-by : ((c : ℕ) → R .kind c ≢ section) → bothInSection R a b ≡ false
+    no-section-by none = false-if (λ h. let (c, ((x, y), f)) = section-of W a b .0 h in none c (x .is-section))
+
   module _ (a b : ℕ) {m n s : ℕ} (v : Held R a m) (w : Held R b n) where
     -- a construct of this kind that both hold
     both-hold : (kind : Kind) → OfKind R kind s
@@ -105,4 +108,5 @@ answer-by M a b la lb =
       ← masters-by W a b v w (M .kinds .masters),
       ← single-by W a b v w (M .kinds .singles),
       ← ordereds-by W a b v w (M .kinds .dos),
+      no-section-by W a b (M .kinds .no-section),
     )

@@ -2,6 +2,7 @@ pub mod Path
 pub mod PathLaws
 pub mod Doors
 pub mod Connected
+pub mod Assigned
 pub mod Reach
 pub mod ReachLaws
 pub mod Decide

@@ -1,6 +1,8 @@
--- Laws of paths: joined, carried over to another graph, and reversed, each with its number of edges; and cut at the last node that stops.
+-- Laws of paths: joined, carried over to another graph, and reversed, each with its number of edges; taken apart at their ends; and cut at the
+-- last node that stops.
 -- Assumes nothing.
-use mathlib.Core.Path.{_≡_, refl, ap, _∙_}
+use mathlib.Core.Path.{_≡_, refl, ap, _∙_, subst}
+use mathlib.Core.Logic.{_⊎_, inl, inr}
 use Prim.Native.Nat.{ℕ, suc, _+_, _≤_}
 use native.Mathlib.Omega.{arith}
 use Rattle.paths.specs.Path.{Path, last, next, edges, Any}
@@ -41,6 +43,23 @@ pub edges-reverse : {E : ℕ → ℕ → Type 0} {P : ℕ → Type 0} {x y : ℕ
 unfolding edges reverse
 edges-reverse (last e) = refl
 edges-reverse (next e p w) = edges-append (reverse w) p (last e) ∙ omega (arith, edges-reverse w)
+
+-- What is left of a path to y, from x on; P is asked of x too.
+abbrev pub Rest : (ℕ → ℕ → Type 0) → (ℕ → Type 0) → ℕ → ℕ → Type 0
+Rest E P x y = (x ≡ y) ⊎ (P x × Path E P x y)
+
+module _ {E : ℕ → ℕ → Type 0} {P : ℕ → Type 0} where
+  pub first-edge : {x y : ℕ} → Path E P x y → (v : ℕ) × E x v × Rest E P v y
+  first-edge {y = y} (last e) = (y, e, inl refl)
+  first-edge (next {z = z} e p w) = (z, e, inr (p, w))
+
+  pub last-edge : {x y : ℕ} → Path E P x y → (v : ℕ) × E v y
+  last-edge {x = x} (last e) = (x, e)
+  last-edge (next e p w) = last-edge w
+
+  pub extend : {x y z : ℕ} → (y ≡ x) ⊎ (P y × Path E P x y) → E y z → Path E P x z
+  extend {z = z} (inl q) e = subst (λ (n : ℕ). Path E P n z) q (last e)
+  extend (inr w) e = append (w .1) (w .0) (last e)
 
 -- Let J have some nodes, and each node without P to which a path leads from one of J, past nodes with P. Then whatever a path leads to
 -- from one of J, a path past nodes with P leads to from one of J: what is left of the path behind its last node without P.

@@ -18,11 +18,12 @@ use Rattle.lists.specs.Bits.{has-of, mask-next}
 use Rattle.lists.specs.Common.{mask-none, mask-one}
 use Rattle.lists.specs.Store.{stored}
 use Rattle.chart.specs.Format.{outside, Construct, decode, constructAt}
-use Rattle.chart.specs.Region.{Kind, single, master, critical, loop, ordered, Region}
+use Rattle.chart.specs.Region.{Kind, single, master, critical, loop, ordered, sections, section, Region}
 use Rattle.chart.specs.Scope.{singleByte, masterByte, loopByte, orderedByte, kindOf, Encloses, here, up, parentOf}
 use Rattle.chart.specs.Reading.{region}
 use Rattle.chart.specs.declared.format.Chart.{Chart}
 use Rattle.chart.proofs.Records.{constructs-length}
+use Rattle.chart.proofs.Scopes.{no-section}
 use Rattle.chart.proofs.Tree.{Below, outside-encloses}
 use Rattle.chart.proofs.Whole.{Counts}
 use Rattle.answers.specs.Unexcluded.{Returns}
@@ -72,6 +73,8 @@ byteOf master = 2
 byteOf critical = 3
 byteOf loop = 4
 byteOf ordered = 5
+byteOf sections = 6
+byteOf section = 7
 
 back : (b : ℕ) → 1 ≤ b → b ≤ 5 → byteOf (kindOf b) ≡ b
 unfolding byteOf kindOf
@@ -177,4 +180,5 @@ module _ (s : List ℕ) (chart : Chart) (A : Accepted s chart) where
     masters = of-kind masterByte (omega arith) (omega arith);
     singles = of-kind singleByte (omega arith) (omega arith);
     dos = of-kind loopByte (omega arith) (omega arith);
+    no-section = λ c. no-section (byte c);
   })

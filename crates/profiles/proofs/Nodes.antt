@@ -11,11 +11,12 @@ use borrow.Author.Tests.{ne-eqb}
 use Rattle.lists.specs.Mask.{mask-carry}
 use Rattle.lists.specs.Store.{zeros}
 use Rattle.chart.specs.Format.{Node, Construct, decode, nodeAt}
-use Rattle.chart.specs.Region.{Kind, single, master, critical, loop, ordered, Region}
+use Rattle.chart.specs.Region.{Kind, single, master, critical, loop, ordered, sections, section, Region}
 use Rattle.chart.specs.Scope.{liesIn, scope, liesAt, scopeAt}
 use Rattle.chart.specs.Reading.{region}
 use Rattle.chart.specs.declared.format.Chart.{Chart}
 use Rattle.chart.proofs.Records.{nodes-length, constructs-length}
+use Rattle.chart.proofs.Scopes.{no-section}
 use Rattle.chart.proofs.Tree.{Below}
 use Rattle.chart.proofs.Whole.{Counts, lies, lies-below}
 use Rattle.phases.specs.Phases.{forward, backward}
@@ -60,6 +61,8 @@ module _ (s : List ℕ) (chart : Chart) (A : Accepted s chart) where
     given c ordered k i (q, f) =
         subst (Holds R x d) (sym (subst (λ (e : ℕ). R .kind e ≡ loop) (sym q) (well-formed s chart A .ordered-loop i k)))
         (record { construct = c; is-ordered = k; of-do = sym q; within = i }, f)
+    given c sections k i g = absurd g
+    given c section k i g = absurd (no-section _ k)
 
     -- and what the node holds, by its kind
     giver : (kind : Kind) → R .kind d ≡ kind → Holds R x d kind → (c : ℕ) × ((R .inside x c ≡ true) × Gives R c d (R .kind c))
@@ -68,6 +71,8 @@ module _ (s : List ℕ) (chart : Chart) (A : Accepted s chart) where
     giver critical k h = absurd h
     giver loop k (o, f) = (o .construct, (o .within, subst (Gives R (o .construct) d) (sym (o .is-ordered)) (sym (o .of-do), f)))
     giver ordered k h = absurd h
+    giver sections k h = absurd h
+    giver section k h = absurd (no-section _ k)
 
   pub node-held : {chains : List ℕ} → Chains R (Counts (decode s)) (chart .constructs) chains
       → (x p m : ℕ) → p ≡ lies (decode s) x → m ≡ maskAt chains p → Held R x m

@@ -9,7 +9,7 @@ use lib.ListN.{length, getD}
 use Rattle.lists.specs.Mask.{Mask}
 use Rattle.lists.specs.Bits.{has}
 use Rattle.chart.specs.Format.{outside, Construct, constructAt}
-use Rattle.chart.specs.Region.{Kind, single, master, critical, loop, ordered, Region}
+use Rattle.chart.specs.Region.{Kind, single, master, critical, loop, ordered, sections, section, Region}
 use Rattle.chart.specs.Scope.{singleByte, masterByte, orderedByte, Encloses}
 use Rattle.answers.specs.Unexcluded.{Returns}
 
@@ -20,6 +20,8 @@ Gives R c d master = (R .kind d ≡ master) × (R .thread c ≡ R .thread d)
 Gives R c d critical = ⊥
 Gives R c d loop = ⊥
 Gives R c d ordered = (d ≡ R .parent c) × (Returns R d → ⊥)
+Gives R c d sections = ⊥
+Gives R c d section = (d ≡ c) × (Returns R (R .parent d) → ⊥)
 
 -- A node that lies in p holds d: so a construct of the region gives it, which is p or stands above p.
 abbrev pub HeldIn : Region → (ℕ → Type 0) → ℕ → ℕ → Type 0

@@ -2,13 +2,15 @@
 -- is then a common bit of two nodes' masks (crate pairs, specs/Rules.antt).
 -- Assumes nothing.
 use mathlib.Core.Path.{_≡_}
+use mathlib.Core.Logic.{_≢_}
 use mathlib.Core.Bool.{true}
 use mathlib.Core.List.{List, []}
 use Prim.Native.Nat.{ℕ, _≤_, _<_}
 use lib.ListN.{getD}
 use Rattle.lists.specs.Mask.{Mask}
-use Rattle.chart.specs.Region.{Kind, single, master, critical, loop, ordered, Region}
+use Rattle.chart.specs.Region.{Kind, single, master, critical, loop, ordered, sections, section, Region}
 use Rattle.chart.specs.InOrdered.{InOrdered}
+use Rattle.chart.specs.InSection.{InSection}
 use Rattle.chart.specs.WellFormed.{WellFormed}
 use Rattle.answers.specs.Unexcluded.{Returns, In}
 use Rattle.phases.specs.Phases.{forward, backward}
@@ -22,6 +24,8 @@ Holds R x d master = (c : ℕ) × (In R master x c × (R .thread c ≡ R .thread
 Holds R x d critical = ⊥
 Holds R x d loop = InOrdered R x d × (Returns R d → ⊥)
 Holds R x d ordered = ⊥
+Holds R x d sections = ⊥
+Holds R x d section = InSection R x d × (Returns R (R .parent d) → ⊥)
 
 -- The mask of the constructs that x holds, and that of the constructs of a kind.
 abbrev pub Held : Region → ℕ → ℕ → Type 0
@@ -34,6 +38,8 @@ pub record Kinds (R : Region) (sets : Sets) : Type 0 where
   pub masters : OfKind R master (sets .masters)
   pub singles : OfKind R single (sets .singles)
   pub dos : OfKind R loop (sets .dos)
+  -- no chart has a section yet, so that no mask of them is kept
+  pub no-section : (c : ℕ) → R .kind c ≢ section
 
 -- The rows of a table of masks.
 abbrev pub startsIn : List (List ℕ) → List ℕ
