@@ -2,6 +2,7 @@
 ghost use Prim.Native.Nat.{_+_, _/_, _%_, _≤_, _<_};
 ghost use lib.ListN.{length};
 ghost use Rattle.calls.specs.Bytes.{Put};
+use output::Written;
 
 // Writes the mask to the eight bytes of out that begin at `at`.
 pub fn put_mask(out: &mut [u8], at: usize, mask: u64)
@@ -10,7 +11,7 @@ pub fn put_mask(out: &mut [u8], at: usize, mask: u64)
 {
     let mut rest = mask;
     let mut k = 0;
-    while k < 8 {
+    while k < Written::MASK {
         out[at + k] = (rest % 256) as u8;
         rest = rest / 256;
         k += 1;

@@ -9,6 +9,7 @@ ghost use Rattle.loading.specs.Tables.{Masks};
 ghost use Rattle.calls.specs.Phases.{phasesResult};
 use crate::bytes::put_mask;
 use chart::format::Chart;
+use output::Written;
 
 // The first 16 * n bytes of out become the starts and ends of the first n nodes.
 pub fn fill_phases(
@@ -22,8 +23,8 @@ pub fn fill_phases(
 {
     let mut x = 0;
     while x < n {
-        put_mask(out, 16 * x, starts[x]);
-        put_mask(out, 16 * x + 8, ends[x]);
+        put_mask(out, Written::PHASES_NODE * x, starts[x]);
+        put_mask(out, Written::PHASES_NODE * x + Written::MASK, ends[x]);
         x += 1;
     }
 }

@@ -14,8 +14,10 @@ pub enum Written {
 }
 
 impl Written {
-    // Bytes that Phases writes for a node.
-    pub const PHASES_NODE: usize = 16;
+    // Bytes of a mask.
+    pub const MASK: usize = 8;
+    // Bytes that Phases writes for a node: its starts and its ends.
+    pub const PHASES_NODE: usize = 2 * Written::MASK;
 }
 
 // Row 11, for a result of this size.
