@@ -58,22 +58,28 @@ extern "C" {
  *
  * Inside. A plain node lies in the construct that its record names, a begin or an end in the parent
  * of its construct, a barrier in none. A node is inside the construct that it lies in, that one's
- * parent, and so on. So a construct's own begin and end are not inside it.
+ * parent, and so on. So a construct's own begin and end are not inside it; for
+ * BOHRALI_ANSWER_SECTION alone a section's begin and end count as inside it.
  *
  * Edges. They rise strictly by (from, to): by `from`, and where that is equal by `to`. None leads
  * into Start or out of Finish. Each stays in one construct, or outside all: it leads from the
  * construct's begin, or from a plain node, a barrier or an end that lies there, to the construct's
- * end, or to a plain node, a barrier or a begin that lies there. Along edges every node other than
- * Start is reached from Start, and every node other than Finish reaches Finish.
+ * end, or to a plain node, a barrier or a begin that lies there. None leads from a section's end to
+ * a section's begin, its own or another's. Along edges every node other than Start is reached from
+ * Start, and every node other than Finish reaches Finish; so a sections has an edge from its begin
+ * to each section's begin, and one from each section's end to its end.
  *
- * Nesting. Above a construct are its parent, that one's parent, and so on. Above a single or a do:
- * nothing. Above a master: criticals only. Above an ordered: a do only, and that is its parent.
- * Above a critical: any kind, but no critical of the same name; unnamed ones have the same name.
+ * Nesting. Above a construct are its parent, that one's parent, and so on. Above a single, a do or
+ * a sections: nothing. Above a master: criticals only. Above an ordered: a do only, and that is its
+ * parent. Above a section: a sections only, and that is its parent. Above a critical: any kind, but
+ * no critical of the same name; unnamed ones have the same name. Directly in a sections lie only
+ * the begins and ends of its sections: a plain node or a critical lies in one of these.
  *
  * Edges are for a thread that enters. None is needed for threads that go straight from the begin of
- * a master, a single or a do to its end, or from a do's end to the next iteration; a path of edges
- * from a construct's end to its begin brings threads to the whole construct again. A barrier that
- * OpenMP implies, as after a single or a do without NOWAIT, is a barrier node like any other. */
+ * a master, a single, a do or a sections to its end, from a do's end to the next iteration, or from
+ * the end of a sections to a section that is left to take; a path of edges from a construct's end
+ * to its begin brings threads to the whole construct again. A barrier that OpenMP implies, as after
+ * a single, a do or a sections without NOWAIT, is a barrier node like any other. */
 
 /* Limits of a chart. Barriers are never fewer than 2: Start and Finish. */
 #define BOHRALI_LEAST_NODES 2
@@ -111,7 +117,9 @@ enum bohrali_construct_kind {
     BOHRALI_CONSTRUCT_MASTER = 2,
     BOHRALI_CONSTRUCT_CRITICAL = 3,
     BOHRALI_CONSTRUCT_DO = 4,
-    BOHRALI_CONSTRUCT_ORDERED = 5
+    BOHRALI_CONSTRUCT_ORDERED = 5,
+    BOHRALI_CONSTRUCT_SECTIONS = 6, /* deals out its sections, each to one thread */
+    BOHRALI_CONSTRUCT_SECTION = 7   /* one of them */
 };
 
 /* In place of a construct's number: none. */
@@ -132,8 +140,10 @@ enum bohrali_answer {
     BOHRALI_ANSWER_NO_COMMON_PHASE = 1, /* never: no common start, or no common end */
     BOHRALI_ANSWER_MASTER = 2,          /* never: each is inside some master */
     BOHRALI_ANSWER_SINGLE = 3,          /* never: both inside one single, which does not return */
-    BOHRALI_ANSWER_ORDERED = 4          /* never: both inside ordereds of one do, which does not
+    BOHRALI_ANSWER_ORDERED = 4,         /* never: both inside ordereds of one do, which does not
                                            return */
+    BOHRALI_ANSWER_SECTION = 5          /* never: both inside one section, its begin and end counted
+                                           as inside, whose sections does not return */
 };
 
 /* In a sheet, in place of an answer: one of the two nodes is a barrier, or both are. */
@@ -147,7 +157,8 @@ enum bohrali_refusal {
     BOHRALI_REFUSED_COUNTS = 3,    /* node, edge or construct count outside its limits */
     BOHRALI_REFUSED_LENGTHS = 4,   /* length or a distance of the trailer differs */
     BOHRALI_REFUSED_NODE = 5,      /* a node's kind or construct number */
-    BOHRALI_REFUSED_CONSTRUCT = 6, /* a construct's kind, parent or name, or the nesting */
+    BOHRALI_REFUSED_CONSTRUCT = 6, /* a construct's kind, parent or name, the nesting, or a node or
+                                      construct wrongly in a sections */
     BOHRALI_REFUSED_FRAME = 7,     /* not exactly one begin and one end for each construct */
     BOHRALI_REFUSED_BARRIER = 8,   /* first or last node no barrier, or over 64 barriers */
     BOHRALI_REFUSED_EDGE = 9,      /* an edge names no node, is out of order or is not allowed */
@@ -161,7 +172,7 @@ enum bohrali_refusal {
  * 10, negated. A phase is a pair (start, end) that some node has; equal pairs count once. */
 int64_t bohrali_admit(const uint8_t *chart, size_t chart_len);
 
-/* The answer for nodes a and b: 0 to 4, or a refusal 1 to 10 or 13, negated. Any numbers may be
+/* The answer for nodes a and b: 0 to 5, or a refusal 1 to 10 or 13, negated. Any numbers may be
  * handed over; the order of the two does not matter. */
 int64_t bohrali_pair(const uint8_t *chart, size_t chart_len, size_t a, size_t b);
 

@@ -10,9 +10,9 @@ use Rattle.lists.specs.Range.{any, count, first}
 use Rattle.lists.specs.Tab.{tab}
 use Rattle.chart.specs.Format.{outside, size, field, nodeOf, edgeOf, constructOf, trailerOf, records, lastTrailer, decode, nodeAt, edgeAt, constructAt}
 use Rattle.chart.specs.Scope.{singleByte, masterByte, criticalByte, loopByte, orderedByte, roleOf, kindOf, liesIn, scope, encloses, parentOf, roleAt, liesAt, scopeAt}
-use Rattle.chart.specs.Nesting.{mayEnclose, sameCritical, excluded, wronglyAbove, strayOrdered, misnested}
+use Rattle.chart.specs.Nesting.{mayEnclose, sameCritical, excluded, wronglyAbove, misplaced, misnested}
 use Rattle.chart.specs.Reading.{edgeIn, insideAt, frameOf, region}
-use Rattle.chart.specs.Refusal.{badMarks, badCounts, badLengths, badNode, badNodeAt, badNodes, badConstruct, badAlone, badConstructs, framesIn, badFrame, badFrames, isBarrier, badBarriers, badEdge, rises, badEdgeAt, badEdges, firstOf, trailerRows, tableRows, chartRows}
+use Rattle.chart.specs.Refusal.{badMarks, badCounts, badLengths, badNode, badNodeAt, badNodes, badConstruct, badAlone, strayNode, badConstructs, framesIn, badFrame, badFrames, isBarrier, badBarriers, badEdge, rises, badEdgeAt, framesSection, joinsSections, badEdges, firstOf, trailerRows, tableRows, chartRows}
 use Rattle.paths.specs.Reach.{marks?, marks, reaches}
 use Rattle.paths.specs.Decide.{reachesFree, reachesAny, returns}
 use Rattle.paths.specs.Admission.{cutOff, badPaths, admitRows}
@@ -110,8 +110,8 @@ computed e = (firstOf (admitRows (e .bytes)), answer (region (decode (e .bytes))
 -- Every chart of the list is admitted, and every answer is 01's.
 pub starred-answers : map computed starred ≡ map (λ e. (none, e .gives)) starred
 unfolding starred computed answer bothInSection bothInOrdereds bothInSingle bothInMasters noCommonPhase noCommon inOrderedOf inSection isIn returns isBoundary
-    admitRows badPaths cutOff reachesAny reachesFree reaches marks marks? chartRows tableRows trailerRows firstOf badEdges badEdgeAt rises badEdge badBarriers
-    isBarrier badFrames badFrame framesIn badConstructs badAlone badConstruct badNodes badNodeAt badNode badLengths badCounts badMarks
-    misnested strayOrdered wronglyAbove excluded sameCritical mayEnclose edgeIn insideAt frameOf scopeAt liesAt roleAt parentOf encloses scope liesIn kindOf
+    admitRows badPaths cutOff reachesAny reachesFree reaches marks marks? chartRows tableRows trailerRows firstOf badEdges joinsSections framesSection badEdgeAt rises badEdge badBarriers
+    isBarrier badFrames badFrame framesIn badConstructs strayNode badAlone badConstruct badNodes badNodeAt badNode badLengths badCounts badMarks
+    misnested misplaced wronglyAbove excluded sameCritical mayEnclose edgeIn insideAt frameOf scopeAt liesAt roleAt parentOf encloses scope liesIn kindOf
     roleOf constructAt edgeAt nodeAt decode lastTrailer records trailerOf constructOf edgeOf nodeOf field tab any count first is
 starred-answers = refl

@@ -11,11 +11,11 @@ use native.Mathlib.Decide.{ℕ-discrete}
 use lib.Dec.{eqb, ltb, leb}
 use lib.ListN.{length}
 use borrow.Author.Tests.{ltb-true, ltb-false, leb-false, eqb-true, eqb-false, not-false, lt-ltb, le-ltb, le-leb, lt-leb, leb-true, eq-eqb, ne-eqb}
-use Rattle.lists.specs.Truth.{and-both, both-and, or-cases, or-left, or-right, true-not, or-neither, neither-or, and-fails, fails-and, not-eqb, eq-not-eqb}
-use Rattle.lists.specs.Range.{count, any-at, none-passes, any-none, count-two, count-some, count-only}
-use Rattle.chart.specs.Format.{outside, Node, Edge, Construct, Decoded, nodeAt, edgeAt}
-use Rattle.chart.specs.Scope.{barrierNode, beginNode, endNode, scopeAt}
-use Rattle.chart.specs.Refusal.{badNode, badNodeAt, badNodes, framesIn, badFrame, badFrames, isBarrier, badBarriers, badEdge, rises, badEdgeAt, badEdges}
+use Rattle.lists.specs.Truth.{clash, false-if, and-both, both-and, or-cases, or-left, or-right, true-not, or-neither, neither-or, and-fails, fails-and, not-eqb, eq-not-eqb}
+use Rattle.lists.specs.Range.{any, count, any-at, none-passes, any-none, count-two, count-some, count-only}
+use Rattle.chart.specs.Format.{outside, Node, Edge, Construct, Decoded, nodeAt, edgeAt, constructAt}
+use Rattle.chart.specs.Scope.{barrierNode, beginNode, endNode, sectionByte, scopeAt}
+use Rattle.chart.specs.Refusal.{badNode, badNodeAt, badNodes, framesIn, badFrame, badFrames, isBarrier, badBarriers, badEdge, rises, badEdgeAt, framesSection, joinsSections, badEdges}
 use Rattle.chart.proofs.Tree.{Below}
 use Rattle.chart.proofs.NestingFacts.{ConstructsFit, below-fits, fit-below}
 
@@ -163,8 +163,14 @@ pub record EdgeFits (nodes : List Node) (constructs : List Construct) (from to :
 abbrev pub Rises : Edge → Edge → Type 0
 Rises before after = (before .from < after .from) ⊎ ((before .from ≡ after .from) × (before .to < after .to))
 
+-- Node x is of this kind and frames a section.
+abbrev pub FramesSection : Decoded → ℕ → ℕ → Type 0
+FramesSection D kind x =
+    (nodeAt (D .nodes) x .kind ≡ kind) × (constructAt (D .constructs) (nodeAt (D .nodes) x .number) .kind ≡ sectionByte)
+
 pub record EdgesFit (D : Decoded) : Type 0 where
   pub alone : (i : ℕ) → i < length (D .edges) → EdgeFits (D .nodes) (D .constructs) (edgeAt (D .edges) i .from) (edgeAt (D .edges) i .to)
+  pub apart : (i : ℕ) → i < length (D .edges) → FramesSection D endNode (edgeAt (D .edges) i .from) → FramesSection D beginNode (edgeAt (D .edges) i .to) → ⊥
   pub rising : (i : ℕ) → suc i < length (D .edges) → Rises (edgeAt (D .edges) i) (edgeAt (D .edges) (suc i))
 
 edge-fits : (nodes : List Node) (constructs : List Construct) (from to : ℕ)
@@ -208,15 +214,33 @@ fit-rise before after (inr l) =
 abbrev falls : List Edge → ℕ → ℕ → Bool
 falls edges before i = ltb 0 i && not (rises (edgeAt edges before .from) (edgeAt edges before .to) (edgeAt edges i .from) (edgeAt edges i .to))
 
+section-fits : (D : Decoded) (kind x : ℕ) → framesSection D kind x ≡ true → FramesSection D kind x
+unfolding framesSection
+section-fits D kind x h =
+    let b = and-both (eqb (nodeAt (D .nodes) x .kind) kind) _ h in
+    (eqb-true _ kind (b .0), eqb-true _ sectionByte (b .1))
+
+fit-section : (D : Decoded) (kind x : ℕ) → FramesSection D kind x → framesSection D kind x ≡ true
+unfolding framesSection
+fit-section D kind x h = both-and _ _ (eq-eqb _ kind (h .0)) (eq-eqb _ sectionByte (h .1))
+
 pub edges-fit : (D : Decoded) → badEdges D ≡ false → EdgesFit D
-unfolding badEdges badEdgeAt
-edges-fit D h = record { alone = λ i l. edge-fits _ _ _ _ (parts i l .0); rising = risen }
+unfolding badEdges badEdgeAt joinsSections
+edges-fit D h = record {
+  alone = λ i l. edge-fits _ _ _ _ (parts i l .0);
+  apart = λ i l a b. clash (both-and _ _ (fit-section D endNode _ a) (fit-section D beginNode _ b))
+      (none-passes (length (D .edges)) (joinsSections D) (both .1) i l);
+  rising = risen;
+}
   where
+    both : (any (length (D .edges)) (badEdgeAt D) ≡ false) × (any (length (D .edges)) (joinsSections D) ≡ false)
+    both = or-neither (any (length (D .edges)) (badEdgeAt D)) _ h
+
     parts : (i : ℕ) → i < length (D .edges)
         → (badEdge (D .nodes) (D .constructs) (edgeAt (D .edges) i .from) (edgeAt (D .edges) i .to) ≡ false) × (falls (D .edges) (i - 1) i ≡ false)
     parts i l =
         or-neither (badEdge (D .nodes) (D .constructs) (edgeAt (D .edges) i .from) (edgeAt (D .edges) i .to)) _
-        (none-passes (length (D .edges)) (badEdgeAt D) h i l)
+        (none-passes (length (D .edges)) (badEdgeAt D) (both .0) i l)
 
     risen : (i : ℕ) → suc i < length (D .edges) → Rises (edgeAt (D .edges) i) (edgeAt (D .edges) (suc i))
     risen i l =
@@ -225,8 +249,11 @@ edges-fit D h = record { alone = λ i l. edge-fits _ _ _ _ (parts i l .0); risin
         rise-fits (edgeAt (D .edges) i) (edgeAt (D .edges) (suc i)) (not-false _ (and-fails (ltb 0 (suc i)) _ f (lt-ltb 0 (suc i) (omega arith))))
 
 pub fit-edges : (D : Decoded) → EdgesFit D → badEdges D ≡ false
-unfolding badEdges badEdgeAt
-fit-edges D F = any-none (length (D .edges)) (badEdgeAt D) (λ i l. neither-or _ _ (fit-edge _ _ _ _ (F .alone i l)) (risen i l))
+unfolding badEdges badEdgeAt joinsSections
+fit-edges D F =
+    neither-or _ _ (any-none (length (D .edges)) (badEdgeAt D) (λ i l. neither-or _ _ (fit-edge _ _ _ _ (F .alone i l)) (risen i l)))
+    (any-none (length (D .edges)) (joinsSections D)
+    (λ i l. fails-and _ _ (λ a. false-if (λ b. F .apart i l (section-fits D endNode _ a) (section-fits D beginNode _ b)))))
   where
     risen : (i : ℕ) → i < length (D .edges) → falls (D .edges) (i - 1) i ≡ false
     risen zero l = refl

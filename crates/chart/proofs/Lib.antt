@@ -1,4 +1,5 @@
 pub mod Records
+pub mod Constructs
 pub mod Tree
 pub mod Rows
 pub mod NestingFacts

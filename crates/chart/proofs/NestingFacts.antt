@@ -1,21 +1,21 @@
 -- What row 6 of the refusals stands for, as facts over the constructs of a chart, and that the row's test fails exactly where they hold.
 -- A name that ends in `fit` or `fits` goes from the test to the facts, one that begins with `fit` goes back.
 -- Assumes nothing.
-use mathlib.Core.Path.{_≡_}
+use mathlib.Core.Path.{_≡_, refl, sym, _∙_}
 use mathlib.Core.Logic.{inl, inr, _≢_}
-use mathlib.Core.Bool.{true, false, _&&_, _||_, not}
+use mathlib.Core.Bool.{Bool, true, false, _&&_, _||_, not, Bool·beq}
 use mathlib.Core.List.{List}
 use Prim.Native.Nat.{ℕ, _≤_, _<_}
 use native.Mathlib.Omega.{arith}
 use lib.Dec.{eqb, ltb}
 use lib.ListN.{length}
 use borrow.Author.Tests.{ltb-true, ltb-false, eqb-true, eqb-false, not-true, not-false, lt-ltb, le-ltb, eq-eqb, ne-eqb}
-use Rattle.lists.specs.Truth.{truth, true-not, and-false, or-neither, neither-or, and-fails, fails-and, not-eqb, eq-not-eqb}
+use Rattle.lists.specs.Truth.{truth, clash, same-truth, beq-equal, true-not, and-false, or-neither, neither-or, and-fails, fails-and, not-eqb, eq-not-eqb}
 use Rattle.lists.specs.Range.{any, none-passes, any-none}
-use Rattle.chart.specs.Format.{outside, Construct, Decoded, constructAt}
-use Rattle.chart.specs.Scope.{criticalByte, loopByte, orderedByte, kindOf, encloses, Encloses, parentOf}
-use Rattle.chart.specs.Nesting.{kinds, mayEnclose, sameCritical, excluded, wronglyAbove, strayOrdered, misnested}
-use Rattle.chart.specs.Refusal.{badConstruct, badAlone, badConstructs}
+use Rattle.chart.specs.Format.{outside, Construct, Decoded, nodeAt, constructAt}
+use Rattle.chart.specs.Scope.{beginNode, criticalByte, loopByte, orderedByte, sectionsByte, sectionByte, kindOf, encloses, Encloses, parentOf}
+use Rattle.chart.specs.Nesting.{kinds, mayEnclose, sameCritical, excluded, wronglyAbove, misplaced, misnested}
+use Rattle.chart.specs.Refusal.{badConstruct, badAlone, strayNode, badConstructs}
 use Rattle.chart.proofs.Tree.{Below, below-more, computed, computes, lower}
 
 -- a number that is neither below a bound nor outside
@@ -41,11 +41,17 @@ pub record MayStand (kind name above aboveName : ℕ) : Type 0 where
   pub kinds : mayEnclose (kindOf kind) (kindOf above) ≡ true
   pub names : kind ≡ criticalByte → above ≡ criticalByte → name ≢ aboveName
 
+-- A construct of the kind `kind` may have a parent of the kind `above`.
+pub record Placed (kind above : ℕ) : Type 0 where
+  pub in-loop : kind ≡ orderedByte → above ≡ loopByte
+  pub in-sections : kind ≡ sectionByte → above ≡ sectionsByte
+  pub is-section : above ≡ sectionsByte → kind ≡ sectionByte
+
 -- Row 6, of a construct among the others.
 pub record Nests (constructs : List Construct) (c : ℕ) : Type 0 where
   pub below : {k : ℕ} → Encloses (parentOf constructs) (parentOf constructs c) k
       → MayStand (constructAt constructs c .kind) (constructAt constructs c .name) (constructAt constructs k .kind) (constructAt constructs k .name)
-  pub in-loop : constructAt constructs c .kind ≡ orderedByte → constructAt constructs (parentOf constructs c) .kind ≡ loopByte
+  pub placed : Placed (constructAt constructs c .kind) (constructAt constructs (parentOf constructs c) .kind)
 
 abbrev pub Alone : List Construct → Type 0
 Alone constructs =
@@ -55,6 +61,8 @@ Alone constructs =
 pub record ConstructsFit (D : Decoded) : Type 0 where
   pub alone : Alone (D .constructs)
   pub nested : (c : ℕ) → c < length (D .constructs) → Nests (D .constructs) c
+  -- only begins and ends lie directly in a sections
+  pub bare : (x : ℕ) → x < length (D .nodes) → nodeAt (D .nodes) x .kind < beginNode → constructAt (D .constructs) (nodeAt (D .nodes) x .number) .kind ≢ sectionsByte
 
 pub construct-fits : (c kind parent name : ℕ) → badConstruct c kind parent name ≡ false → ConstructFits c kind parent name
 unfolding badConstruct
@@ -93,6 +101,32 @@ fit-stand kind name above aboveName F =
     (fails-and (eqb kind criticalByte) _ (λ k. fails-and (eqb above criticalByte) (eqb name aboveName)
     (λ j. ne-eqb name aboveName (F .names (eqb-true kind criticalByte k) (eqb-true above criticalByte j)))))
 
+place-fits : (kind above : ℕ) → misplaced kind above ≡ false → Placed kind above
+unfolding misplaced
+place-fits kind above h =
+    let a = or-neither (eqb kind orderedByte && not (eqb above loopByte)) _ h in
+    let same : eqb kind sectionByte ≡ eqb above sectionsByte = beq-equal _ _ (not-false _ (a .1)) in
+    record {
+      in-loop = λ k. not-eqb above loopByte (and-fails (eqb kind orderedByte) _ (a .0) (eq-eqb kind orderedByte k));
+      in-sections = λ k. eqb-true above sectionsByte (sym same ∙ eq-eqb kind sectionByte k);
+      is-section = λ k. eqb-true kind sectionByte (same ∙ eq-eqb above sectionsByte k);
+    }
+
+equal-beq : (a b : Bool) → a ≡ b → not (Bool·beq a b) ≡ false
+equal-beq true true h = refl
+equal-beq false false h = refl
+equal-beq true false h = absurd (clash refl h)
+equal-beq false true h = absurd (clash h refl)
+
+fit-place : (kind above : ℕ) → Placed kind above → misplaced kind above ≡ false
+unfolding misplaced
+fit-place kind above F =
+    neither-or _ _
+    (fails-and (eqb kind orderedByte) _ (λ k. eq-not-eqb above loopByte (F .in-loop (eqb-true kind orderedByte k))))
+    (equal-beq _ _ (same-truth _ _
+    (λ k. eq-eqb above sectionsByte (F .in-sections (eqb-true kind sectionByte k)))
+    (λ k. eq-eqb kind sectionByte (F .is-section (eqb-true above sectionsByte k)))))
+
 module _ (constructs : List Construct) where
   -- parents that are lower or outside, so that the walk upwards finds all that encloses
   module _ (alone : Alone constructs) where
@@ -101,7 +135,7 @@ module _ (constructs : List Construct) where
     parents-lower c l = alone c l .parent-lower
 
     nesting-fits : (c : ℕ) → c < length constructs → misnested constructs c ≡ false → Nests constructs c
-    unfolding misnested wronglyAbove strayOrdered
+    unfolding misnested wronglyAbove
     nesting-fits c l h =
         let size = length constructs in
         let a = or-neither (any size (wronglyAbove constructs c)) _ h in
@@ -111,29 +145,37 @@ module _ (constructs : List Construct) where
           below = λ {k} e. stand-fits _ _ _ _ (and-fails (encloses parent size (parent c) k) _
               (none-passes size (wronglyAbove constructs c) (a .0) k (lower parent size parents-lower e size (omega arith) near))
               (computes parent size parents-lower e size (omega arith) near));
-          in-loop = λ k. not-eqb _ loopByte (and-fails (eqb (constructAt constructs c .kind) orderedByte) _ (a .1) (eq-eqb _ orderedByte k));
+          placed = place-fits _ _ (a .1);
         }
 
   fit-nesting : (c : ℕ) → Nests constructs c → misnested constructs c ≡ false
-  unfolding misnested wronglyAbove strayOrdered
+  unfolding misnested wronglyAbove
   fit-nesting c F =
       let size = length constructs in
       neither-or _ _
       (any-none size (wronglyAbove constructs c) (λ k l. fails-and (encloses (parentOf constructs) size (parentOf constructs c) k) _
       (λ e. fit-stand _ _ _ _ (F .below (computed (parentOf constructs) size (parentOf constructs c) k e)))))
-      (fails-and (eqb (constructAt constructs c .kind) orderedByte) _ (λ k. eq-not-eqb _ loopByte (F .in-loop (eqb-true _ orderedByte k))))
+      (fit-place _ _ (F .placed))
 
 pub constructs-fit : (D : Decoded) → badConstructs D ≡ false → ConstructsFit D
-unfolding badConstructs badAlone
+unfolding badConstructs badAlone strayNode
 constructs-fit D h =
     let size = length (D .constructs) in
-    let a = or-neither (any size (badAlone (D .constructs))) (any size (misnested (D .constructs))) h in
+    let a = or-neither (any size (badAlone (D .constructs))) _ h in
+    let b = or-neither (any size (misnested (D .constructs))) (any (length (D .nodes)) (strayNode D)) (a .1) in
     let alone : Alone (D .constructs) = λ c l. construct-fits _ _ _ _ (none-passes size (badAlone (D .constructs)) (a .0) c l) in
-    record { alone = alone; nested = λ c l. nesting-fits (D .constructs) alone c l (none-passes size (misnested (D .constructs)) (a .1) c l) }
+    record {
+      alone = alone;
+      nested = λ c l. nesting-fits (D .constructs) alone c l (none-passes size (misnested (D .constructs)) (b .0) c l);
+      bare = λ x l k. eqb-false _ sectionsByte
+          (and-fails (ltb (nodeAt (D .nodes) x .kind) beginNode) _ (none-passes (length (D .nodes)) (strayNode D) (b .1) x l) (lt-ltb _ beginNode k));
+    }
 
 pub fit-constructs : (D : Decoded) → ConstructsFit D → badConstructs D ≡ false
-unfolding badConstructs badAlone
+unfolding badConstructs badAlone strayNode
 fit-constructs D F =
     let size = length (D .constructs) in
     neither-or _ _ (any-none size (badAlone (D .constructs)) (λ c l. fit-construct _ _ _ _ (F .alone c l)))
-    (any-none size (misnested (D .constructs)) (λ c l. fit-nesting (D .constructs) c (F .nested c l)))
+    (neither-or _ _ (any-none size (misnested (D .constructs)) (λ c l. fit-nesting (D .constructs) c (F .nested c l)))
+    (any-none (length (D .nodes)) (strayNode D)
+    (λ x l. fails-and (ltb (nodeAt (D .nodes) x .kind) beginNode) _ (λ k. ne-eqb _ sectionsByte (F .bare x l (ltb-true _ beginNode k))))))

@@ -7,11 +7,10 @@ use Prim.Native.Nat.{ℕ, _≤_, _<_}
 use native.Mathlib.Omega.{arith}
 use native.Mathlib.Decide.{ℕ-discrete}
 use lib.Dec.{eqb}
-use borrow.Author.Tests.{eq-eqb, ne-eqb, lt-ltb, le-ltb}
-use Rattle.lists.specs.Truth.{bad}
+use borrow.Author.Tests.{eqb-true, eq-eqb, ne-eqb, lt-ltb, le-ltb}
 use Rattle.chart.specs.Format.{outside}
 use Rattle.chart.specs.Region.{Role, plain, barrier, opens, closes, Kind, single, master, critical, loop, ordered, sections, section}
-use Rattle.chart.specs.Scope.{singleByte, masterByte, loopByte, orderedByte, barrierNode, beginNode, endNode, roleOf, kindOf, liesIn, scope, Encloses, here, up}
+use Rattle.chart.specs.Scope.{singleByte, masterByte, loopByte, orderedByte, sectionsByte, sectionByte, barrierNode, beginNode, endNode, roleOf, kindOf, liesIn, scope, Encloses, here, up}
 use Rattle.chart.proofs.Reading.{Frame, begin, end, marks}
 
 -- the kind of a frame's node
@@ -67,7 +66,7 @@ pub scope-own : {own kind : ℕ} (number parent : ℕ) → kind ≡ own → scop
 unfolding scope
 scope-own {own} {kind} number parent q = rw (eq-eqb kind own q)
 
-scope-other : {own kind : ℕ} (number parent : ℕ) → kind ≢ own → scope own kind number parent ≡ liesIn kind number parent
+pub scope-other : {own kind : ℕ} (number parent : ℕ) → kind ≢ own → scope own kind number parent ≡ liesIn kind number parent
 unfolding scope
 scope-other {own} {kind} number parent n = rw (ne-eqb kind own n)
 
@@ -99,44 +98,47 @@ module _ (parent : ℕ → ℕ) (f : Frame) (kind number : ℕ) where
       go (yes q) = elim (first (rw (scope-own number (parent number) q) at e)) [ inl h ↦ inr (q, h) | inr h ↦ inl (rw (frame-lies q) h) ]
       go (no n) = inl (rw (scope-other number (parent number) n) at e)
 
--- the byte of an ordered
-pub ordered-byte : (byte : ℕ) → kindOf byte ≡ ordered → byte ≡ orderedByte
+-- the bytes of the kinds that nesting asks for
+abbrev Byte : ℕ → Kind → Type 0
+Byte byte single = Unit {0}
+Byte byte master = Unit {0}
+Byte byte critical = Unit {0}
+Byte byte loop = Unit {0}
+Byte byte ordered = byte ≡ orderedByte
+Byte byte sections = byte ≡ sectionsByte
+Byte byte section = byte ≡ sectionByte
+
+kind-byte : (byte : ℕ) → Byte byte (kindOf byte)
 unfolding kindOf
-ordered-byte byte h = go (ℕ-discrete byte 1) (ℕ-discrete byte 2) (ℕ-discrete byte 4) (ℕ-discrete byte 5)
+kind-byte byte =
+    either (eqb byte singleByte) single _ (λ h. tt) (either (eqb byte masterByte) master _ (λ h. tt) (either (eqb byte loopByte) loop _ (λ h. tt)
+    (either (eqb byte orderedByte) ordered _ (eqb-true byte orderedByte) (either (eqb byte sectionsByte) sections _ (eqb-true byte sectionsByte)
+    (either (eqb byte sectionByte) section critical (eqb-true byte sectionByte) tt)))))
   where
-    go : Dec (byte ≡ 1) → Dec (byte ≡ 2) → Dec (byte ≡ 4) → Dec (byte ≡ 5) → byte ≡ 5
-    go (yes a) b d e = absurd (bad (cc (rw (eq-eqb byte 1 a) at h)))
-    go (no a) (yes b) d e = absurd (bad (cc (rw (ne-eqb byte 1 a, eq-eqb byte 2 b) at h)))
-    go (no a) (no b) (yes d) e = absurd (bad (cc (rw (ne-eqb byte 1 a, ne-eqb byte 2 b, eq-eqb byte 4 d) at h)))
-    go (no a) (no b) (no d) (yes e) = e
-    go (no a) (no b) (no d) (no e) = absurd (bad (cc (rw (ne-eqb byte 1 a, ne-eqb byte 2 b, ne-eqb byte 4 d, ne-eqb byte 5 e) at h)))
+    either : (b : Bool) (k j : Kind) → (b ≡ true → Byte byte k) → Byte byte j → Byte byte (cond b k j)
+    either true k j h g = h refl
+    either false k j h g = g
+
+byte-of : (byte : ℕ) (kind : Kind) → kindOf byte ≡ kind → Byte byte kind
+byte-of byte kind h = subst (Byte byte) h (kind-byte byte)
+
+pub ordered-byte : (byte : ℕ) → kindOf byte ≡ ordered → byte ≡ orderedByte
+ordered-byte byte h = byte-of byte ordered h
+
+pub sections-byte : (byte : ℕ) → kindOf byte ≡ sections → byte ≡ sectionsByte
+sections-byte byte h = byte-of byte sections h
+
+pub section-byte : (byte : ℕ) → kindOf byte ≡ section → byte ≡ sectionByte
+section-byte byte h = byte-of byte section h
 
 pub loop-byte : {byte : ℕ} → byte ≡ loopByte → kindOf byte ≡ loop
 unfolding kindOf
 loop-byte h = rw h
 
--- No byte gives a sections or a section yet, so that what the laws ask of these two is asked of no construct.
-abbrev Older : Kind → Type 0
-Older single = Unit {0}
-Older master = Unit {0}
-Older critical = Unit {0}
-Older loop = Unit {0}
-Older ordered = Unit {0}
-Older sections = ⊥
-Older section = ⊥
-
-older : (byte : ℕ) → Older (kindOf byte)
+pub byte-sections : {byte : ℕ} → byte ≡ sectionsByte → kindOf byte ≡ sections
 unfolding kindOf
-older byte =
-    either (eqb byte singleByte) single _ tt (either (eqb byte masterByte) master _ tt
-    (either (eqb byte loopByte) loop _ tt (either (eqb byte orderedByte) ordered critical tt tt)))
-  where
-    either : (b : Bool) (k j : Kind) → Older k → Older j → Older (cond b k j)
-    either true k j h g = h
-    either false k j h g = g
+byte-sections h = rw h
 
-pub no-sections : (byte : ℕ) → kindOf byte ≢ sections
-no-sections byte h = subst Older h (older byte)
-
-pub no-section : (byte : ℕ) → kindOf byte ≢ section
-no-section byte h = subst Older h (older byte)
+pub byte-section : {byte : ℕ} → byte ≡ sectionByte → kindOf byte ≡ section
+unfolding kindOf
+byte-section h = rw h

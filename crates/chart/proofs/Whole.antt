@@ -7,21 +7,22 @@ use mathlib.Core.Bool.{true, _&&_}
 use mathlib.Core.List.{List}
 use Prim.Native.Nat.{ℕ, _-_, _≤_, _<_}
 use native.Mathlib.Omega.{arith}
-use native.Mathlib.Decide.{decLt}
+use native.Mathlib.Decide.{ℕ-discrete, decLt}
 use lib.Dec.{eqb}
 use lib.ListN.{length, List·getD-eq-default}
 use borrow.Author.Tests.{eqb-true, ltb-true}
 use Rattle.lists.specs.Truth.{and-both}
 use Rattle.lists.specs.Range.{first, any-at, at-any, first-passes}
-use Rattle.chart.specs.Format.{outside, Node, Construct, Decoded, noNode, noConstruct, nodeAt, edgeAt, constructAt}
-use Rattle.chart.specs.Region.{barrier, ordered}
-use Rattle.chart.specs.Scope.{loopByte, barrierNode, beginNode, roleAt, kindOf, liesIn, liesAt, scopeAt, Encloses, parentOf}
+use Rattle.chart.specs.Format.{outside, Node, Decoded, noNode, nodeAt, edgeAt, constructAt}
+use Rattle.chart.specs.Region.{barrier, closes, ordered, sections, section}
+use Rattle.chart.specs.Scope.{loopByte, sectionsByte, sectionByte, barrierNode, beginNode, endNode, roleAt, kindOf, liesIn, scope, liesAt, scopeAt, Encloses, parentOf}
 use Rattle.chart.specs.Reading.{edgeIn, insideAt, frameOf, region}
+use Rattle.chart.proofs.Constructs.{kind-below}
 use Rattle.chart.proofs.Tree.{Below, below-more, outside-encloses, computed, computes, lower, irreflexive}
 use Rattle.chart.proofs.NestingFacts.{parents-lower}
-use Rattle.chart.proofs.Facts.{NodeFits, TablesFit, FrameAt, OneFrame, EdgeFits, frame-construct, isFrame, is-frame, frame-is}
+use Rattle.chart.proofs.Facts.{NodeFits, TablesFit, FramesSection, FrameAt, OneFrame, EdgeFits, frame-construct, isFrame, is-frame, frame-is}
 use Rattle.chart.proofs.Reading.{Frame, begin, end, marks, frameIn, Reads}
-use Rattle.chart.proofs.Scopes.{byteOf, frame-byte, role-is, role-marks, marks-role, barrier-role, ordered-byte, loop-byte, no-sections, no-section, lies-number, lies-parent, scope-own, to-scope, of-scope}
+use Rattle.chart.proofs.Scopes.{byteOf, frame-byte, role-is, role-marks, marks-role, barrier-role, ordered-byte, sections-byte, section-byte, loop-byte, byte-sections, byte-section, lies-number, lies-parent, scope-own, scope-other, to-scope, of-scope}
 
 module _ (nodes : List Node) (kind c : ℕ) (one : OneFrame nodes kind c) where
   -- the one begin or end of c is the one that is found
@@ -49,6 +50,9 @@ module _ (D : Decoded) where
   abbrev size : ℕ
   size = length (D .constructs)
 
+  abbrev byte : ℕ → ℕ
+  byte c = constructAt (D .constructs) c .kind
+
   abbrev pub Counts : ℕ → Type 0
   Counts c = c < length (D .constructs)
 
@@ -58,14 +62,10 @@ module _ (D : Decoded) where
   abbrev pub scoped : Frame → ℕ → ℕ
   scoped f x = scopeAt (byteOf f) (D .nodes) (D .constructs) x
 
-  -- past the last node stands a plain one, past the last construct one of no kind
+  -- past the last node stands a plain one
   no-node : (x : ℕ) → length (D .nodes) ≤ x → nodeAt (D .nodes) x ≡ noNode
   unfolding nodeAt
   no-node x l = List·getD-eq-default (D .nodes) _ l
-
-  no-construct : (c : ℕ) → length (D .constructs) ≤ c → constructAt (D .constructs) c .kind ≡ 0
-  unfolding constructAt
-  no-construct c l = ap (λ (k : Construct). k .kind) (List·getD-eq-default (D .constructs) noConstruct l)
 
   in-chart : (x : ℕ) → 1 ≤ kind x → x < length (D .nodes)
   in-chart x k = elim (decLt x (length (D .nodes))) [
@@ -176,28 +176,95 @@ module _ (D : Decoded) where
     unfolding liesAt scopeAt
     scope-cases f x {c} e = elim (of-scope parent f (kind x) (number x) e) [ inl a ↦ inl a | inr h ↦ inr (at-marks f x c h) ]
 
-    edge-at : (x y : ℕ) → edgeIn (D .edges) x y ≡ true → EdgeFits (D .nodes) (D .constructs) x y
+    -- what holds of every edge of the list
+    edge-has : (P : ℕ → ℕ → Type 0) → ((i : ℕ) → i < length (D .edges) → P (edgeAt (D .edges) i .from) (edgeAt (D .edges) i .to))
+        → (x y : ℕ) → edgeIn (D .edges) x y ≡ true → P x y
     unfolding edgeIn
-    edge-at x y h =
+    edge-has P f x y h =
         let i = any-at (length (D .edges)) (λ i. eqb (edgeAt (D .edges) i .from) x && eqb (edgeAt (D .edges) i .to) y) h in
         let from = edgeAt (D .edges) (i .0) .from in
         let to = edgeAt (D .edges) (i .0) .to in
         let b = and-both (eqb from x) (eqb to y) (i .2) in
-        subst (λ (n : ℕ). EdgeFits (D .nodes) (D .constructs) n y) (eqb-true from x (b .0))
-        (subst (EdgeFits (D .nodes) (D .constructs) from) (eqb-true to y (b .1)) (F .edges .alone (i .0) (i .1)))
+        subst (λ (n : ℕ). P n y) (eqb-true from x (b .0)) (subst (P from) (eqb-true to y (b .1)) (f (i .0) (i .1)))
 
-    -- an ordered's parent is a construct of the chart, a do
-    loop-above : (c : ℕ) → c < size → kindOf (constructAt (D .constructs) c .kind) ≡ ordered → constructAt (D .constructs) (parent c) .kind ≡ loopByte
-    loop-above c l k = F .constructs .nested c l .in-loop (ordered-byte (constructAt (D .constructs) c .kind) k)
+    edge-at : (x y : ℕ) → edgeIn (D .edges) x y ≡ true → EdgeFits (D .nodes) (D .constructs) x y
+    edge-at x y h = edge-has (EdgeFits (D .nodes) (D .constructs)) (F .edges .alone) x y h
 
-    loop-counts : (c : ℕ) → c < size → kindOf (constructAt (D .constructs) c .kind) ≡ ordered → parent c < size
-    loop-counts c l k = elim (decLt (parent c) size) [
-      | yes p ↦ p
-      | no p ↦ absurd (none (sym (loop-above c l k) ∙ no-construct (parent c) (omega arith)))
+    edge-apart : (x y : ℕ) → edgeIn (D .edges) x y ≡ true → FramesSection D endNode x → FramesSection D beginNode y → ⊥
+    edge-apart x y h = edge-has (λ a b. FramesSection D endNode a → FramesSection D beginNode b → ⊥) (F .edges .apart) x y h
+
+    -- an ordered's parent is a do, a section's a sections
+    loop-above : (c : ℕ) → c < size → kindOf (byte c) ≡ ordered → byte (parent c) ≡ loopByte
+    loop-above c l k = F .constructs .nested c l .placed .in-loop (ordered-byte (byte c) k)
+
+    sections-above : (c : ℕ) → c < size → kindOf (byte c) ≡ section → byte (parent c) ≡ sectionsByte
+    sections-above c l k = F .constructs .nested c l .placed .in-sections (section-byte (byte c) k)
+
+    -- what stands directly in a sections is a section
+    directly-below : (k c : ℕ) → k < size → parent k ≡ c → kindOf (byte c) ≡ sections → byte k ≡ sectionByte
+    directly-below k c l q s = F .constructs .nested k l .placed .is-section (ap byte q ∙ sections-byte (byte c) s)
+
+    -- what lies directly in a sections is a begin or an end
+    no-plain : (x c : ℕ) → c ≢ outside → number x ≡ c → kindOf (byte c) ≡ sections → kind x < beginNode → ⊥
+    no-plain x c n q s l = elim (decLt x (length (D .nodes))) [
+      | yes h ↦ F .constructs .bare x h l (ap byte q ∙ sections-byte (byte c) s)
+      | no h ↦ n (sym q ∙ ap (λ (n : Node). n .number) (no-node x (omega arith)))
     ]
+
+    which-frame : (x : ℕ) → beginNode ≤ kind x → (f : Frame) × (kind x ≡ byteOf f)
+    which-frame x l = go (ℕ-discrete (kind x) beginNode) (node-fit x .known)
       where
-        none : _≡_ {A = ℕ} loopByte 0 → ⊥
-        none q = omega arith
+        go : Dec (kind x ≡ beginNode) → kind x ≤ endNode → (f : Frame) × (kind x ≡ byteOf f)
+        go (yes q) h = (begin, q)
+        go (no n) h = (end, omega arith)
+
+    directly-in : (x c : ℕ) → c ≢ outside → lies x ≡ c → kindOf (byte c) ≡ sections
+        → (f : Frame) × (s : ℕ) × (roleAt (D .nodes) x ≡ marks f s) × (kindOf (byte s) ≡ section)
+    unfolding liesAt
+    directly-in x c n q k = go (decLt (kind x) beginNode)
+      where
+        go : Dec (kind x < beginNode) → (f : Frame) × (s : ℕ) × (roleAt (D .nodes) x ≡ marks f s) × (kindOf (byte s) ≡ section)
+        go (yes l) = absurd (no-plain x c n (sym (lies-number (number x) (parent (number x)) l) ∙ q) k l)
+        go (no l) =
+            let b : beginNode ≤ kind x = omega arith in
+            let (f, w) = which-frame x b in
+            let d = directly-below (number x) c (frame-construct (node-fit x) b) (sym (lies-parent (number x) (parent (number x)) b) ∙ q) k in
+            (f, number x, at-marks f x (number x) (w, refl), byte-section d)
+
+    -- from a section's end an edge leads to the end of its sections alone
+    section-out : size ≤ outside → (x y s : ℕ) → edgeIn (D .edges) x y ≡ true → roleAt (D .nodes) x ≡ closes s → kindOf (byte s) ≡ section
+        → roleAt (D .nodes) y ≡ closes (parent s)
+    unfolding scopeAt liesAt
+    section-out few x y s e w k = go (decLt (kind y) beginNode) (ℕ-discrete (kind y) endNode)
+      where
+        h : FrameAt (D .nodes) endNode s x
+        h = marks-at end x s w
+
+        above : byte (parent s) ≡ sectionsByte
+        above = sections-above s (frame-counts end x s w) k
+
+        inner : parent s ≢ outside
+        inner q = let l = kind-below (D .constructs) (parent s) (omega (arith, above)) in omega arith
+
+        other : kind x ≢ beginNode
+        other q = let p = h .0 in omega arith
+
+        -- where y lies, if it is no end
+        arrives : scope endNode (kind y) (number y) (parent (number y)) ≡ parent s
+        arrives = sym (edge-at x y e .scopes) ∙ scope-other (number x) (parent (number x)) other ∙ frame-lies end x s w
+
+        go : Dec (kind y < beginNode) → Dec (kind y ≡ endNode) → roleAt (D .nodes) y ≡ closes (parent s)
+        go a (yes q) = at-marks end y (parent s) (q, sym (scope-own (number y) (parent (number y)) q) ∙ arrives)
+        go (yes l) (no n) =
+            absurd (no-plain y (parent s) inner
+            (sym (lies-number (number y) (parent (number y)) l) ∙ sym (scope-other (number y) (parent (number y)) n) ∙ arrives) (byte-sections above) l)
+        go (no l) (no n) =
+            let b : beginNode ≤ kind y = omega arith in
+            let last = node-fit y .known in
+            let q : kind y ≡ beginNode = omega arith in
+            let up = sym (lies-parent (number y) (parent (number y)) b) ∙ sym (scope-other (number y) (parent (number y)) n) ∙ arrives in
+            let d = directly-below (number y) (parent s) (frame-construct (node-fit y) b) up (byte-sections above) in
+            absurd (edge-apart x y e (h .0, ap byte (h .1) ∙ section-byte (byte s) k) (q, d))
 
     pub reads : size ≤ outside → Reads (region D) Counts lies scoped
     reads few = record {
@@ -222,14 +289,14 @@ module _ (D : Decoded) where
       scopes-agree = λ {x} {y} e. edge-at x y e .scopes;
       not-in-itself = λ l e. irreflexive parent size parents l e;
       nested = λ {c} l m e. F .constructs .nested c l .below e .kinds;
-      ordered-counts = λ {c} l k. loop-counts c l k;
+      ordered-counts = λ {c} l k. kind-below (D .constructs) (parent c) (omega (arith, loop-above c l k));
       ordered-loop = λ {c} l k. loop-byte (loop-above c l k);
-      section-counts = λ {c} l k. absurd (no-section (constructAt (D .constructs) c .kind) k);
-      section-sections = λ {c} l k. absurd (no-section (constructAt (D .constructs) c .kind) k);
-      directly-in = λ {x} {c} q l k. absurd (no-sections (constructAt (D .constructs) c .kind) k);
-      directly-below = λ {k} {c} l q m h. absurd (no-sections (constructAt (D .constructs) c .kind) h);
+      section-counts = λ {c} l k. kind-below (D .constructs) (parent c) (omega (arith, sections-above c l k));
+      section-sections = λ {c} l k. byte-sections (sections-above c l k);
+      directly-in = λ {x} {c} q l k. directly-in x c (λ z. past l z) q k;
+      directly-below = λ {k} {c} l q m h. (l, byte-section (directly-below k c l q h));
       enclosed-below = λ {x} e. lower parent size parents e size (omega arith) (lies-below x);
-      section-out = λ {x} {y} {s} e w k. absurd (no-section (constructAt (D .constructs) s .kind) k);
+      section-out = λ {x} {y} {s} e w k. section-out few x y s e w k;
       start-barrier = kind-barrier 0 (F .barriers .start);
       finish-barrier = kind-barrier (length (D .nodes) - 1) (F .barriers .finish);
       start-first = λ {x} e. edge-at x 0 e .not-into-start refl;

@@ -1,6 +1,6 @@
 -- The nesting rule (01: "Nesting"): what may stand anywhere above what.
 -- Assumes nothing.
-use mathlib.Core.Bool.{Bool, true, false, _&&_, _||_, not}
+use mathlib.Core.Bool.{Bool, true, false, _&&_, _||_, not, Bool·beq}
 use mathlib.Core.Path.{_≡_}
 use mathlib.Core.List.{List, []}
 use Prim.Native.Nat.{ℕ, _+_, _<_}
@@ -9,7 +9,7 @@ use lib.ListN.{length, getD}
 use Rattle.lists.specs.Range.{any}
 use Rattle.chart.specs.Format.{Construct, constructAt}
 use Rattle.chart.specs.Region.{Kind, single, master, critical, loop, ordered, sections, section}
-use Rattle.chart.specs.Scope.{criticalByte, loopByte, orderedByte, kindOf, encloses, parentOf}
+use Rattle.chart.specs.Scope.{criticalByte, loopByte, orderedByte, sectionsByte, sectionByte, kindOf, encloses, parentOf}
 
 -- May a construct of the second kind stand above one of the first? Above single, do and sections: nothing. Above master: critical. Above
 -- ordered: do. Above section: sections. Above critical: every kind.
@@ -54,18 +54,21 @@ wronglyAbove constructs c k =
     encloses (parentOf constructs) (length constructs) (parentOf constructs c) k
     && excluded (constructAt constructs c .kind) (constructAt constructs c .name) (constructAt constructs k .kind) (constructAt constructs k .name)
 
--- An ordered whose parent is no do.
-unfoldable pub strayOrdered : List Construct → ℕ → Bool
-strayOrdered constructs c =
-    eqb (constructAt constructs c .kind) orderedByte && not (eqb (constructAt constructs (parentOf constructs c) .kind) loopByte)
+-- A construct of the kind `kind` whose parent is of the kind `above`: an ordered in no do, a section in no sections, or another construct
+-- directly in a sections (02: wrongly in a sections).
+unfoldable pub misplaced : ℕ → ℕ → Bool
+misplaced kind above =
+    (eqb kind orderedByte && not (eqb above loopByte)) || not (Bool·beq (eqb kind sectionByte) (eqb above sectionsByte))
 
 -- Construct c breaks the nesting rule.
 unfoldable pub misnested : List Construct → ℕ → Bool
-misnested constructs c = any (length constructs) (wronglyAbove constructs c) || strayOrdered constructs c
+misnested constructs c =
+    any (length constructs) (wronglyAbove constructs c)
+    || misplaced (constructAt constructs c .kind) (constructAt constructs (parentOf constructs c) .kind)
 
--- How many kinds there are: their bytes are 1 to 5.
+-- How many kinds there are: their bytes are 1 to 7.
 abbrev pub kinds : ℕ
-kinds = 5
+kinds = 7
 
 -- A table that has the rule: rows by kind, columns by kind above, kinds counted from 0.
 pub record NestingTable (table : List (List Bool)) : Type 0 where

@@ -9,7 +9,7 @@ use lib.Dec.{eqb, ltb, leb}
 use lib.ListN.{length}
 use Rattle.lists.specs.Range.{any, count}
 use Rattle.chart.specs.Format.{outside, Node, Construct, Trailer, Decoded, decode, nodeAt, edgeAt, constructAt, size, trailerSize}
-use Rattle.chart.specs.Scope.{barrierNode, beginNode, endNode, criticalByte, leavingAt, arrivingAt}
+use Rattle.chart.specs.Scope.{barrierNode, beginNode, endNode, criticalByte, sectionsByte, sectionByte, leavingAt, arrivingAt}
 use Rattle.chart.specs.Nesting.{kinds, misnested}
 
 -- Row 2: edition or closing bytes differ. The bytes 4F 43, read as a field, are 0x434F.
@@ -42,7 +42,7 @@ badNodeAt D x = badNode (length (D .constructs)) (nodeAt (D .nodes) x .kind) (no
 unfoldable pub badNodes : Decoded → Bool
 badNodes D = any (length (D .nodes)) (badNodeAt D)
 
--- Row 6, of construct c by itself: kind not 1 to 5; parent not lower and not 255; name not 0 on a non-critical.
+-- Row 6, of construct c by itself: kind not 1 to 7; parent not lower and not 255; name not 0 on a non-critical.
 unfoldable pub badConstruct : ℕ → ℕ → ℕ → ℕ → Bool
 badConstruct c kind parent name =
     (ltb kind 1 || ltb kinds kind)
@@ -52,10 +52,20 @@ badConstruct c kind parent name =
 unfoldable pub badAlone : List Construct → ℕ → Bool
 badAlone constructs c = badConstruct c (constructAt constructs c .kind) (constructAt constructs c .parent) (constructAt constructs c .name)
 
--- Row 6: some construct by itself, or nesting broken.
+-- Some construct is of this kind.
+unfoldable pub anyOf : List Construct → ℕ → Bool
+anyOf constructs kind = any (length constructs) (λ c. eqb (constructAt constructs c .kind) kind)
+
+-- Row 6, of node x: it lies directly in a sections, and is no begin or end (02: a node wrongly in a sections).
+unfoldable pub strayNode : Decoded → ℕ → Bool
+strayNode D x =
+    ltb (nodeAt (D .nodes) x .kind) beginNode && eqb (constructAt (D .constructs) (nodeAt (D .nodes) x .number) .kind) sectionsByte
+
+-- Row 6: some construct by itself, or nesting broken, or a node wrongly in a sections.
 unfoldable pub badConstructs : Decoded → Bool
 badConstructs D =
-    any (length (D .constructs)) (badAlone (D .constructs)) || any (length (D .constructs)) (misnested (D .constructs))
+    any (length (D .constructs)) (badAlone (D .constructs))
+    || (any (length (D .constructs)) (misnested (D .constructs)) || any (length (D .nodes)) (strayNode D))
 
 -- Row 7: not exactly one begin and one end each. How many of the first n nodes are of a kind and have the number c.
 unfoldable pub framesIn : List Node → ℕ → ℕ → ℕ → ℕ
@@ -94,8 +104,17 @@ badEdgeAt D i =
     badEdge (D .nodes) (D .constructs) (edgeAt (D .edges) i .from) (edgeAt (D .edges) i .to)
     || (ltb 0 i && not (rises (edgeAt (D .edges) (i - 1) .from) (edgeAt (D .edges) (i - 1) .to) (edgeAt (D .edges) i .from) (edgeAt (D .edges) i .to)))
 
+-- Node x is of this kind, begin or end, and frames a section.
+unfoldable pub framesSection : Decoded → ℕ → ℕ → Bool
+framesSection D kind x =
+    eqb (nodeAt (D .nodes) x .kind) kind && eqb (constructAt (D .constructs) (nodeAt (D .nodes) x .number) .kind) sectionByte
+
+-- Row 9, of edge i: it leads from a section's end to a section's begin, the same section's too.
+unfoldable pub joinsSections : Decoded → ℕ → Bool
+joinsSections D i = framesSection D endNode (edgeAt (D .edges) i .from) && framesSection D beginNode (edgeAt (D .edges) i .to)
+
 unfoldable pub badEdges : Decoded → Bool
-badEdges D = any (length (D .edges)) (badEdgeAt D)
+badEdges D = any (length (D .edges)) (badEdgeAt D) || any (length (D .edges)) (joinsSections D)
 
 -- A row of the table: its number, and whether it applies.
 pub record Row : Type 0 where

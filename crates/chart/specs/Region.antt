@@ -9,7 +9,7 @@ pub data Role : Type 0 where
   plain barrier : Role
   opens closes : ℕ → Role
 
--- The kinds of constructs; `loop` is 01's do. A `section` stands in a `sections` (02, Note 1); no chart has these two yet.
+-- The kinds of constructs; `loop` is 01's do. A `section` stands in a `sections` (02, Note 1).
 pub data Kind : Type 0 where
   single master critical loop ordered sections section : Kind
   deriving Discrete as Kind-discrete

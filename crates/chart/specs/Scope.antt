@@ -6,7 +6,7 @@ use mathlib.Core.List.{List}
 use Prim.Native.Nat.{ℕ, zero, suc}
 use lib.Dec.{eqb, ltb}
 use Rattle.chart.specs.Format.{outside, Node, Construct, nodeAt, constructAt}
-use Rattle.chart.specs.Region.{Role, plain, barrier, opens, closes, Kind, single, master, critical, loop, ordered}
+use Rattle.chart.specs.Region.{Role, plain, barrier, opens, closes, Kind, single, master, critical, loop, ordered, sections, section}
 
 -- The kinds of nodes, as bytes; a plain node is 0.
 abbrev pub barrierNode : ℕ
@@ -22,7 +22,7 @@ endNode = 3
 unfoldable pub roleOf : ℕ → ℕ → Role
 roleOf kind number = cond (eqb kind barrierNode) barrier (cond (eqb kind beginNode) (opens number) (cond (eqb kind endNode) (closes number) plain))
 
--- The kinds of constructs, as bytes 1 to 5; a loop is 01's do.
+-- The kinds of constructs, as bytes 1 to 7; a loop is 01's do.
 abbrev pub singleByte : ℕ
 singleByte = 1
 
@@ -38,10 +38,17 @@ loopByte = 4
 abbrev pub orderedByte : ℕ
 orderedByte = 5
 
+abbrev pub sectionsByte : ℕ
+sectionsByte = 6
+
+abbrev pub sectionByte : ℕ
+sectionByte = 7
+
 unfoldable pub kindOf : ℕ → Kind
 kindOf byte =
     cond (eqb byte singleByte) single
-    (cond (eqb byte masterByte) master (cond (eqb byte loopByte) loop (cond (eqb byte orderedByte) ordered critical)))
+    (cond (eqb byte masterByte) master (cond (eqb byte loopByte) loop (cond (eqb byte orderedByte) ordered
+    (cond (eqb byte sectionsByte) sections (cond (eqb byte sectionByte) section critical)))))
 
 -- The construct that a node lies in (01: lies in): a begin and an end lie in the parent of their construct, not in it. A plain node or
 -- a barrier lies in the construct that its number names. `parent` is the parent of the construct of that number.

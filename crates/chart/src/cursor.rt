@@ -3,6 +3,7 @@ ghost use mathlib.Core.Path.{_≡_};
 ghost use Prim.Native.Nat.{_+_, _*_, _-_, _≤_, _<_};
 ghost use lib.ListN.{getD, length};
 ghost use Rattle.chart.specs.Format.{field, decode, nodeAt, edgeAt, constructAt};
+ghost use Rattle.chart.specs.Refusal.{anyOf};
 ghost use Rattle.chart.specs.Checked.{Laid, countsOf};
 use crate::format::Chart;
 use crate::format::Construct;
@@ -136,5 +137,21 @@ impl Construct {
             parent: cursor.byte(s, 1),
             name: cursor.field(s, 2),
         }
+    }
+
+    // Whether a chart has a construct of this kind.
+    pub fn occurs(s: &[u8], chart: Chart, kind: u8) -> bool
+        requires { ⌜ Laid (now s) chart ⌝ }
+        ensures { λ r. ⌜ r ≡ anyOf (decode (now (s .entry)) .constructs) kind ⌝ }
+    {
+        let n = chart.constructs;
+        let mut c = 0;
+        while c < n {
+            if Construct::read(s, chart, c).kind == kind {
+                return true;
+            }
+            c += 1;
+        }
+        false
     }
 }

@@ -32,13 +32,15 @@ impl Chart {
         + Edge::BYTES * Chart::EDGES
         + Construct::BYTES * Chart::CONSTRUCTS
         + Chart::TRAILER_BYTES;
-    // A row for each kind of construct, a column for each kind above it: single, master, critical, do, ordered.
+    // A row for each kind of construct, a column for each kind above it: single, master, critical, do, ordered, sections, section.
     pub const NESTING: [[bool; Construct::KINDS]; Construct::KINDS] = [
-        [false, false, false, false, false],
-        [false, false, true, false, false],
-        [true, true, true, true, true],
-        [false, false, false, false, false],
-        [false, false, false, true, false],
+        [false, false, false, false, false, false, false],
+        [false, false, true, false, false, false, false],
+        [true, true, true, true, true, true, true],
+        [false, false, false, false, false, false, false],
+        [false, false, false, true, false, false, false],
+        [false, false, false, false, false, false, false],
+        [false, false, false, false, false, true, false],
     ];
 }
 
@@ -87,8 +89,14 @@ impl Construct {
     pub const DO: u8 = 4;
 
     pub const ORDERED: u8 = 5;
+
+    pub const SECTIONS: u8 = 6;
+
+    pub const SECTION: u8 = 7;
     // How many kinds there are.
-    pub const KINDS: usize = 5;
+    pub const KINDS: usize = 7;
+    // The kind of what is no construct.
+    pub const NO_KIND: u8 = 0;
     // The number that stands for no construct.
     pub const NONE: u8 = 255;
 }

@@ -1,10 +1,12 @@
 // Row 9 of the refusals, over the edges.
 ghost use mathlib.Core.Path.{_≡_};
 ghost use mathlib.Core.Bool.{true, false};
-ghost use Prim.Native.Nat.{_+_, _*_, _-_, _<_};
+ghost use Prim.Native.Nat.{_+_, _*_, _-_, _≤_, _<_};
+ghost use lib.ListN.{length};
+ghost use Rattle.lists.specs.Range.{any};
 ghost use Rattle.chart.specs.Format.{decode};
 ghost use Rattle.chart.specs.Scope.{beginNode, endNode, scopeAt};
-ghost use Rattle.chart.specs.Refusal.{badNodes, rises, badEdgeAt, badEdges};
+ghost use Rattle.chart.specs.Refusal.{badNodes, rises, badEdgeAt, framesSection, joinsSections, badEdges};
 ghost use Rattle.chart.specs.Checked.{Laid};
 ghost use Rattle.edges.specs.Tables.{noLeaving, noArriving, ScopeTable, EdgeScopes};
 use chart::cursor::wide;
@@ -75,7 +77,7 @@ fn rising(a: Edge, b: Edge) -> bool
     key(a) < key(b)
 }
 
-// Row 9, of edge i.
+// Row 9 but for sections, of edge i.
 fn bad_edge_at(
     s: &[u8],
     chart: Chart,
@@ -98,10 +100,10 @@ fn bad_edge_at(
     !rising(Edge::read(s, chart, i - 1), edge)
 }
 
-// Row 9, given the scopes of all nodes.
+// Row 9 but for sections, given the scopes of all nodes.
 fn bad_edges_by(s: &[u8], chart: Chart, leave: &[u16; BYTES], arrive: &[u16; BYTES]) -> bool
     requires { ⌜ Laid (now s) chart × EdgeScopes (decode (now s)) (now leave) (now arrive) ⌝ }
-    ensures { λ r. ⌜ r ≡ badEdges (decode (now (s .entry))) ⌝ }
+    ensures { λ r. ⌜ r ≡ any (length (decode (now (s .entry)) .edges)) (badEdgeAt (decode (now (s .entry)))) ⌝ }
 {
     let e = chart.edges;
     let mut i = 0;
@@ -114,11 +116,51 @@ fn bad_edges_by(s: &[u8], chart: Chart, leave: &[u16; BYTES], arrive: &[u16; BYT
     false
 }
 
-// Row 9. The scopes are looked up once for each node, not once for each edge. No edge may come to start or leave finish: there too stand
-// scopes that no other has, so that one comparison is all that an edge takes by itself.
-pub fn bad_edges(s: &[u8], chart: Chart) -> bool
+// Whether node x, of kind `kind`, a begin or an end, frames a section.
+fn frames_section(s: &[u8], chart: Chart, x: u8, kind: u8) -> bool
+    requires { ⌜ Laid (now s) chart × (badNodes (decode (now s)) ≡ false) × (x < chart .nodes) × (beginNode ≤ kind) ⌝ }
+    ensures { λ r. ⌜ r ≡ framesSection (decode (now (s .entry))) kind x ⌝ }
+{
+    let node = Node::read(s, chart, wide(x));
+    if node.kind != kind {
+        return false;
+    }
+    Construct::read(s, chart, wide(node.number)).kind == Construct::SECTION
+}
+
+// Whether edge i leads from a section's end to a section's begin.
+fn joins_sections_at(s: &[u8], chart: Chart, i: usize) -> bool
+    requires { ⌜ Laid (now s) chart × (badNodes (decode (now s)) ≡ false) × (i < chart .edges) × (badEdgeAt (decode (now s)) i ≡ false) ⌝ }
+    ensures { λ r. ⌜ r ≡ joinsSections (decode (now (s .entry))) i ⌝ }
+{
+    let edge = Edge::read(s, chart, i);
+    if !frames_section(s, chart, edge.from, Node::END) {
+        return false;
+    }
+    frames_section(s, chart, edge.to, Node::BEGIN)
+}
+
+// Row 9 for sections, over edges that are in order otherwise.
+fn joins_sections(s: &[u8], chart: Chart) -> bool
+    requires { ⌜ Laid (now s) chart × (badNodes (decode (now s)) ≡ false) × (any (length (decode (now s) .edges)) (badEdgeAt (decode (now s))) ≡ false) ⌝ }
+    ensures { λ r. ⌜ r ≡ any (length (decode (now (s .entry)) .edges)) (joinsSections (decode (now (s .entry)))) ⌝ }
+{
+    let e = chart.edges;
+    let mut i = 0;
+    while i < e {
+        if joins_sections_at(s, chart, i) {
+            return true;
+        }
+        i += 1;
+    }
+    false
+}
+
+// Row 9 but for sections. The scopes are looked up once for each node, not once for each edge. No edge may come to start or leave finish:
+// there too stand scopes that no other has, so that one comparison is all that an edge takes by itself.
+fn bad_scopes(s: &[u8], chart: Chart) -> bool
     requires { ⌜ Laid (now s) chart × (badNodes (decode (now s)) ≡ false) ⌝ }
-    ensures { λ r. ⌜ r ≡ badEdges (decode (now (s .entry))) ⌝ }
+    ensures { λ r. ⌜ r ≡ any (length (decode (now (s .entry)) .edges)) (badEdgeAt (decode (now (s .entry)))) ⌝ }
 {
     let mut leave = [0u16; BYTES];
     let mut arrive = [0u16; BYTES];
@@ -127,4 +169,18 @@ pub fn bad_edges(s: &[u8], chart: Chart) -> bool
     leave[finish] = NO_LEAVING;
     arrive[0] = NO_ARRIVING;
     bad_edges_by(s, chart, &leave, &arrive)
+}
+
+// Row 9. Edges are asked for sections only where there is one.
+pub fn bad_edges(s: &[u8], chart: Chart) -> bool
+    requires { ⌜ Laid (now s) chart × (badNodes (decode (now s)) ≡ false) ⌝ }
+    ensures { λ r. ⌜ r ≡ badEdges (decode (now (s .entry))) ⌝ }
+{
+    if bad_scopes(s, chart) {
+        return true;
+    }
+    if !Construct::occurs(s, chart, Construct::SECTION) {
+        return false;
+    }
+    joins_sections(s, chart)
 }

@@ -1,27 +1,22 @@
 -- The walk over what stands above a construct: what it has shown when it has come to one, and what it shows at its end.
 -- Assumes nothing.
-use mathlib.Core.Path.{_≡_, ap}
+use mathlib.Core.Path.{_≡_}
 use mathlib.Core.Logic.{_⊎_, inl, inr, _≢_}
 use mathlib.Core.Bool.{Bool, true, false, cond}
 use mathlib.Core.List.{List}
 use Prim.Native.Nat.{ℕ, _+_, _≤_, _<_}
 use native.Mathlib.Omega.{arith}
 use lib.Dec.{eqb}
-use lib.ListN.{length, List·getD-eq-default}
+use lib.ListN.{length}
 use borrow.Author.Tests.{eq-eqb, ne-eqb}
 use Rattle.lists.specs.Truth.{clash, false-if, and-both, both-and}
 use Rattle.lists.specs.Range.{any, none-passes, at-any, any-none}
-use Rattle.chart.specs.Format.{outside, Construct, noConstruct, constructAt}
+use Rattle.chart.specs.Format.{outside, Construct, constructAt}
 use Rattle.chart.specs.Scope.{encloses, Encloses, here, up, parentOf}
 use Rattle.chart.specs.Nesting.{excluded, wronglyAbove}
 use Rattle.chart.specs.Refusal.{badAlone}
 use Rattle.chart.proofs.Tree.{Below, below-more, computed, computes, more-fuel, outside-encloses, higher}
 use Rattle.chart.proofs.NestingFacts.{ConstructFits, construct-fits}
-
--- past the last construct stands one of no kind
-pub no-construct : (cs : List Construct) → length cs ≤ 48 → constructAt cs outside .kind ≡ 0
-unfolding constructAt
-no-construct cs h = ap (λ (k : Construct). k .kind) (List·getD-eq-default cs noConstruct (omega arith))
 
 -- what the first m constructs have that are in order by themselves
 module _ (cs : List Construct) (m : ℕ) (alone : any m (badAlone cs) ≡ false) where

@@ -1,2 +1,3 @@
 pub mod Ancestors
+pub mod Stray
 pub mod Table

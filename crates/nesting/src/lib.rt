@@ -1,18 +1,19 @@
-// Row 6 of the refusals, over the constructs.
+// Row 6 of the refusals, over the constructs, and over the nodes where some construct is a sections.
 ghost use mathlib.Core.Path.{_≡_};
 ghost use mathlib.Core.Bool.{false, _&&_, _||_, not};
 ghost use Prim.Native.Nat.{_+_, _-_, _≤_, _<_};
 ghost use lib.Dec.{eqb, ltb};
 ghost use lib.ListN.{length};
 ghost use Rattle.lists.specs.Range.{any};
-ghost use Rattle.chart.specs.Format.{outside, decode};
+ghost use Rattle.chart.specs.Format.{outside, decode, constructAt};
 ghost use Rattle.chart.specs.Scope.{criticalByte};
-ghost use Rattle.chart.specs.Nesting.{kinds, excluded, wronglyAbove, strayOrdered, misnested, NestingTable};
-ghost use Rattle.chart.specs.Refusal.{badConstruct, badAlone, badConstructs};
+ghost use Rattle.chart.specs.Nesting.{kinds, excluded, wronglyAbove, misplaced, misnested, NestingTable};
+ghost use Rattle.chart.specs.Refusal.{badConstruct, badAlone, strayNode, badConstructs};
 ghost use Rattle.chart.specs.Checked.{Laid};
 use chart::cursor::wide;
 use chart::format::Chart;
 use chart::format::Construct;
+use chart::format::Node;
 
 // A parent that is neither lower than c nor none.
 fn bad_parent(parent: u8, c: usize) -> bool
@@ -42,7 +43,7 @@ fn bad_construct(construct: Construct, c: usize) -> bool
     if kind < Construct::SINGLE {
         return true;
     }
-    if Construct::ORDERED < kind {
+    if Construct::SECTION < kind {
         return true;
     }
     if bad_parent(construct.parent, c) {
@@ -98,20 +99,28 @@ fn bad_above(
     false
 }
 
-// Whether c is an ordered whose parent is no do.
-fn stray_ordered(s: &[u8], chart: Chart, c: usize) -> bool
-    requires { ⌜ Laid (now s) chart × (c < chart .constructs) × (any (c + 1) (badAlone (decode (now s) .constructs)) ≡ false) ⌝ }
-    ensures { λ r. ⌜ r ≡ strayOrdered (decode (now (s .entry)) .constructs) c ⌝ }
+// The kind of a parent, which may be none.
+fn kind_above(s: &[u8], chart: Chart, parent: u8) -> u8
+    requires { ⌜ Laid (now s) chart × ((parent ≡ outside → ⊥) → parent < chart .constructs) ⌝ }
+    ensures { λ r. ⌜ r ≡ constructAt (decode (now (s .entry)) .constructs) parent .kind ⌝ }
 {
-    let construct = Construct::read(s, chart, c);
-    let parent = construct.parent;
-    if construct.kind != Construct::ORDERED {
-        return false;
-    }
     if parent == Construct::NONE {
-        return true;
+        return Construct::NO_KIND;
     }
-    Construct::read(s, chart, wide(parent)).kind != Construct::DO
+    Construct::read(s, chart, wide(parent)).kind
+}
+
+// Whether a construct of one kind may not have a parent of the other. A sections has no children but its sections.
+fn bad_place(kind: u8, above: u8) -> bool
+    ensures { λ r. ⌜ r ≡ misplaced kind above ⌝ }
+{
+    if kind == Construct::ORDERED {
+        return above != Construct::DO;
+    }
+    if kind == Construct::SECTION {
+        return above != Construct::SECTIONS;
+    }
+    above == Construct::SECTIONS
 }
 
 // Row 6, of construct c, given that those below it are in order by themselves.
@@ -124,19 +133,22 @@ fn bad_at(
     requires { ⌜ Laid (now s) chart × NestingTable (now table) × (c < chart .constructs) × (any c (badAlone (decode (now s) .constructs)) ≡ false) ⌝ }
     ensures { λ r. ⌜ r ≡ (badAlone (decode (now (s .entry)) .constructs) c || misnested (decode (now (s .entry)) .constructs) c) ⌝ }
 {
-    if bad_construct(Construct::read(s, chart, c), c) {
+    let construct = Construct::read(s, chart, c);
+    if bad_construct(construct, c) {
         return true;
     }
     if bad_above(s, chart, table, c) {
         return true;
     }
-    stray_ordered(s, chart, c)
+    bad_place(construct.kind, kind_above(s, chart, construct.parent))
 }
 
-// Row 6, by the nesting table.
+// Row 6 of the constructs, by the nesting table.
 fn bad_nesting(s: &[u8], chart: Chart, table: [[bool; Construct::KINDS]; Construct::KINDS]) -> bool
     requires { ⌜ Laid (now s) chart × NestingTable table ⌝ }
-    ensures { λ r. ⌜ r ≡ badConstructs (decode (now (s .entry))) ⌝ }
+    ensures { λ r.
+        let cs = decode (now (s .entry)) .constructs in
+        ⌜ r ≡ (any (length cs) (badAlone cs) || any (length cs) (misnested cs)) ⌝ }
 {
     let n = chart.constructs;
     let mut c = 0;
@@ -149,10 +161,49 @@ fn bad_nesting(s: &[u8], chart: Chart, table: [[bool; Construct::KINDS]; Constru
     false
 }
 
-// Row 6.
+// Whether node x, no begin or end, lies directly in a sections. A number that no construct has is in none.
+fn stray_at(s: &[u8], chart: Chart, x: usize) -> bool
+    requires { ⌜ Laid (now s) chart × (x < chart .nodes) ⌝ }
+    ensures { λ r. ⌜ r ≡ strayNode (decode (now (s .entry))) x ⌝ }
+{
+    let node = Node::read(s, chart, x);
+    let kind = node.kind;
+    let c = wide(node.number);
+    if Node::BEGIN <= kind {
+        return false;
+    }
+    if chart.constructs <= c {
+        return false;
+    }
+    Construct::read(s, chart, c).kind == Construct::SECTIONS
+}
+
+// Row 6 of the nodes.
+fn stray_nodes(s: &[u8], chart: Chart) -> bool
+    requires { ⌜ Laid (now s) chart ⌝ }
+    ensures { λ r. ⌜ r ≡ any (length (decode (now (s .entry)) .nodes)) (strayNode (decode (now (s .entry)))) ⌝ }
+{
+    let n = chart.nodes;
+    let mut x = 0;
+    while x < n {
+        if stray_at(s, chart, x) {
+            return true;
+        }
+        x += 1;
+    }
+    false
+}
+
+// Row 6. The nodes are looked at only where some construct is a sections.
 pub fn bad_constructs(s: &[u8], chart: Chart) -> bool
     requires { ⌜ Laid (now s) chart ⌝ }
     ensures { λ r. ⌜ r ≡ badConstructs (decode (now (s .entry))) ⌝ }
 {
-    bad_nesting(s, chart, Chart::NESTING)
+    if bad_nesting(s, chart, Chart::NESTING) {
+        return true;
+    }
+    if !Construct::occurs(s, chart, Construct::SECTIONS) {
+        return false;
+    }
+    stray_nodes(s, chart)
 }

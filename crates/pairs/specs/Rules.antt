@@ -1,20 +1,21 @@
--- The pair rules as common bits: rule 1 is no common start or no common end, and rules 2 to 4 are each a construct of their kind that both
--- nodes hold. So the answer is read off the masks. Rule 5 applies to none: no chart has a section yet.
+-- The pair rules as common bits: rule 1 is no common start or no common end, and rules 2 to 5 are each a construct of their kind that both
+-- nodes hold. So the answer is read off the masks.
 -- Assumes nothing.
 use mathlib.Core.Path.{_≡_, refl, sym, _∙_, subst}
-use mathlib.Core.Logic.{_↔_, _≢_}
+use mathlib.Core.Logic.{_↔_}
 use mathlib.Core.Bool.{true, false, _||_, not, cond}
 use mathlib.Core.List.{List}
 use Prim.Native.Nat.{ℕ, _<_}
 use native.Mathlib.Omega.{arith}
 use lib.Bits.{bitAnd}
 use lib.ListN.{length, getD}
-use Rattle.lists.specs.Truth.{false-if, same-truth}
+use Rattle.lists.specs.Truth.{same-truth}
 use Rattle.lists.specs.Means.{not-of}
 use Rattle.lists.specs.Mask.{Mask, mask-carry, mask-of}
 use Rattle.lists.specs.Common.{mask-both, common, common-test}
 use Rattle.chart.specs.Region.{Kind, single, master, loop, section, Region}
 use Rattle.chart.specs.WellFormed.{WellFormed}
+use Rattle.chart.proofs.Sections.{section-below}
 use Rattle.answers.specs.Answer.{noCommon, noCommonPhase, bothInMasters, bothInSingle, bothInOrdereds, bothInSection, answer}
 use Rattle.answers.specs.Unexcluded.{Common}
 use Rattle.answers.specs.AnswerLaws.{do-below, no-common-of, masters-of, single-of, ordereds-of, section-of}
@@ -35,7 +36,8 @@ answerBy sets x y =
     (cond (common (bitAnd (x .held) (y .held)) (sets .masters)) 2
     (cond (common (bitAnd (x .held) (y .held)) (sets .singles)) 3
     (cond (common (bitAnd (x .held) (y .held)) (sets .dos)) 4
-    0)))
+    (cond (common (bitAnd (x .held) (y .held)) (sets .sections)) 5
+    0))))
 
 module _ {R : Region} (W : WellFormed R) where
   mask-marks : (d : Direction) (x : ℕ) → Mask (Marked d R x) (length (barriers R)) (marks d R x)
@@ -63,9 +65,6 @@ module _ {R : Region} (W : WellFormed R) where
     unfolding noCommonPhase
     phase-by = rw (apart-by forward, apart-by backward)
 
-    no-section-by : ((c : ℕ) → R .kind c ≢ section) → bothInSection R a b ≡ false
-    no-section-by none = false-if (λ h. let (c, ((x, y), f)) = section-of W a b .0 h in none c (x .is-section))
-
   module _ (a b : ℕ) {m n s : ℕ} (v : Held R a m) (w : Held R b n) where
     -- a construct of this kind that both hold
     both-hold : (kind : Kind) → OfKind R kind s
@@ -91,6 +90,11 @@ module _ {R : Region} (W : WellFormed R) where
         t .1 (d, (do-below W x, ((x, f), ((y, f), subst (λ (e : ℕ). R .kind e ≡ loop) (x .of-do) (W .ordered-loop (x .within) (x .is-ordered)))))))
         (λ h. let (d, (l, (x, (y, q)))) = t .0 h in ordereds-of W a b .1 (d, ((x .0, y .0), x .1)))
 
+    section-by : OfKind R section s → bothInSection R a b ≡ common (bitAnd m n) s
+    section-by z = let t = both-hold section z in same-truth _ _
+        (λ h. let (d, ((x, y), f)) = section-of W a b .0 h in t .1 (d, (section-below W x, ((x, f), ((y, f), x .is-section)))))
+        (λ h. let (d, (l, (x, (y, q)))) = t .0 h in section-of W a b .1 (d, ((x .0, y .0), x .1)))
+
 -- The answer, read off the masks of two nodes.
 pub answer-by : {R : Region} {marks : List (List ℕ)} {sets : Sets} → Marks R marks sets → (a b : ℕ) → a < R .nodes → b < R .nodes
     → answer R a b ≡ answerBy sets (profileAt marks a) (profileAt marks b)
@@ -108,5 +112,5 @@ answer-by M a b la lb =
       ← masters-by W a b v w (M .kinds .masters),
       ← single-by W a b v w (M .kinds .singles),
       ← ordereds-by W a b v w (M .kinds .dos),
-      no-section-by W a b (M .kinds .no-section),
+      ← section-by W a b v w (M .kinds .sections),
     )

@@ -29,6 +29,8 @@ impl Answer {
 
     pub const ORDERED: u8 = 4;
 
+    pub const SECTION: u8 = 5;
+
     pub const BARRIER: u8 = 255;
 }
 
@@ -82,6 +84,9 @@ pub fn answer_by(sets: Sets, x: Profile, y: Profile) -> u8
     }
     if common(both, sets.dos) {
         return Answer::ORDERED;
+    }
+    if common(both, sets.sections) {
+        return Answer::SECTION;
     }
     Answer::CONCURRENT
 }

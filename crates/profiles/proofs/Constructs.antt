@@ -19,11 +19,10 @@ use Rattle.lists.specs.Common.{mask-none, mask-one}
 use Rattle.lists.specs.Store.{stored}
 use Rattle.chart.specs.Format.{outside, Construct, decode, constructAt}
 use Rattle.chart.specs.Region.{Kind, single, master, critical, loop, ordered, sections, section, Region}
-use Rattle.chart.specs.Scope.{singleByte, masterByte, loopByte, orderedByte, kindOf, Encloses, here, up, parentOf}
+use Rattle.chart.specs.Scope.{singleByte, masterByte, loopByte, orderedByte, sectionsByte, sectionByte, kindOf, Encloses, here, up, parentOf}
 use Rattle.chart.specs.Reading.{region}
 use Rattle.chart.specs.declared.format.Chart.{Chart}
 use Rattle.chart.proofs.Records.{constructs-length}
-use Rattle.chart.proofs.Scopes.{no-section}
 use Rattle.chart.proofs.Tree.{Below, outside-encloses}
 use Rattle.chart.proofs.Whole.{Counts}
 use Rattle.answers.specs.Unexcluded.{Returns}
@@ -50,7 +49,7 @@ pub index-below : {bound p : ℕ} → bound ≤ 48 → Below bound p → (p ≡ 
 index-below l (inl q) d = absurd (d q)
 index-below l (inr h) d = omega arith
 
-first : {parent : ℕ → ℕ} {p c : ℕ} → Encloses parent p c → Encloses parent (parent p) c ⊎ (c ≡ p)
+pub first : {parent : ℕ → ℕ} {p c : ℕ} → Encloses parent p c → Encloses parent (parent p) c ⊎ (c ≡ p)
 first (here n) = inr refl
 first (up n e) = inl e
 
@@ -76,7 +75,7 @@ byteOf ordered = 5
 byteOf sections = 6
 byteOf section = 7
 
-back : (b : ℕ) → 1 ≤ b → b ≤ 5 → byteOf (kindOf b) ≡ b
+back : (b : ℕ) → 1 ≤ b → b ≤ 7 → byteOf (kindOf b) ≡ b
 unfolding byteOf kindOf
 back zero l m = absurd (omega arith)
 back (suc zero) l m = refl
@@ -84,7 +83,9 @@ back (suc (suc zero)) l m = refl
 back (suc (suc (suc zero))) l m = refl
 back (suc (suc (suc (suc zero)))) l m = refl
 back (suc (suc (suc (suc (suc zero))))) l m = refl
-back (suc (suc (suc (suc (suc (suc b)))))) l m = absurd (omega arith)
+back (suc (suc (suc (suc (suc (suc zero)))))) l m = refl
+back (suc (suc (suc (suc (suc (suc (suc zero))))))) l m = refl
+back (suc (suc (suc (suc (suc (suc (suc (suc b)))))))) l m = absurd (omega arith)
 
 -- one construct more, whose kind was read
 pub of-next : (constructs : List Construct) (kind c : ℕ) {k m n : ℕ} → k ≡ constructAt constructs c .kind → m ≡ maskOf (isOf constructs kind) c
@@ -108,19 +109,30 @@ module _ (s : List ℕ) (chart : Chart) (A : Accepted s chart) where
   unfolding kindOf
   do-counts c l q = reading s chart A .ordered-counts (counts s chart A c l) (rw q)
 
+  -- and the sections of a section
+  sections-counts : (c : ℕ) → c < R .constructs → byte c ≡ sectionByte → Counts (decode s) (R .parent c)
+  unfolding kindOf
+  sections-counts c l q = reading s chart A .section-counts (counts s chart A c l) (rw q)
+
+  pub section-parent : (c : ℕ) → c < R .constructs → byte c ≡ sectionByte → R .parent c < 48
+  section-parent c l q = omega (arith, reading s chart A .counts-below (sections-counts c l q), few s chart A)
+
   pub ordered-parent : (c : ℕ) → c < R .constructs → byte c ≡ orderedByte → R .parent c < 48
   ordered-parent c l q = omega (arith, reading s chart A .counts-below (do-counts c l q), few s chart A)
 
-  lasting-one : (c : ℕ) → c < R .constructs → Mask (λ d. (d ≡ c) × (Returns R d → ⊥)) (R .constructs) (lastingBit (returning R) c)
+  -- one bit, where what `of` gives for it does not return: the construct itself, or its parent
+  lasting-one : (of : ℕ → ℕ) (c : ℕ) → c < R .constructs → of c < R .constructs
+      → Mask (λ d. (d ≡ c) × (Returns R (of d) → ⊥)) (R .constructs) (lastingBit (returning R) (of c) c)
   unfolding lastingBit returning
-  lasting-one c l = rw (has-of (returns R) (R .constructs) c l) (go (truth (returns R c)))
+  lasting-one of c l m = rw (has-of (returns R) (R .constructs) (of c) m) (go (truth (returns R (of c))))
     where
-      means : (returns R c ≡ true) ↔ Returns R c
-      means = returns-means R (well-formed s chart A) c
+      means : (returns R (of c) ≡ true) ↔ Returns R (of c)
+      means = returns-means R (well-formed s chart A) (of c)
 
-      go : (returns R c ≡ true) ⊎ (returns R c ≡ false) → Mask (λ d. (d ≡ c) × (Returns R d → ⊥)) (R .constructs) (cond (returns R c) 0 (2 ^ c))
-      go (inl h) = rw h (no-bit (λ d m p. p .1 (subst (Returns R) (sym (p .0)) (means .0 h))))
-      go (inr h) = rw h (mask-carry (λ d m q. (q, λ r. clash (means .1 (subst (Returns R) q r)) h)) (λ d m p. p .0) (mask-one l))
+      go : (returns R (of c) ≡ true) ⊎ (returns R (of c) ≡ false)
+          → Mask (λ d. (d ≡ c) × (Returns R (of d) → ⊥)) (R .constructs) (cond (returns R (of c)) 0 (2 ^ c))
+      go (inl h) = rw h (no-bit (λ d m p. p .1 (subst (λ (e : ℕ). Returns R (of e)) (sym (p .0)) (means .0 h))))
+      go (inr h) = rw h (mask-carry (λ d m q. (q, λ r. clash (means .1 (subst (λ (e : ℕ). Returns R (of e)) q r)) h)) (λ d m p. p .0) (mask-one l))
 
   -- what a construct gives
   module _ (c : ℕ) (l : c < R .constructs) (masters : ℕ) (M : OfKind R master masters) where
@@ -134,22 +146,36 @@ module _ (s : List ℕ) (chart : Chart) (A : Accepted s chart) where
 
     own-given : Mask Own (R .constructs) (ownMask (byte c) (R .parent c) c (returning R) masters)
     unfolding ownMask kindOf
-    own-given = go (ℕ-discrete (byte c) masterByte) (ℕ-discrete (byte c) singleByte) (ℕ-discrete (byte c) orderedByte)
+    own-given = go (ℕ-discrete (byte c) masterByte) (ℕ-discrete (byte c) singleByte) (ℕ-discrete (byte c) orderedByte) (ℕ-discrete (byte c) sectionByte)
       where
-        other : byte c ≢ masterByte → byte c ≢ singleByte → byte c ≢ orderedByte → Dec (byte c ≡ loopByte) → (d : ℕ) → Gives R c d (R .kind c) → ⊥
-        other a b o (yes q) d g = rw q at g
-        other a b o (no q) d g = rw (ne-eqb (byte c) masterByte a, ne-eqb (byte c) singleByte b, ne-eqb (byte c) orderedByte o, ne-eqb (byte c) loopByte q) at g
+        other : byte c ≢ masterByte → byte c ≢ singleByte → byte c ≢ orderedByte → byte c ≢ sectionByte → Dec (byte c ≡ loopByte) → Dec (byte c ≡ sectionsByte)
+            → (d : ℕ) → Gives R c d (R .kind c) → ⊥
+        other a b o t (yes q) z d g = rw q at g
+        other a b o t (no q) (yes z) d g = rw z at g
+        other a b o t (no q) (no z) d g = rw (
+          ne-eqb (byte c) masterByte a,
+          ne-eqb (byte c) singleByte b,
+          ne-eqb (byte c) orderedByte o,
+          ne-eqb (byte c) loopByte q,
+          ne-eqb (byte c) sectionsByte z,
+          ne-eqb (byte c) sectionByte t,
+        ) at g
 
-        go : Dec (byte c ≡ masterByte) → Dec (byte c ≡ singleByte) → Dec (byte c ≡ orderedByte)
+        go : Dec (byte c ≡ masterByte) → Dec (byte c ≡ singleByte) → Dec (byte c ≡ orderedByte) → Dec (byte c ≡ sectionByte)
             → Mask Own (R .constructs) (ownMask (byte c) (R .parent c) c (returning R) masters)
-        go (yes a) b o = rw (eq-eqb (byte c) masterByte a) (given {kind = master} (rw a) (mask-carry (λ d m k. (k, refl)) (λ d m g. g .0) M))
-        go (no a) (yes b) o = rw (ne-eqb (byte c) masterByte a, eq-eqb (byte c) singleByte b) (given {kind = single} (rw b) (lasting-one c l))
-        go (no a) (no b) (yes o) =
+        go (yes a) b o t = rw (eq-eqb (byte c) masterByte a) (given {kind = master} (rw a) (mask-carry (λ d m k. (k, refl)) (λ d m g. g .0) M))
+        go (no a) (yes b) o t = rw (ne-eqb (byte c) masterByte a, eq-eqb (byte c) singleByte b) (given {kind = single} (rw b) (lasting-one (λ d. d) c l l))
+        go (no a) (no b) (yes o) t =
+            let p = reading s chart A .counts-below (do-counts c l o) in
             rw (ne-eqb (byte c) masterByte a, ne-eqb (byte c) singleByte b, eq-eqb (byte c) orderedByte o)
-            (given {kind = ordered} (rw o) (lasting-one (R .parent c) (reading s chart A .counts-below (do-counts c l o))))
-        go (no a) (no b) (no o) =
-            rw (ne-eqb (byte c) masterByte a, ne-eqb (byte c) singleByte b, ne-eqb (byte c) orderedByte o)
-            (no-bit (λ d m g. other a b o (ℕ-discrete (byte c) loopByte) d (g .1)))
+            (given {kind = ordered} (rw o) (lasting-one (λ d. d) (R .parent c) p p))
+        go (no a) (no b) (no o) (yes t) =
+            let p = reading s chart A .counts-below (sections-counts c l t) in
+            rw (ne-eqb (byte c) masterByte a, ne-eqb (byte c) singleByte b, ne-eqb (byte c) orderedByte o, eq-eqb (byte c) sectionByte t)
+            (given {kind = section} (rw t) (lasting-one (R .parent) c l p))
+        go (no a) (no b) (no o) (no t) =
+            rw (ne-eqb (byte c) masterByte a, ne-eqb (byte c) singleByte b, ne-eqb (byte c) orderedByte o, ne-eqb (byte c) sectionByte t)
+            (no-bit (λ d m g. other a b o t (ℕ-discrete (byte c) loopByte) (ℕ-discrete (byte c) sectionsByte) d (g .1)))
 
     pub chains-more : {held : List ℕ} → Chains R (Counts (decode s)) c held
         → Chains R (Counts (decode s)) (c + 1) (set held c (bitOr (maskAt held (R .parent c)) (ownMask (byte c) (R .parent c) c (returning R) masters)))
@@ -162,7 +188,7 @@ module _ (s : List ℕ) (chart : Chart) (A : Accepted s chart) where
         }
 
   -- the constructs of a kind
-  of-kind : (kind : ℕ) → 1 ≤ kind → kind ≤ 5 → OfKind R (kindOf kind) (maskOf (isOf (decode s .constructs) kind) (R .constructs))
+  of-kind : (kind : ℕ) → 1 ≤ kind → kind ≤ 7 → OfKind R (kindOf kind) (maskOf (isOf (decode s .constructs) kind) (R .constructs))
   unfolding isOf
   of-kind kind h k =
       let T = tables s chart A .constructs .alone in
@@ -174,11 +200,12 @@ module _ (s : List ℕ) (chart : Chart) (A : Accepted s chart) where
     masters = maskOf (isOf (decode s .constructs) masterByte) (chart .constructs);
     singles = maskOf (isOf (decode s .constructs) singleByte) (chart .constructs);
     dos = maskOf (isOf (decode s .constructs) loopByte) (chart .constructs);
+    sections = maskOf (isOf (decode s .constructs) sectionByte) (chart .constructs);
   })
   unfolding kindOf
   kinds = rw (← constructs-length s chart (A .laid)) (record {
     masters = of-kind masterByte (omega arith) (omega arith);
     singles = of-kind singleByte (omega arith) (omega arith);
     dos = of-kind loopByte (omega arith) (omega arith);
-    no-section = λ c. no-section (byte c);
+    sections = of-kind sectionByte (omega arith) (omega arith);
   })

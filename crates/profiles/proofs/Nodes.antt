@@ -1,41 +1,38 @@
--- A node holds what is held in the construct that it lies in.
+-- A node holds what is held in the construct that it lies in, and a begin or an end of a section that section.
 -- Assumes nothing.
-use mathlib.Core.Path.{_≡_, refl, sym, subst}
+use mathlib.Core.Path.{_≡_, refl, ap, sym, _∙_, subst}
+use mathlib.Core.Logic.{_⊎_, inl, inr, _≢_}
 use mathlib.Core.Bool.{true}
 use mathlib.Core.List.{List, [], _∷_}
-use Prim.Native.Nat.{ℕ, _<_}
+use Prim.Native.Nat.{ℕ, _≤_, _<_}
 use native.Mathlib.Omega.{arith}
 use native.Mathlib.Decide.{ℕ-discrete}
+use lib.Bits.{bitAnd, bitOr}
 use lib.ListN.{length, getD, set, replicate}
-use borrow.Author.Tests.{ne-eqb}
-use Rattle.lists.specs.Mask.{mask-carry}
+use Rattle.lists.specs.Truth.{bad}
+use Rattle.lists.specs.Mask.{Mask, mask-carry, mask-either}
+use Rattle.lists.specs.Common.{mask-both}
 use Rattle.lists.specs.Store.{zeros}
-use Rattle.chart.specs.Format.{Node, Construct, decode, nodeAt}
-use Rattle.chart.specs.Region.{Kind, single, master, critical, loop, ordered, sections, section, Region}
-use Rattle.chart.specs.Scope.{liesIn, scope, liesAt, scopeAt}
+use Rattle.chart.specs.Format.{outside, decode, nodeAt}
+use Rattle.chart.specs.Region.{opens, closes, Kind, single, master, critical, loop, ordered, sections, section, Region}
+use Rattle.chart.specs.Scope.{beginNode, endNode, Encloses, here, liesAt, roleAt}
 use Rattle.chart.specs.Reading.{region}
 use Rattle.chart.specs.declared.format.Chart.{Chart}
 use Rattle.chart.proofs.Records.{nodes-length, constructs-length}
-use Rattle.chart.proofs.Scopes.{no-section}
-use Rattle.chart.proofs.Tree.{Below}
-use Rattle.chart.proofs.Whole.{Counts, lies, lies-below}
+use Rattle.chart.proofs.Scopes.{role-is, marks-role, lies-number, lies-parent}
+use Rattle.chart.proofs.Reading.{begin, end}
+use Rattle.chart.proofs.Facts.{NodeFits, frame-construct}
+use Rattle.chart.proofs.Tree.{Below, below-more}
+use Rattle.chart.proofs.Whole.{Counts, lies}
+use Rattle.answers.specs.Unexcluded.{Returns}
 use Rattle.phases.specs.Phases.{forward, backward}
 use Rattle.loading.specs.Tables.{Accepted, Masks}
 use Rattle.loading.proofs.Accepted.{tables, well-formed}
 use Rattle.profiles.specs.declared.chains.Sets.{Sets}
-use Rattle.profiles.specs.Marks.{Holds, Held, Kinds, Marks}
+use Rattle.profiles.specs.Marks.{Holds, Held, OfKind, Kinds, Marks}
 use Rattle.profiles.specs.Chains.{Gives, HeldIn, Chains, maskAt}
 use Rattle.profiles.proofs.Facts.{reading}
-use Rattle.profiles.proofs.Constructs.{no-bit, held-at}
-
--- the scope of a node in which plain nodes keep their own number is where it lies
-pub plain-scope : (nodes : List Node) (constructs : List Construct) (x : ℕ) → scopeAt 0 nodes constructs x ≡ liesAt nodes constructs x
-unfolding scopeAt liesAt scope liesIn
-plain-scope nodes constructs x = go (ℕ-discrete (nodeAt nodes x .kind) 0)
-  where
-    go : Dec (nodeAt nodes x .kind ≡ 0) → scopeAt 0 nodes constructs x ≡ liesAt nodes constructs x
-    go (yes q) = rw q
-    go (no d) = rw (ne-eqb (nodeAt nodes x .kind) 0 d)
+use Rattle.profiles.proofs.Constructs.{no-bit, held-at, first, parent-lower}
 
 three : (marks : List (List ℕ)) → length marks ≡ 3 → (a b c : List ℕ) → set (set (set marks 0 a) 1 b) 2 c ≡ a ∷ b ∷ c ∷ []
 three [] l a b c = absurd (omega arith)
@@ -48,8 +45,30 @@ module _ (s : List ℕ) (chart : Chart) (A : Accepted s chart) where
   abbrev R : Region
   R = region (decode s)
 
-  pub place : (x : ℕ) → Below (chart .constructs) (lies (decode s) x)
-  place x = subst (λ (n : ℕ). Below n (lies (decode s) x)) (constructs-length s chart (A .laid)) (lies-below (decode s) (tables s chart A) x)
+  abbrev number : ℕ → ℕ
+  number x = nodeAt (decode s .nodes) x .number
+
+  abbrev kind : ℕ → ℕ
+  kind x = nodeAt (decode s .nodes) x .kind
+
+  node-fits : (x : ℕ) → x < chart .nodes → NodeFits (R .constructs) (kind x) (number x)
+  node-fits x l = tables s chart A .nodes x (omega (arith, nodes-length s chart (A .laid)))
+
+  pub number-place : (x : ℕ) → x < chart .nodes → Below (chart .constructs) (nodeAt (decode s .nodes) x .number)
+  number-place x l = subst (λ (n : ℕ). Below n (number x)) (constructs-length s chart (A .laid)) (node-fits x l .number-below)
+
+  pub frame-number : (x : ℕ) → x < chart .nodes → beginNode ≤ nodeAt (decode s .nodes) x .kind → nodeAt (decode s .nodes) x .number < length (decode s .constructs)
+  frame-number x l k = frame-construct (node-fits x l) k
+
+  pub parent-place : (c : ℕ) → c < length (decode s .constructs) → Below (chart .constructs) (R .parent c)
+  parent-place c l = below-more (omega (arith, constructs-length s chart (A .laid))) (parent-lower s chart A c l)
+
+  -- x is the begin or the end of the section d, whose sections does not return
+  abbrev Frames : ℕ → ℕ → Type 0
+  Frames x d = (R .kind d ≡ section) × (((R .role x ≡ opens d) ⊎ (R .role x ≡ closes d)) × (Returns R (R .parent d) → ⊥))
+
+  abbrev Around : ℕ → ℕ → Type 0
+  Around x d = HeldIn R (Counts (decode s)) (lies (decode s) x) d
 
   module _ (x d : ℕ) where
     -- what a construct around the node gives, by the kind of the construct
@@ -62,29 +81,102 @@ module _ (s : List ℕ) (chart : Chart) (A : Accepted s chart) where
         subst (Holds R x d) (sym (subst (λ (e : ℕ). R .kind e ≡ loop) (sym q) (well-formed s chart A .ordered-loop i k)))
         (record { construct = c; is-ordered = k; of-do = sym q; within = i }, f)
     given c sections k i g = absurd g
-    given c section k i g = absurd (no-section _ k)
+    given c section k i (q, f) =
+        let j = subst (λ (e : ℕ). R .kind e ≡ section) (sym q) k in
+        subst (Holds R x d) (sym j) (record { is-section = j; within = inl (subst (λ (e : ℕ). R .inside x e ≡ true) (sym q) i) }, f)
 
     -- and what the node holds, by its kind
-    giver : (kind : Kind) → R .kind d ≡ kind → Holds R x d kind → (c : ℕ) × ((R .inside x c ≡ true) × Gives R c d (R .kind c))
-    giver single k (i, f) = (d, (i, subst (Gives R d d) (sym k) (refl, f)))
-    giver master k (c, ((m, i), t)) = (c, (i, subst (Gives R c d) (sym m) (k, t)))
+    around : (c : ℕ) → R .inside x c ≡ true → Gives R c d (R .kind c) → Around x d
+    around c i g = (c, (reading s chart A .inside-enclosed i, (reading s chart A .inside-counts i, g)))
+
+    giver : (kind : Kind) → R .kind d ≡ kind → Holds R x d kind → Around x d ⊎ Frames x d
+    giver single k (i, f) = inl (around d i (subst (Gives R d d) (sym k) (refl, f)))
+    giver master k (c, ((m, i), t)) = inl (around c i (subst (Gives R c d) (sym m) (k, t)))
     giver critical k h = absurd h
-    giver loop k (o, f) = (o .construct, (o .within, subst (Gives R (o .construct) d) (sym (o .is-ordered)) (sym (o .of-do), f)))
+    giver loop k (o, f) = inl (around (o .construct) (o .within) (subst (Gives R (o .construct) d) (sym (o .is-ordered)) (sym (o .of-do), f)))
     giver ordered k h = absurd h
     giver sections k h = absurd h
-    giver section k h = absurd (no-section _ k)
+    giver section k (i, f) = elim (i .within) [ inl w ↦ inl (around d w (subst (Gives R d d) (sym k) (refl, f))) | inr w ↦ inr (k, (w, f)) ]
 
-  pub node-held : {chains : List ℕ} → Chains R (Counts (decode s)) (chart .constructs) chains
-      → (x p m : ℕ) → p ≡ lies (decode s) x → m ≡ maskAt chains p → Held R x m
-  node-held K x p m e q = rw (q, e) (mask-carry to from (held-at K (A .laid .constructs-most) (lies (decode s) x) (place x)))
-    where
-      to : (d : ℕ) → d < R .constructs → HeldIn R (Counts (decode s)) (lies (decode s) x) d → Holds R x d (R .kind d)
-      to d l (c, (e, (n, g))) = given x d c (R .kind c) refl (reading s chart A .enclosed-inside e n) g
+    holds : Around x d ⊎ Frames x d → Holds R x d (R .kind d)
+    holds (inl (c, (e, (n, g)))) = given c (R .kind c) refl (reading s chart A .enclosed-inside e n) g
+    holds (inr (k, (w, f))) = subst (Holds R x d) (sym k) (record { is-section = k; within = inr w }, f)
 
-      from : (d : ℕ) → d < R .constructs → Holds R x d (R .kind d) → HeldIn R (Counts (decode s)) (lies (decode s) x) d
-      from d l h =
-          let (c, (i, g)) = giver x d (R .kind d) refl h in
-          (c, (reading s chart A .inside-enclosed i, (reading s chart A .inside-counts i, g)))
+  -- the mask of what a node holds
+  held-by : (x : ℕ) {m : ℕ} → Mask (λ d. Around x d ⊎ Frames x d) (R .constructs) m → Held R x m
+  held-by x v = mask-carry (λ d l h. holds x d h) (λ d l h. giver x d (R .kind d) refl h) v
+
+  -- a node that is no begin or end lies where its number says, and frames nothing
+  module _ {chains : List ℕ} (K : Chains R (Counts (decode s)) (chart .constructs) chains) (x : ℕ) (l : x < chart .nodes) where
+    frames-none : nodeAt (decode s .nodes) x .kind < beginNode → (d : ℕ) → (R .role x ≡ opens d) ⊎ (R .role x ≡ closes d) → ⊥
+    unfolding roleAt
+    frames-none k d (inl w) = let q = role-is (kind x) (number x) (opens d) w .0 in omega arith
+    frames-none k d (inr w) = let q = role-is (kind x) (number x) (closes d) w .0 in omega arith
+
+    same : nodeAt (decode s .nodes) x .kind < beginNode → lies (decode s) x ≡ number x
+    unfolding liesAt
+    same k = lies-number (number x) (R .parent (number x)) k
+
+    pub plain-held : nodeAt (decode s .nodes) x .kind < beginNode → Held R x (maskAt chains (nodeAt (decode s .nodes) x .number))
+    plain-held k =
+        let v = held-at K (A .laid .constructs-most) (number x) (number-place x l) in
+        let q = same k in
+        held-by x (mask-carry (λ d m h. inl (rw q h)) (λ d m h. elim h [ inl a ↦ rw q at a | inr f ↦ absurd (frames-none k d (f .1 .0)) ]) v)
+
+    -- a begin or an end
+    module _ (k : beginNode ≤ nodeAt (decode s .nodes) x .kind) where
+      frames-own : (R .role x ≡ opens (number x)) ⊎ (R .role x ≡ closes (number x))
+      unfolding roleAt
+      frames-own = go (ℕ-discrete (kind x) beginNode) (node-fits x l .known)
+        where
+          go : Dec (kind x ≡ beginNode) → kind x ≤ endNode → (R .role x ≡ opens (number x)) ⊎ (R .role x ≡ closes (number x))
+          go (yes q) m = inl (marks-role begin q refl)
+          go (no n) m = inr (marks-role end (omega arith) refl)
+
+      own-number : (d : ℕ) → (R .role x ≡ opens d) ⊎ (R .role x ≡ closes d) → number x ≡ d
+      unfolding roleAt
+      own-number d (inl w) = role-is (kind x) (number x) (opens d) w .1
+      own-number d (inr w) = role-is (kind x) (number x) (closes d) w .1
+
+      counted : Counts (decode s) (number x)
+      counted = frame-number x l k
+
+      inner : number x ≢ outside
+      inner = reading s chart A .counts-not-outside counted
+
+      -- what its own construct gives of sections: itself
+      gives-own : (d : ℕ) (kind : Kind) → R .kind (number x) ≡ kind → R .kind d ≡ section → Gives R (number x) d kind → Frames x d
+      gives-own d single j z (q, f) = absurd (bad (cc (j, z, q)))
+      gives-own d master j z (q, f) = absurd (bad (cc (z, q)))
+      gives-own d critical j z g = absurd g
+      gives-own d loop j z g = absurd g
+      gives-own d ordered j z (q, f) = absurd (bad (cc (reading s chart A .ordered-loop counted j, z, q)))
+      gives-own d sections j z g = absurd g
+      gives-own d section j z (q, f) = (z, (subst (λ (e : ℕ). (R .role x ≡ opens e) ⊎ (R .role x ≡ closes e)) (sym q) frames-own, f))
+
+      up : lies (decode s) x ≡ R .parent (number x)
+      unfolding liesAt
+      up = lies-parent (number x) (R .parent (number x)) k
+
+      pub frame-held : {m : ℕ} → OfKind R section m
+          → Held R x (bitOr (maskAt chains (R .parent (nodeAt (decode s .nodes) x .number))) (bitAnd (maskAt chains (nodeAt (decode s .nodes) x .number)) m))
+      frame-held S =
+          let above = held-at K (A .laid .constructs-most) (R .parent (number x)) (parent-place (number x) counted) in
+          let own = mask-both (held-at K (A .laid .constructs-most) (number x) (number-place x l)) S in
+          held-by x (mask-carry to from (mask-either above own))
+        where
+          to : (d : ℕ) → d < R .constructs → HeldIn R (Counts (decode s)) (R .parent (number x)) d ⊎ (HeldIn R (Counts (decode s)) (number x) d × (R .kind d ≡ section)) → Around x d ⊎ Frames x d
+          to d m (inl h) = inl (rw up h)
+          to d m (inr ((c, (e, (n, g))), z)) = elim (first e) [
+            | inl a ↦ inl (rw up (c, (a, (n, g))))
+            | inr q ↦ inr (gives-own d (R .kind (number x)) refl z (subst (λ (c : ℕ). Gives R c d (R .kind c)) q g))
+          ]
+
+          from : (d : ℕ) → d < R .constructs → Around x d ⊎ Frames x d → HeldIn R (Counts (decode s)) (R .parent (number x)) d ⊎ (HeldIn R (Counts (decode s)) (number x) d × (R .kind d ≡ section))
+          from d m (inl h) = inl (rw up at h)
+          from d m (inr (z, (w, f))) =
+              let q = own-number d w in
+              inr ((number x, (here inner, (counted, subst (λ (c : ℕ). Gives R c d (R .kind c)) (sym q) (subst (Gives R d d) (sym z) (refl, f))))), z)
 
   -- no node has a bit where there are no constructs
   pub none-held : chart .constructs ≡ 0 → (x : ℕ) → Held R x (getD (replicate 192 0) x 0)

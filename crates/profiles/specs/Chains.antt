@@ -10,7 +10,7 @@ use Rattle.lists.specs.Mask.{Mask}
 use Rattle.lists.specs.Bits.{has}
 use Rattle.chart.specs.Format.{outside, Construct, constructAt}
 use Rattle.chart.specs.Region.{Kind, single, master, critical, loop, ordered, sections, section, Region}
-use Rattle.chart.specs.Scope.{singleByte, masterByte, orderedByte, Encloses}
+use Rattle.chart.specs.Scope.{singleByte, masterByte, orderedByte, sectionByte, Encloses}
 use Rattle.answers.specs.Unexcluded.{Returns}
 
 -- What makes a node inside construct c hold construct d, by the kind of c.
@@ -36,15 +36,16 @@ pub record Chains (R : Region) (Counts : ℕ → Type 0) (done : ℕ) (held : Li
 unfoldable pub maskAt : List ℕ → ℕ → ℕ
 maskAt masks p = cond (eqb p outside) 0 (getD masks p 0)
 
--- Bit c, where construct c is not one of those that return.
-unfoldable pub lastingBit : ℕ → ℕ → ℕ
-lastingBit returning c = cond (has returning c) 0 (2 ^ c)
+-- Bit c, where construct d is not one of those that return.
+unfoldable pub lastingBit : ℕ → ℕ → ℕ → ℕ
+lastingBit returning d c = cond (has returning d) 0 (2 ^ c)
 
 -- What construct c gives, by its kind and parent, the masters, and the constructs that return.
 unfoldable pub ownMask : ℕ → ℕ → ℕ → ℕ → ℕ → ℕ
 ownMask kind parent c returning masters =
     cond (eqb kind masterByte) masters
-    (cond (eqb kind singleByte) (lastingBit returning c) (cond (eqb kind orderedByte) (lastingBit returning parent) 0))
+    (cond (eqb kind singleByte) (lastingBit returning c c)
+    (cond (eqb kind orderedByte) (lastingBit returning parent parent) (cond (eqb kind sectionByte) (lastingBit returning parent c) 0)))
 
 -- Construct c is of this kind.
 unfoldable pub isOf : List Construct → ℕ → ℕ → Bool

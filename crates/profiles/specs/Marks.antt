@@ -2,7 +2,6 @@
 -- is then a common bit of two nodes' masks (crate pairs, specs/Rules.antt).
 -- Assumes nothing.
 use mathlib.Core.Path.{_≡_}
-use mathlib.Core.Logic.{_≢_}
 use mathlib.Core.Bool.{true}
 use mathlib.Core.List.{List, []}
 use Prim.Native.Nat.{ℕ, _≤_, _<_}
@@ -38,8 +37,7 @@ pub record Kinds (R : Region) (sets : Sets) : Type 0 where
   pub masters : OfKind R master (sets .masters)
   pub singles : OfKind R single (sets .singles)
   pub dos : OfKind R loop (sets .dos)
-  -- no chart has a section yet, so that no mask of them is kept
-  pub no-section : (c : ℕ) → R .kind c ≢ section
+  pub sections : OfKind R section (sets .sections)
 
 -- The rows of a table of masks.
 abbrev pub startsIn : List (List ℕ) → List ℕ

@@ -7,7 +7,7 @@ ghost use lib.Dec.{eqb};
 ghost use lib.ListN.{length};
 ghost use Rattle.chart.specs.Format.{outside, decode};
 ghost use Rattle.chart.specs.Region.{master};
-ghost use Rattle.chart.specs.Scope.{orderedByte};
+ghost use Rattle.chart.specs.Scope.{orderedByte, sectionByte};
 ghost use Rattle.chart.specs.Checked.{reading};
 ghost use Rattle.chart.proofs.Whole.{Counts};
 ghost use Rattle.phases.specs.Phases.{returning as returningMask};
@@ -32,31 +32,35 @@ pub fn mask_at(masks: &[u64; Chart::CONSTRUCTS], p: u8) -> u64
     masks[c]
 }
 
-// Bit c, where construct c does not return.
-fn lasting(c: usize, returning: u64) -> u64
-    requires { ⌜ c < 48 ⌝ }
-    ensures { λ r. ⌜ r ≡ lastingBit returning c ⌝ }
+// Bit c, where construct d does not return.
+fn lasting(c: usize, d: usize, returning: u64) -> u64
+    requires { ⌜ (c < 48) × (d < 48) ⌝ }
+    ensures { λ r. ⌜ r ≡ lastingBit returning d c ⌝ }
 {
-    if has(returning, c) {
+    if has(returning, d) {
         return 0;
     }
     bit(c)
 }
 
-// What a node holds for being inside construct c: a single and, for an ordered, its do, where they do not return; for a master all masters,
-// since one thread goes into all of them.
+// What a node holds for being inside construct c: a single and, for an ordered, its do, where they do not return; a section where its parent
+// does not; for a master all masters, since one thread goes into all of them.
 fn own(construct: Construct, c: usize, returning: u64, masters: u64) -> u64
-    requires { ⌜ (c < 48) × (construct .kind ≡ orderedByte → construct .parent < 48) ⌝ }
+    requires { ⌜ (c < 48) × (construct .kind ≡ orderedByte → construct .parent < 48) × (construct .kind ≡ sectionByte → construct .parent < 48) ⌝ }
     ensures { λ r. ⌜ r ≡ ownMask (construct .kind) (construct .parent) c returning masters ⌝ }
 {
     if construct.kind == Construct::MASTER {
         return masters;
     }
     if construct.kind == Construct::SINGLE {
-        return lasting(c, returning);
+        return lasting(c, c, returning);
     }
     if construct.kind == Construct::ORDERED {
-        return lasting(wide(construct.parent), returning);
+        let parent = wide(construct.parent);
+        return lasting(parent, parent, returning);
+    }
+    if construct.kind == Construct::SECTION {
+        return lasting(c, wide(construct.parent), returning);
     }
     0
 }
@@ -107,11 +111,12 @@ fn add_kind(construct: Construct, kind: u8, c: usize, mask: u64) -> u64
     bit(c) | mask
 }
 
-// The constructs of the kinds that the rules speak of.
+// The constructs of the kinds that the rules speak of; `sections` are those of kind section.
 pub struct Sets {
     pub masters: u64,
     pub singles: u64,
     pub dos: u64,
+    pub sections: u64,
 }
 
 pub fn sets_of(s: &[u8], chart: Chart) -> Sets
@@ -122,17 +127,20 @@ pub fn sets_of(s: &[u8], chart: Chart) -> Sets
     let mut masters = 0;
     let mut singles = 0;
     let mut dos = 0;
+    let mut sections = 0;
     let mut c = 0;
     while c < n {
         let construct = Construct::read(s, chart, c);
         masters = add_kind(construct, Construct::MASTER, c, masters);
         singles = add_kind(construct, Construct::SINGLE, c, singles);
         dos = add_kind(construct, Construct::DO, c, dos);
+        sections = add_kind(construct, Construct::SECTION, c, sections);
         c += 1;
     }
     Sets {
         masters,
         singles,
         dos,
+        sections,
     }
 }

@@ -3,19 +3,21 @@ ghost use mathlib.Core.Path.{_≡_};
 ghost use Prim.Native.Nat.{ℕ, _<_};
 ghost use lib.ListN.{length, getD};
 ghost use Rattle.chart.specs.Format.{decode};
+ghost use Rattle.chart.specs.Region.{section};
 ghost use Rattle.chart.specs.Checked.{reading};
 ghost use Rattle.chart.proofs.Whole.{Counts};
 ghost use Rattle.phases.specs.Phases.{returning as returningMask};
 ghost use Rattle.loading.specs.Tables.{Accepted};
 ghost use Rattle.profiles.specs.Chains.{Chains};
-ghost use Rattle.profiles.specs.Marks.{Held, Kinds};
+ghost use Rattle.profiles.specs.Marks.{Held, OfKind, Kinds};
 use crate::chains::Sets;
 use crate::chains::fill_chains;
 use crate::chains::mask_at;
 use crate::chains::sets_of;
+use chart::cursor::wide;
 use chart::format::Chart;
+use chart::format::Construct;
 use chart::format::Node;
-use edges::scope;
 
 // The masks of all nodes, with these rows.
 pub type MaskTable = [[u64; Chart::NODES]; ROWS];
@@ -28,20 +30,41 @@ pub const ENDS: usize = 1;
 
 pub const HELD: usize = 2;
 
-// A node holds what is held in the construct that it lies in.
+// A node holds what is held in the construct that it lies in; the begin and the end of a section hold the section too.
+fn held_at(
+    s: &[u8],
+    chart: Chart,
+    x: usize,
+    chains: &[u64; Chart::CONSTRUCTS],
+    sections: u64,
+) -> u64
+    requires { ⌜ Accepted (now s) chart × (x < chart .nodes) × Chains (reading (now s) chart) (Counts (decode (now s))) (chart .constructs) (now chains) × OfKind (reading (now s) chart) section sections ⌝ }
+    ensures { λ r. ⌜ Held (reading (now (s .entry)) chart) x r ⌝ }
+{
+    let node = Node::read(s, chart, x);
+    let number = node.number;
+    let own = mask_at(chains, number);
+    if node.kind < Node::BEGIN {
+        return own;
+    }
+    let construct = Construct::read(s, chart, wide(number));
+    mask_at(chains, construct.parent) | (own & sections)
+}
+
 fn mark_nodes(
     s: &[u8],
     chart: Chart,
     chains: &[u64; Chart::CONSTRUCTS],
+    sections: u64,
     held: &mut [u64; Chart::NODES],
 )
-    requires { ⌜ Accepted (now s) chart × Chains (reading (now s) chart) (Counts (decode (now s))) (chart .constructs) (now chains) × (length (now held) ≡ 192) ⌝ }
+    requires { ⌜ Accepted (now s) chart × Chains (reading (now s) chart) (Counts (decode (now s))) (chart .constructs) (now chains) × OfKind (reading (now s) chart) section sections × (length (now held) ≡ 192) ⌝ }
     ensures { λ _. ⌜ ((x : ℕ) → x < chart .nodes → Held (reading (now (s .entry)) chart) x (getD (now (held .exit)) x 0)) ⌝ }
 {
     let n = chart.nodes;
     let mut x = 0;
     while x < n {
-        held[x] = mask_at(chains, scope(s, chart, x, Node::PLAIN));
+        held[x] = held_at(s, chart, x, chains, sections);
         x += 1;
     }
 }
@@ -60,6 +83,6 @@ pub fn fill_held(s: &[u8], chart: Chart, returning: u64, held: &mut [u64; Chart:
     }
     let mut chains = [0u64; Chart::CONSTRUCTS];
     fill_chains(s, chart, returning, sets.masters, &mut chains);
-    mark_nodes(s, chart, &chains, held);
+    mark_nodes(s, chart, &chains, sets.sections, held);
     sets
 }

@@ -16,16 +16,20 @@ pub enum Answer {
     Single = 3,
     /// Never: both inside ordereds of one do, which does not return.
     Ordered = 4,
+    /// Never: both inside one section, its begin and end counted as inside, whose sections construct
+    /// does not return.
+    Section = 5,
 }
 
 impl Answer {
     /// All answers; each stands at its number.
-    pub const ALL: [Answer; 5] = [
+    pub const ALL: [Answer; 6] = [
         Answer::Concurrent,
         Answer::NoCommonPhase,
         Answer::Master,
         Answer::Single,
         Answer::Ordered,
+        Answer::Section,
     ];
 
     /// What a sheet has where one of the two nodes is a barrier, or both are; every other byte of it

@@ -25,6 +25,10 @@ pub enum ConstructKind {
     Critical = 3,
     Do = 4,
     Ordered = 5,
+    /// What deals out its sections, each to one thread.
+    Sections = 6,
+    /// One section of a `Sections`.
+    Section = 7,
 }
 
 /// In place of a construct's number: none.

@@ -18,7 +18,7 @@ pub enum Refusal {
     Lengths = 4,
     /// A node's kind or construct number.
     Node = 5,
-    /// A construct's kind, parent or name, or the nesting.
+    /// A construct's kind, parent or name, the nesting, or a node or construct wrongly in a sections.
     Construct = 6,
     /// Not exactly one begin and one end for each construct.
     Frame = 7,
@@ -66,7 +66,9 @@ impl Refusal {
             Refusal::Counts => "node, edge or construct count outside its limits",
             Refusal::Lengths => "length or a distance differs",
             Refusal::Node => "a node's kind or construct number is wrong",
-            Refusal::Construct => "a construct's kind, parent or name, or the nesting, is wrong",
+            Refusal::Construct => {
+                "a construct's kind, parent or name, the nesting or what is in a sections is wrong"
+            }
             Refusal::Frame => "a construct has not exactly one begin and one end",
             Refusal::Barrier => "the first or last node is no barrier, or there are over 64",
             Refusal::Edge => "an edge names no node, is out of order or is not allowed",

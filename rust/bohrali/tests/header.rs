@@ -16,7 +16,7 @@ const LIMITS: [(&str, usize); 7] = [
     ("MOST_CHART_BYTES", limits::MOST_CHART_BYTES),
 ];
 
-const LAYOUT: [(&str, usize); 17] = [
+const LAYOUT: [(&str, usize); 19] = [
     ("BYTES_NODE", layout::BYTES_NODE),
     ("BYTES_EDGE", layout::BYTES_EDGE),
     ("BYTES_CONSTRUCT", layout::BYTES_CONSTRUCT),
@@ -33,6 +33,8 @@ const LAYOUT: [(&str, usize); 17] = [
     ("CONSTRUCT_CRITICAL", ConstructKind::Critical as usize),
     ("CONSTRUCT_DO", ConstructKind::Do as usize),
     ("CONSTRUCT_ORDERED", ConstructKind::Ordered as usize),
+    ("CONSTRUCT_SECTIONS", ConstructKind::Sections as usize),
+    ("CONSTRUCT_SECTION", ConstructKind::Section as usize),
     ("CONSTRUCT_NONE", layout::CONSTRUCT_NONE as usize),
 ];
 

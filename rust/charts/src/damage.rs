@@ -53,7 +53,7 @@ pub fn noise(random: &mut Random) -> Vec<u8> {
         chart.edge(random.below(12), random.below(12));
     }
     for _ in 0..random.between(0, 3) {
-        chart.construct(random.between(1, 5) as u8, random.pick(&[0, 255]), 0);
+        chart.construct(random.between(1, 7) as u8, random.pick(&[0, 255]), 0);
     }
     chart.bytes()
 }
@@ -107,17 +107,46 @@ fn wrong_node(random: &mut Random, chart: &mut ChartBuilder) -> Vec<u8> {
 }
 
 fn wrong_construct(random: &mut Random, chart: &mut ChartBuilder) -> Vec<u8> {
+    if random.percent(30) && chart.constructs.len() + 2 <= 48 && chart.nodes.len() < 192 {
+        return wrong_in_sections(random, chart);
+    }
     if chart.constructs.is_empty() {
-        chart.construct(random.between(1, 5) as u8, Construct::NONE, 0);
+        chart.construct(random.between(1, 7) as u8, Construct::NONE, 0);
     }
     let number = random.below(chart.constructs.len());
     let own = &mut chart.constructs[number];
     match random.below(5) {
-        0 => own.kind = random.pick(&[0, 6, 7, 8, 255]),
+        0 => own.kind = random.pick(&[0, 8, 9, 255]),
         1 => own.parent = random.between(number, 254) as u8,
         2 if own.kind != Construct::CRITICAL => own.name = random.pick(&[1, 256]),
-        3 => own.kind = random.between(1, 5) as u8,
+        3 => own.kind = random.between(1, 7) as u8,
         _ => own.parent = random.below(number + 1) as u8,
+    }
+    chart.bytes()
+}
+
+/// A plain node or a construct wrongly in a sections, or a section outside. What is added for it
+/// breaks row 7 at most, which comes later.
+pub fn wrong_in_sections(random: &mut Random, chart: &mut ChartBuilder) -> Vec<u8> {
+    let is_sections = |x: &Construct| x.kind == Construct::SECTIONS;
+    let sections = match chart.constructs.iter().position(is_sections) {
+        Some(number) => number as u8,
+        None => chart.construct(Construct::SECTIONS, Construct::NONE, 0),
+    };
+    match random.below(3) {
+        0 => {
+            chart.plain(sections);
+        }
+        1 => {
+            let kind = random.pick(&[1, 2, 3, 3, 3, 4, 5, 6]);
+            chart.construct(kind, sections, 0);
+        }
+        _ => {
+            let is_other = |&number: &usize| !is_sections(&chart.constructs[number]);
+            let others = (0..chart.constructs.len()).filter(is_other);
+            let parents: Vec<u8> = others.map(|x| x as u8).chain([Construct::NONE]).collect();
+            chart.construct(Construct::SECTION, random.pick(&parents), 0);
+        }
     }
     chart.bytes()
 }
@@ -154,7 +183,12 @@ fn wrong_barriers(random: &mut Random, chart: &mut ChartBuilder) -> Vec<u8> {
 fn wrong_edge(random: &mut Random, chart: &mut ChartBuilder) -> Vec<u8> {
     let nodes = chart.nodes.len();
     let count = chart.edges.len();
+    let joining = between_sections(random, chart);
     let edge = &mut chart.edges[random.below(count)];
+    if let (Some(joining), true) = (joining, random.percent(50)) {
+        *edge = joining;
+        return chart.bytes();
+    }
     match random.below(6) {
         0 => edge.from = random.between(nodes, 255) as u8,
         1 => edge.to = random.between(nodes, 255) as u8,
@@ -164,6 +198,23 @@ fn wrong_edge(random: &mut Random, chart: &mut ChartBuilder) -> Vec<u8> {
         _ => return disordered(random, chart),
     }
     chart.bytes()
+}
+
+/// An edge from a section's end to a section's begin, its own or another's, if the chart has one.
+pub fn between_sections(random: &mut Random, chart: &ChartBuilder) -> Option<Edge> {
+    let framing = |kind: u8| -> Vec<u8> {
+        let frames = |&x: &u8| {
+            let node = chart.nodes[usize::from(x)];
+            let named = chart.constructs.get(usize::from(node.construct));
+            node.kind == kind && named.is_some_and(|x| x.kind == Construct::SECTION)
+        };
+        (0..chart.nodes.len() as u8).filter(frames).collect()
+    };
+    let (ends, begins) = (framing(Node::END), framing(Node::BEGIN));
+    (!ends.is_empty()).then(|| Edge {
+        from: random.pick(&ends),
+        to: random.pick(&begins),
+    })
 }
 
 /// The chart with two edges exchanged or one written over its neighbour.

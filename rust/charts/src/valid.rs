@@ -20,13 +20,28 @@ pub struct Shape {
     pub window: usize,
     /// Percentage of constructs that get an edge from their end to their begin.
     pub returning: usize,
+    /// The kinds that constructs are drawn from, likelier ones more often.
+    pub kinds: &'static [u8],
 }
 
+/// Without sections. The benchmark's charts are drawn from these: with another list they are others.
+pub const PLAIN_KINDS: &[u8] = &[1, 1, 1, 2, 2, 3, 3, 5, 5, 5, 5];
+// A do comes where an ordered finds none, a sections where a section does.
+const ALL_KINDS: &[u8] = &[1, 1, 1, 1, 2, 2, 2, 3, 3, 5, 5, 5, 5, 5, 5, 7, 7];
+/// Mostly sections, with what may stand in them and beside them.
+const DEALT_KINDS: &[u8] = &[1, 2, 3, 3, 3, 5, 6, 7, 7, 7, 7, 7, 7, 7];
+
 impl Shape {
-    /// A chart for the exploration of team states: up to 12 nodes and 4 constructs.
+    /// A chart for the exploration of team states: up to 12 nodes and 5 constructs.
     pub fn small(random: &mut Random) -> Shape {
-        let inner = random.between(0, 10).max(random.between(0, 10));
-        let constructs = random.between(0, 4).min(inner / 2);
+        let dealt = random.percent(30);
+        let least = if dealt { 8 } else { 0 };
+        let inner = random.between(least, 10).max(random.between(0, 10));
+        let wanted = match dealt {
+            true => random.between(3, 5),
+            false => random.between(0, 4),
+        };
+        let constructs = wanted.min(inner / 2);
         let barriers = random.between(0, 2).min(inner - 2 * constructs);
         Shape {
             constructs,
@@ -35,6 +50,7 @@ impl Shape {
             further_edges: random.between(0, 4),
             window: 10,
             returning: 35,
+            kinds: if dealt { DEALT_KINDS } else { ALL_KINDS },
         }
     }
 
@@ -59,6 +75,7 @@ impl Shape {
             further_edges: up_to(random, 900),
             window: random.pick(&[1, 3, 20, 192]),
             returning: random.pick(&[0, 20, 100]),
+            kinds: random.pick(&[ALL_KINDS, ALL_KINDS, DEALT_KINDS]),
         }
     }
 }
@@ -68,6 +85,8 @@ struct Scope {
     entry: usize,
     exit: usize,
     items: Vec<(usize, usize)>,
+    /// Whether it is a sections construct, in which no edge joins two items.
+    dealt: bool,
 }
 
 const START: usize = 0;
@@ -78,15 +97,16 @@ const MOST_EDGES: usize = 1024;
 pub fn valid(random: &mut Random, shape: &Shape) -> ChartBuilder {
     let mut chart = ChartBuilder::new();
     for _ in 0..shape.constructs {
-        add_construct(random, &mut chart);
+        add_construct(random, &mut chart, shape.kinds);
     }
     let scopes = add_nodes(random, &mut chart, shape);
     for scope in &scopes {
         connect(random, &mut chart, scope, shape.window);
     }
-    for construct in &scopes[..shape.constructs] {
-        if random.percent(shape.returning) {
-            chart.edge(construct.exit, construct.entry);
+    for (number, scope) in scopes[..shape.constructs].iter().enumerate() {
+        let is_section = chart.constructs[number].kind == Construct::SECTION;
+        if !is_section && random.percent(shape.returning) {
+            chart.edge(scope.exit, scope.entry);
         }
     }
     chart.edges.sort_unstable();
@@ -101,19 +121,14 @@ pub fn valid(random: &mut Random, shape: &Shape) -> ChartBuilder {
     chart
 }
 
-/// Adds a construct of a random kind at a random place where the nesting table allows it.
-fn add_construct(random: &mut Random, chart: &mut ChartBuilder) {
-    let is_do = |&x: &usize| chart.constructs[x].kind == Construct::DO;
-    let dos: Vec<usize> = (0..chart.constructs.len()).filter(is_do).collect();
+/// Adds a construct of one of some kinds at a random place where it may stand.
+fn add_construct(random: &mut Random, chart: &mut ChartBuilder, kinds: &[u8]) {
     loop {
-        let kind = match random.pick(&[1, 1, 1, 2, 2, 3, 3, 5, 5, 5, 5]) {
-            Construct::ORDERED if dos.is_empty() => Construct::DO,
-            kind => kind,
-        };
-        let parent = match kind {
-            Construct::ORDERED => random.pick(&dos) as u8,
-            Construct::MASTER | Construct::CRITICAL => any_scope(random, chart),
-            _ => Construct::NONE,
+        let (kind, parent) = match random.pick(kinds) {
+            Construct::ORDERED => below(random, chart, Construct::ORDERED, Construct::DO),
+            Construct::SECTION => below(random, chart, Construct::SECTION, Construct::SECTIONS),
+            kind @ (Construct::MASTER | Construct::CRITICAL) => (kind, any_scope(random, chart)),
+            kind => (kind, Construct::NONE),
         };
         let name = match kind {
             Construct::CRITICAL => random.pick(&[0, 1, 2, 256, 65_535]),
@@ -126,6 +141,20 @@ fn add_construct(random: &mut Random, chart: &mut ChartBuilder) {
     }
 }
 
+/// Kind and parent of a construct whose parent is of a given kind; where no such parent has been
+/// added, those of the parent itself.
+fn below(random: &mut Random, chart: &ChartBuilder, kind: u8, above: u8) -> (u8, u8) {
+    let numbered = chart.constructs.iter().enumerate();
+    let parents: Vec<usize> = numbered
+        .filter(|(_, x)| x.kind == above)
+        .map(|(number, _)| number)
+        .collect();
+    match parents.is_empty() {
+        true => (above, Construct::NONE),
+        false => (kind, random.pick(&parents) as u8),
+    }
+}
+
 /// A construct added before, or none; none is somewhat likelier than each construct.
 fn any_scope(random: &mut Random, chart: &ChartBuilder) -> u8 {
     match random.below(chart.constructs.len() + 2) {
@@ -134,10 +163,14 @@ fn any_scope(random: &mut Random, chart: &ChartBuilder) -> u8 {
     }
 }
 
-/// Whether the nesting table allows a construct below its parent.
+/// Whether a construct may stand below its parent: by the nesting table, and in a sections only if
+/// it is a section.
 fn may_add(chart: &ChartBuilder, own: Construct) -> bool {
     let above = |number: u8| chart.constructs.get(usize::from(number));
     let mut next = above(own.parent);
+    if next.is_some_and(|x| x.kind == Construct::SECTIONS) && own.kind != Construct::SECTION {
+        return false;
+    }
     while let Some(enclosing) = next {
         if !may_enclose(enclosing, &own) {
             return false;
@@ -158,14 +191,18 @@ fn add_nodes(random: &mut Random, chart: &mut ChartBuilder, shape: &Shape) -> Ve
         items[parent].push((begin, end));
         ports.push((begin, end));
     }
+    let open: Vec<usize> = (0..shape.constructs)
+        .filter(|&scope| !is_dealt(chart, scope))
+        .collect();
     for _ in 0..shape.plain {
-        let inner = shape.constructs > 0 && random.percent(60);
-        let scope = if inner {
-            random.below(shape.constructs)
+        let inner = !open.is_empty() && random.percent(60);
+        let (scope, number) = if inner {
+            let scope = random.pick(&open);
+            (scope, scope as u8)
         } else {
-            shape.constructs
+            (shape.constructs, Construct::NONE)
         };
-        let node = chart.plain(if inner { scope as u8 } else { Construct::NONE });
+        let node = chart.plain(number);
         items[scope].push((node, node));
     }
     for _ in 0..shape.barriers {
@@ -173,15 +210,35 @@ fn add_nodes(random: &mut Random, chart: &mut ChartBuilder, shape: &Shape) -> Ve
         items[shape.constructs].push((node, node));
     }
     ports.push((START, chart.barrier()));
-    ports
-        .into_iter()
-        .zip(items)
-        .map(|((entry, exit), items)| Scope { entry, exit, items })
+    let numbered = ports.into_iter().zip(items).enumerate();
+    numbered
+        .map(|(scope, ((entry, exit), items))| Scope {
+            entry,
+            exit,
+            items,
+            dealt: is_dealt(chart, scope),
+        })
         .collect()
+}
+
+/// Whether a scope is a sections construct; the outermost one is no construct.
+fn is_dealt(chart: &ChartBuilder, scope: usize) -> bool {
+    let own = chart.constructs.get(scope);
+    own.is_some_and(|x| x.kind == Construct::SECTIONS)
 }
 
 /// Edges by which every item of a scope is reached from its entry and reaches its exit.
 fn connect(random: &mut Random, chart: &mut ChartBuilder, scope: &Scope, window: usize) {
+    if scope.items.is_empty() {
+        chart.edge(scope.entry, scope.exit);
+    }
+    if scope.dealt {
+        for &(entry, exit) in &scope.items {
+            chart.edge(scope.entry, entry);
+            chart.edge(exit, scope.exit);
+        }
+        return;
+    }
     let mut order = scope.items.clone();
     random.shuffle(&mut order);
     for (place, &(entry, _)) in order.iter().enumerate() {
@@ -196,9 +253,6 @@ fn connect(random: &mut Random, chart: &mut ChartBuilder, scope: &Scope, window:
         let to = order.get(place + random.between(1, window)).map(|x| x.0);
         chart.edge(exit, to.unwrap_or(scope.exit));
     }
-    if order.is_empty() {
-        chart.edge(scope.entry, scope.exit);
-    }
 }
 
 /// One edge between two random places of a random scope.
@@ -211,7 +265,10 @@ fn add_further_edge(
     let scope = &scopes[random.below(scopes.len())];
     let items = scope.items.len();
     let from = random.below(items + 1);
-    let to = (from + random.between(0, 2 * window)).saturating_sub(window);
+    let to = match scope.dealt && from < items {
+        true => items,
+        false => (from + random.between(0, 2 * window)).saturating_sub(window),
+    };
     let exit = scope.items.get(from).map_or(scope.entry, |x| x.1);
     let entry = scope.items.get(to.min(items)).map_or(scope.exit, |x| x.0);
     chart.edge(exit, entry);

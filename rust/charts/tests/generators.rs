@@ -37,13 +37,44 @@ fn large_charts_meet_the_limits() {
 fn small_charts_have_every_kind_and_returns() {
     let draws = (0..2_000).map(|seed| small(&mut Random::new(seed)));
     let charts: Vec<Chart> = draws.map(|x| decode_checked(&x).unwrap()).collect();
-    for kind in Construct::SINGLE..=Construct::ORDERED {
+    for kind in Construct::SINGLE..=Construct::SECTION {
         let has_kind = |x: &Chart| x.constructs.iter().any(|c| c.kind == kind);
         assert!(share(&charts, has_kind) > 100, "kind {kind}");
     }
     let returns = |x: &Chart| reference::phases::Phases::of(x).returns.contains(&true);
     assert!(share(&charts, returns) > 500);
     assert!(share(&charts, |x| x.nodes.len() > 12) == 0);
+}
+
+#[test]
+fn small_charts_have_sections_of_every_form() {
+    let draws = (0..4_000).map(|seed| small(&mut Random::new(seed)));
+    let charts: Vec<Chart> = draws.map(|x| decode_checked(&x).unwrap()).collect();
+    let dealt = |chart: &Chart, property: &dyn Fn(usize) -> bool| {
+        let constructs = chart.constructs.iter().enumerate();
+        let mut dealt = constructs.filter(|(_, x)| x.kind == Construct::SECTIONS);
+        dealt.any(|(number, _)| property(number))
+    };
+    let sections = |count: usize| move |x: &Chart| dealt(x, &|c| x.sections_of(c).len() == count);
+    for (count, least) in [(0, 200), (1, 200), (2, 100), (3, 50)] {
+        let charts = share(&charts, sections(count));
+        assert!(charts > least, "{count} sections: {charts} charts");
+    }
+    let returning = |x: &Chart| {
+        let phases = reference::phases::Phases::of(x);
+        dealt(x, &|c| phases.returns[c] && !x.sections_of(c).is_empty())
+    };
+    assert!(share(&charts, returning) > 200);
+    let below_section = |x: &Chart| {
+        let parents = x.constructs.iter().map(|x| usize::from(x.parent));
+        let mut parents = parents.filter_map(|parent| x.constructs.get(parent));
+        parents.any(|parent| parent.kind == Construct::SECTION)
+    };
+    assert!(share(&charts, below_section) > 50, "criticals in sections");
+    for kind in [Construct::SINGLE, Construct::DO] {
+        let beside = |x: &Chart| dealt(x, &|_| x.constructs.iter().any(|c| c.kind == kind));
+        assert!(share(&charts, beside) > 50, "kind {kind} beside sections");
+    }
 }
 
 #[test]
@@ -63,6 +94,25 @@ fn damage_hits_the_row_it_is_aimed_at() {
         println!("row {row}: {hits} of 1000");
         assert!(hits > 400, "row {row}: {hits} of 1000");
     }
+}
+
+#[test]
+fn damaged_sections_are_refused() {
+    let mut joined = 0;
+    for seed in 0..1_000 {
+        let mut random = Random::new(seed);
+        let shape = valid::Shape::small(&mut random);
+        let mut chart = valid::valid(&mut random, &shape);
+        if let Some(edge) = damage::between_sections(&mut random, &chart) {
+            let mut chart = chart.clone();
+            chart.edges.push(edge);
+            assert_eq!(decode_checked(&chart.bytes()), Err(9), "seed {seed}");
+            joined += 1;
+        }
+        let bytes = damage::wrong_in_sections(&mut random, &mut chart);
+        assert_eq!(decode_checked(&bytes), Err(6), "seed {seed}");
+    }
+    assert!(joined > 200, "{joined}");
 }
 
 #[test]

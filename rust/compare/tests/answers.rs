@@ -55,6 +55,7 @@ impl Read {
 #[test]
 fn every_pair_of_small_charts() {
     let mut archive = Archive::new();
+    let mut answers = [0usize; 6];
     for seed in 0..CHARTS {
         let chart = small(&mut Random::new(seed));
         let nodes = chart.rules.chart.nodes.len();
@@ -62,9 +63,13 @@ fn every_pair_of_small_charts() {
             for b in 0..nodes + 1 {
                 let number = archive.pair(&chart.bytes, a, b);
                 assert_eq!(number, chart.answer(a, b), "seed {seed}, pair {a} {b}");
+                if let Ok(answer) = usize::try_from(number) {
+                    answers[answer] += 1;
+                }
             }
         }
     }
+    assert!(answers.iter().all(|&times| times > 50), "{answers:?}");
 }
 
 #[test]

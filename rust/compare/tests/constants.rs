@@ -42,6 +42,8 @@ fn kinds() {
     assert_eq!(ConstructKind::Critical as u8, Construct::CRITICAL);
     assert_eq!(ConstructKind::Do as u8, Construct::DO);
     assert_eq!(ConstructKind::Ordered as u8, Construct::ORDERED);
+    assert_eq!(ConstructKind::Sections as u8, Construct::SECTIONS);
+    assert_eq!(ConstructKind::Section as u8, Construct::SECTION);
     assert_eq!(Answer::Concurrent as u8, Rules::CONCURRENT);
     assert_eq!(Answer::AT_BARRIER, Rules::BARRIER);
 }

@@ -16,6 +16,8 @@ fn mutated_charts_and_claims() {
     let from = [
         known::chart_k(),
         known::chart_d(&[(5, 1)]),
+        known::chart_x(&[]),
+        known::chart_x(&[(7, 1)]),
         known::figure_2b(),
     ];
     let mut admitted = 0;

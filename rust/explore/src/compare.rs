@@ -24,7 +24,7 @@ pub struct Tally {
     /// Charts with every pair decided.
     pub charts: usize,
     /// Pairs by their answer.
-    pub answers: [usize; 5],
+    pub answers: [usize; 6],
     /// Explorations given up for their number of states.
     pub skipped: usize,
 }

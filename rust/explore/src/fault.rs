@@ -1,5 +1,5 @@
-//! Wrong rules, planted to show that the comparison would notice them: three in the pair rules and
-//! two in the team rules.
+//! Wrong rules, planted to show that they would be noticed: most by the comparison, those under which
+//! the same pairs are met by traces that the rules forbid.
 
 use reference::answers::Rules;
 use reference::chart::Construct;
@@ -16,16 +16,32 @@ pub enum Fault {
     StraightUncounted,
     /// The step back at a do's end counts as leaving its begin.
     StepBackCounted,
+    /// The begin and end of a section left out of answer 5.
+    SectionFrameLeftOut,
+    /// Answer 5 without its return condition.
+    SectionReturnDropped,
+    /// A section that another thread has taken may be taken.
+    OthersTakenForgotten,
+    /// The end of a sections construct may be left though not all of its sections are taken.
+    SectionsLeftEarly,
+    /// In a meeting that some thread is past, its sections are not taken for that.
+    PastForgotten,
 }
 
 impl Fault {
-    pub const ALL: [Fault; 5] = [
+    /// Those that change an answer or a pair met.
+    pub const COMPARED: [Fault; 8] = [
         Fault::SingleReturnDropped,
         Fault::OrderedReturnDropped,
         Fault::CommonEndsDropped,
         Fault::StraightUncounted,
         Fault::StepBackCounted,
+        Fault::SectionFrameLeftOut,
+        Fault::SectionReturnDropped,
+        Fault::OthersTakenForgotten,
     ];
+    /// Those that allow further runs, in which no further pair is met.
+    pub const TRACED: [Fault; 2] = [Fault::SectionsLeftEarly, Fault::PastForgotten];
 
     /// Puts a fault of the pair rules into what they look at; team faults change nothing here.
     pub fn plant(self, rules: &mut Rules) {
@@ -33,8 +49,18 @@ impl Fault {
             Fault::SingleReturnDropped => drop_returns(rules, Construct::SINGLE),
             Fault::OrderedReturnDropped => drop_returns(rules, Construct::DO),
             Fault::CommonEndsDropped => rules.phases.ends.fill(u64::MAX),
-            Fault::StraightUncounted | Fault::StepBackCounted => {}
+            Fault::SectionFrameLeftOut => leave_frames_out(rules),
+            Fault::SectionReturnDropped => drop_returns(rules, Construct::SECTIONS),
+            _ => {}
         }
+    }
+}
+
+/// Lets the rules believe that the begin and end of a section are not inside it.
+fn leave_frames_out(rules: &mut Rules) {
+    for (node, sections) in rules.in_section.iter_mut().enumerate() {
+        let around = rules.chart.enclosing(node);
+        sections.retain(|section| around.contains(section));
     }
 }
 

@@ -4,4 +4,6 @@
 pub mod compare;
 pub mod fault;
 pub mod search;
+mod sections;
 pub mod team;
+pub mod trace;

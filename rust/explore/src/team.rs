@@ -1,30 +1,36 @@
-//! The team rules of 01 and nothing else: the states of a team and the steps from each. No phase,
-//! mask or answer is known here.
+//! The team rules of 01 and 02 and nothing else: the states of a team and the steps from each; those
+//! of sections are in `sections`. No phase, mask or answer is known here.
 
 use crate::fault::Fault;
 use reference::chart::{Chart, Construct, Node};
 
 pub const MOST_THREADS: usize = 3;
-pub const MOST_CONSTRUCTS: usize = 4;
+pub const MOST_CONSTRUCTS: usize = 5;
+/// A count takes four bits of a packed state.
+const MOST_ENCOUNTERS: u8 = 15;
 
 /// "The state is each thread's node and, per thread and construct, how often it has left that
-/// construct's begin" since the last release. Only the counts of singles and dos are kept: no rule
-/// reads another, so leaving those out changes no step.
+/// construct's begin" since the last release. Only the counts of singles, dos and sections are kept:
+/// no rule reads another, so leaving those out changes no step.
 #[derive(Clone, Copy, Debug, PartialEq, Eq)]
 pub struct State {
     pub nodes: [u8; MOST_THREADS],
-    encounters: [[u8; MOST_CONSTRUCTS]; MOST_THREADS],
+    pub(crate) encounters: [[u8; MOST_CONSTRUCTS]; MOST_THREADS],
+    /// 02: "per thread and sections construct, which sections the thread has taken in its latest
+    /// meeting": bit s for section s, which is a section of one sections construct only.
+    pub(crate) taken: [u8; MOST_THREADS],
 }
 
 impl State {
-    /// The state as one number, a byte for each node and count.
+    /// The state as one number: a byte for each node and set, four bits for each count.
     pub fn packed(&self) -> u128 {
+        let bytes = self.nodes.iter().chain(&self.taken);
+        let packed = bytes.fold(0, |packed, &byte| packed << 8 | u128::from(byte));
         let counts = self.encounters.iter().flatten();
-        let bytes = self.nodes.iter().chain(counts);
-        bytes.fold(0, |packed, &byte| packed << 8 | u128::from(byte))
+        counts.fold(packed, |packed, &count| packed << 4 | u128::from(count))
     }
 
-    fn moved(mut self, thread: usize, to: usize) -> State {
+    pub(crate) fn moved(mut self, thread: usize, to: usize) -> State {
         self.nodes[thread] = to as u8;
         self
     }
@@ -35,11 +41,13 @@ pub struct Team<'a> {
     chart: &'a Chart,
     successors: Vec<Vec<usize>>,
     enclosing: Vec<Vec<usize>>,
-    begins: Vec<usize>,
-    ends: Vec<usize>,
-    threads: usize,
+    pub(crate) begins: Vec<usize>,
+    pub(crate) ends: Vec<usize>,
+    /// By construct, its sections: none but for a sections construct.
+    pub(crate) sections: Vec<Vec<usize>>,
+    pub(crate) threads: usize,
     most_encounters: u8,
-    fault: Option<Fault>,
+    pub(crate) fault: Option<Fault>,
 }
 
 impl<'a> Team<'a> {
@@ -48,13 +56,15 @@ impl<'a> Team<'a> {
     pub fn new(chart: &'a Chart, threads: usize, most_encounters: u8) -> Team<'a> {
         assert!((1..=MOST_THREADS).contains(&threads));
         assert!(chart.constructs.len() <= MOST_CONSTRUCTS);
+        assert!(most_encounters <= MOST_ENCOUNTERS);
         let constructs = 0..chart.constructs.len();
         Team {
             chart,
             successors: chart.successors(),
             enclosing: (0..chart.nodes.len()).map(|x| chart.enclosing(x)).collect(),
             begins: constructs.clone().map(|c| chart.begin_of(c)).collect(),
-            ends: constructs.map(|c| chart.end_of(c)).collect(),
+            ends: constructs.clone().map(|c| chart.end_of(c)).collect(),
+            sections: constructs.map(|c| chart.sections_of(c)).collect(),
             threads,
             most_encounters,
             fault: None,
@@ -67,11 +77,12 @@ impl<'a> Team<'a> {
         self
     }
 
-    /// "All counts begin at 0, all threads at Start."
+    /// "All counts begin at 0, all threads at Start"; no section is taken.
     pub fn first_state(&self) -> State {
         State {
             nodes: [self.chart.start() as u8; MOST_THREADS],
             encounters: [[0; MOST_CONSTRUCTS]; MOST_THREADS],
+            taken: [0; MOST_THREADS],
         }
     }
 
@@ -98,7 +109,8 @@ impl<'a> Team<'a> {
     }
 
     /// 01's opening: "all m threads are at the same barrier, not Finish. Each takes an edge of its
-    /// own choice, in one step; all counts become 0 and a new stretch begins."
+    /// own choice, in one step; all counts become 0 and a new stretch begins." 02: no section is
+    /// taken "after an opening".
     fn release(&self, state: &State, next: &mut Vec<State>) {
         let barrier = usize::from(state.nodes[0]);
         let closed = !self.chart.is_barrier(barrier) || barrier == self.chart.finish();
@@ -124,21 +136,33 @@ impl<'a> Team<'a> {
         match kind {
             Node::BARRIER => {}
             Node::BEGIN => self.begin_steps(state, thread, construct.into(), next),
+            Node::END => self.end_steps(state, thread, construct.into(), next),
             _ => self.edges(state, thread, at, next),
-        }
-        if kind == Node::END && self.kind(construct.into()) == Construct::DO {
-            self.step_back(state, thread, construct.into(), next);
         }
     }
 
-    fn edges(&self, state: &State, thread: usize, from: usize, next: &mut Vec<State>) {
+    /// The two rules for ends; any other end is left by an edge.
+    fn end_steps(&self, state: &State, thread: usize, construct: usize, next: &mut Vec<State>) {
+        if self.kind(construct) == Construct::SECTIONS {
+            return self.leave_sections_end(state, thread, construct, next);
+        }
+        self.edges(state, thread, self.ends[construct], next);
+        if self.kind(construct) == Construct::DO {
+            self.step_back(state, thread, construct, next);
+        }
+    }
+
+    pub(crate) fn edges(&self, state: &State, thread: usize, from: usize, next: &mut Vec<State>) {
         let targets = self.successors[from].iter();
         next.extend(targets.map(|&to| state.moved(thread, to)));
     }
 
-    /// The four rules for begins; any other begin is left by an edge.
+    /// The five rules for begins; any other begin is left by an edge.
     fn begin_steps(&self, state: &State, thread: usize, construct: usize, next: &mut Vec<State>) {
         let (by_edge, straight) = match self.kind(construct) {
+            Construct::SECTIONS => {
+                return self.leave_sections_begin(state, thread, construct, next);
+            }
             // "Thread 0 takes an edge; any other goes straight to the end node."
             Construct::MASTER => (thread == 0, thread != 0),
             Construct::SINGLE => {
@@ -199,9 +223,13 @@ impl<'a> Team<'a> {
     }
 
     /// The state with one more leaving of a begin counted, or none at the bound.
-    fn counted(&self, state: &State, thread: usize, construct: usize) -> Option<State> {
+    pub(crate) fn counted(&self, state: &State, thread: usize, construct: usize) -> Option<State> {
         let mut state = *state;
-        if matches!(self.kind(construct), Construct::SINGLE | Construct::DO) {
+        let kind = self.kind(construct);
+        if matches!(
+            kind,
+            Construct::SINGLE | Construct::DO | Construct::SECTIONS
+        ) {
             let count = &mut state.encounters[thread][construct];
             if *count == self.most_encounters {
                 return None;

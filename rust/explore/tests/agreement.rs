@@ -41,7 +41,7 @@ fn agree(threads: usize, first_seed: u64, time: Duration) -> Tally {
     let pairs: usize = answers.iter().sum();
     report(&format!(
         "team of {threads}, seeds {first_seed} to {}: {charts} charts, {pairs} pairs agree \
-         (answers 0 to 4: {answers:?}); {skipped} explorations skipped",
+         (answers 0 to 5: {answers:?}); {skipped} explorations skipped",
         seed - 1
     ));
     tally
@@ -78,6 +78,9 @@ fn known_charts_agree() {
         chart_s_through_barrier(),
         chart_d(&[]),
         chart_d(&[(5, 1)]),
+        chart_x(&[]),
+        chart_x(&[(1, 7)]),
+        chart_x(&[(7, 1)]),
         figure_2b(),
         row(2, 2),
     ];

@@ -1,9 +1,12 @@
-//! Each planted fault makes an answer and an exploration disagree within two thousand charts, on a
-//! chart where they agree without it.
+//! Each planted fault of the comparison makes an answer and an exploration disagree within two
+//! thousand charts, on a chart where they agree without it. Under the others the same pairs are met,
+//! by other steps; `sections` has runs for each that the rules forbid.
 
 use charts::random::Random;
 use explore::compare::{compare, Bounds, Tally};
 use explore::fault::Fault;
+use explore::search::steps;
+use explore::team::Team;
 use reference::refusals::decode_checked;
 use std::io::Write;
 
@@ -23,11 +26,35 @@ fn agree(seed: u64, fault: Option<Fault>) -> bool {
 
 #[test]
 fn every_planted_fault_is_noticed() {
-    for fault in Fault::ALL {
+    for fault in Fault::COMPARED {
         let noticed = (1..=2_000).find(|&seed| !agree(seed, Some(fault)));
         let seed = noticed.unwrap_or_else(|| panic!("{fault:?} is not noticed"));
         assert!(agree(seed, None), "seed {seed} without a fault");
         let line = format!("{fault:?}: noticed at seed {seed}, counted from 1");
+        writeln!(std::io::stderr(), "{line}").expect("standard error is open");
+    }
+}
+
+/// Whether the team of a seed's chart takes the same steps with a fault as without.
+fn same_steps(seed: u64, fault: Fault) -> bool {
+    let bytes = charts::small(&mut Random::new(seed));
+    let chart = decode_checked(&bytes).expect("a valid chart");
+    let taken = |fault: Option<Fault>| {
+        let team = Team::new(&chart, BOUNDS.threads, BOUNDS.first_encounters);
+        steps(&team.with_fault(fault), BOUNDS.most_states)
+    };
+    taken(Some(fault)) == taken(None)
+}
+
+#[test]
+fn faults_that_change_no_pair_are_noticed_by_the_steps() {
+    for fault in Fault::TRACED {
+        let unlike: Vec<u64> = (1..=400).filter(|&seed| !same_steps(seed, fault)).collect();
+        assert!(!unlike.is_empty(), "{fault:?} is not noticed");
+        let agreeing = unlike.iter().all(|&seed| agree(seed, Some(fault)));
+        assert!(agreeing, "{fault:?} changes a pair, so compare it");
+        let (seed, count) = (unlike[0], unlike.len());
+        let line = format!("{fault:?}: other steps at seed {seed}; {count} of 400 charts");
         writeln!(std::io::stderr(), "{line}").expect("standard error is open");
     }
 }

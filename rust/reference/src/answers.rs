@@ -7,11 +7,13 @@ use crate::phases::Phases;
 /// One rule: whether it applies to two nodes.
 type Rule = fn(&Rules, usize, usize) -> bool;
 
-/// An admitted chart with its phases and, for each node, the constructs around it.
+/// An admitted chart with its phases and, for each node, the constructs around it; for answer 5 the
+/// sections that it is inside, their begins and ends counted as inside.
 #[derive(Clone, Debug)]
 pub struct Rules {
     pub chart: Chart,
     pub phases: Phases,
+    pub in_section: Vec<Vec<usize>>,
     enclosing: Vec<Vec<usize>>,
 }
 
@@ -21,21 +23,23 @@ impl Rules {
     pub const BARRIER: u8 = 255;
 
     pub fn of(chart: Chart) -> Rules {
-        let enclosing = (0..chart.nodes.len()).map(|x| chart.enclosing(x)).collect();
+        let nodes = 0..chart.nodes.len();
         Rules {
             phases: Phases::of(&chart),
-            enclosing,
+            in_section: nodes.clone().map(|x| chart.in_section(x)).collect(),
+            enclosing: nodes.map(|x| chart.enclosing(x)).collect(),
             chart,
         }
     }
 
     /// "The answer for nodes A and B, which may be equal, is the first that applies."
     pub fn answer(&self, a: usize, b: usize) -> u8 {
-        let rules: [(u8, Rule); 4] = [
+        let rules: [(u8, Rule); 5] = [
             (1, Rules::no_common_phase),
             (2, Rules::both_in_masters),
             (3, Rules::both_in_one_single),
             (4, Rules::both_in_ordereds_of_one_do),
+            (5, Rules::both_in_one_section),
         ];
         let first = rules.into_iter().find(|(_, applies)| applies(self, a, b));
         first.map_or(Rules::CONCURRENT, |(number, _)| number)
@@ -63,6 +67,15 @@ impl Rules {
     fn both_in_ordereds_of_one_do(&self, a: usize, b: usize) -> bool {
         self.dos_of_ordereds(a)
             .any(|own| self.dos_of_ordereds(b).any(|x| x == own) && !self.phases.returns[own])
+    }
+
+    /// 5: "both inside one section, its begin and end counted as inside, whose sections construct
+    /// does not return".
+    fn both_in_one_section(&self, a: usize, b: usize) -> bool {
+        self.in_section[a].iter().any(|section| {
+            let sections = usize::from(self.chart.constructs[*section].parent);
+            self.in_section[b].contains(section) && !self.phases.returns[sections]
+        })
     }
 
     /// The constructs of one kind that a node is inside.

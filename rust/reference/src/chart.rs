@@ -43,6 +43,8 @@ impl Construct {
     pub const CRITICAL: u8 = 3;
     pub const DO: u8 = 4;
     pub const ORDERED: u8 = 5;
+    pub const SECTIONS: u8 = 6;
+    pub const SECTION: u8 = 7;
     /// "255 for none": no construct, or no parent.
     pub const NONE: u8 = 255;
 }

@@ -1,5 +1,5 @@
-//! The charts of 01's "Charts with known answers", as bytes: for the tests here, for the exploration
-//! and for the comparison with other implementations.
+//! The charts of 01's "Charts with known answers" and a chart with sections, as bytes: for the tests
+//! here, for the exploration and for the comparison with other implementations.
 
 use crate::builder::ChartBuilder;
 use crate::chart::Construct;
@@ -60,6 +60,36 @@ pub fn chart_d(added: &[(usize, usize)]) -> Vec<u8> {
     chart.barrier();
     chart.row();
     added.iter().for_each(|&(from, to)| chart.edge(from, to));
+    chart.bytes()
+}
+
+/// Chart X: a sections construct of two sections, the first around one plain node, with edges added.
+pub fn chart_x(added: &[(usize, usize)]) -> Vec<u8> {
+    let mut chart = ChartBuilder::new();
+    let sections = chart.construct(Construct::SECTIONS, Construct::NONE, 0);
+    let [first, second] = [0, 1].map(|_| chart.construct(Construct::SECTION, sections, 0));
+    chart.barrier();
+    chart.begin(sections);
+    chart.begin(first);
+    chart.plain(first);
+    chart.end(first);
+    chart.begin(second);
+    chart.end(second);
+    chart.end(sections);
+    chart.barrier();
+    let edges = [
+        (0, 1),
+        (1, 2),
+        (1, 5),
+        (2, 3),
+        (3, 4),
+        (4, 7),
+        (5, 6),
+        (6, 7),
+        (7, 8),
+    ];
+    let all = edges.iter().chain(added);
+    all.for_each(|&(from, to)| chart.edge(from, to));
     chart.bytes()
 }
 

@@ -1,4 +1,4 @@
-//! The plain second implementation of document 01: one function a rule or row, no cleverness.
+//! The plain second implementation of documents 01 and 02: one function a rule or row, no cleverness.
 //! It decides whether two threads of one OpenMP team can be at two nodes of a chart together, in a
 //! run that finishes. What a change request adds gets a module of its own, named after it.
 
@@ -12,6 +12,7 @@ pub mod phases;
 pub mod printing;
 pub mod refusals;
 pub mod scopes;
+pub mod sections;
 
 /// What Admit tells of an admitted chart.
 #[derive(Clone, Copy, Debug, PartialEq, Eq)]

@@ -69,15 +69,19 @@ fn wrong_node(chart: &Chart) -> bool {
     })
 }
 
-/// Row 6: "kind not 1 to 5; parent not lower and not 255; name not 0 on a non-critical; nesting
-/// broken". Nesting comes last: its walk outward ends only if every parent is lower.
+/// Row 6: "kind not 1 to 5" (02: or 6 or 7); "parent not lower and not 255; name not 0 on a
+/// non-critical; nesting broken"; 02: "a node or construct wrongly in a sections". Nesting comes
+/// after the fields: its walk outward ends only if every parent is lower.
 fn wrong_construct(chart: &Chart) -> bool {
     let wrong_fields = chart.constructs.iter().enumerate().any(|(number, own)| {
-        !(Construct::SINGLE..=Construct::ORDERED).contains(&own.kind)
+        !(Construct::SINGLE..=Construct::SECTION).contains(&own.kind)
             || (own.parent != Construct::NONE && usize::from(own.parent) >= number)
             || (own.kind != Construct::CRITICAL && own.name != 0)
     });
-    wrong_fields || (0..chart.constructs.len()).any(|number| chart.breaks_nesting(number))
+    wrong_fields
+        || (0..chart.constructs.len())
+            .any(|number| chart.breaks_nesting(number) || chart.is_misplaced(number))
+        || (0..chart.nodes.len()).any(|node| chart.is_stray(node))
 }
 
 /// Row 7: "not exactly one begin and one end each".
@@ -98,7 +102,8 @@ fn wrong_barriers(chart: &Chart) -> bool {
 }
 
 /// Row 9: "node number n or more; not strictly rising by (from, to); into Start; out of Finish;
-/// sides unequal". The scopes are compared last: they need node numbers below n.
+/// sides unequal"; 02: "no edge leads from a section's end to a section's begin". What looks at the
+/// two nodes comes last: it needs node numbers below n.
 fn wrong_edge(chart: &Chart) -> bool {
     let beyond = |node: u8| usize::from(node) >= chart.nodes.len();
     let not_rising = |pair: &[Edge]| pair[0] >= pair[1];
@@ -109,6 +114,7 @@ fn wrong_edge(chart: &Chart) -> bool {
             to == chart.start()
                 || from == chart.finish()
                 || chart.leaving_scope(from) != chart.arriving_scope(to)
+                || chart.joins_sections(from, to)
         })
 }
 

@@ -4,13 +4,15 @@
 use crate::chart::{Chart, Construct, Node};
 
 /// By kind, the kinds that may enclose it at any depth: row = kind, column = kind above, both in
-/// the order single, master, critical, do, ordered.
-pub const MAY_ENCLOSE: [[bool; 5]; 5] = [
-    [false, false, false, false, false],
-    [false, false, true, false, false],
-    [true, true, true, true, true],
-    [false, false, false, false, false],
-    [false, false, false, true, false],
+/// the order single, master, critical, do, ordered, sections, section.
+pub const MAY_ENCLOSE: [[bool; 7]; 7] = [
+    [false, false, false, false, false, false, false],
+    [false, false, true, false, false, false, false],
+    [true, true, true, true, true, true, true],
+    [false, false, false, false, false, false, false],
+    [false, false, false, true, false, false, false],
+    [false, false, false, false, false, false, false],
+    [false, false, false, false, false, true, false],
 ];
 
 impl Chart {

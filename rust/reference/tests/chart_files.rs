@@ -1,4 +1,4 @@
-//! The files in charts/ are the charts of 01 that they are named after.
+//! The files in charts/ are the charts of 01, and chart X with sections, that they are named after.
 
 use reference::chart::Construct;
 use reference::known;
@@ -17,6 +17,7 @@ fn files_are_the_known_charts() {
             known::chart_s(Construct::SINGLE, &[(3, 1)]),
         ),
         ("d", known::chart_d(&[])),
+        ("x", known::chart_x(&[])),
         ("figure-2b", known::figure_2b()),
     ] {
         let file = folder.join(name).with_extension("chart");

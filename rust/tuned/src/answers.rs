@@ -52,8 +52,8 @@ impl Marked<'_> {
             constructs,
             ..
         } = *self.read;
-        let around = table.around(nodes, constructs);
-        around.map(|x| constructs.excludes[at(x)] & self.marks.kept)
+        let inside = table.inside(nodes, constructs);
+        inside.map(|x| constructs.excludes[at(x)] & self.marks.kept)
     }
 
     #[inline(always)]
@@ -76,8 +76,10 @@ impl Marked<'_> {
             2
         } else if shared & self.read.constructs.singles != 0 {
             3
-        } else {
+        } else if shared & self.read.constructs.parts == 0 {
             4
+        } else {
+            5
         }
     }
 

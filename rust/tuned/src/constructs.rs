@@ -1,5 +1,6 @@
 //! Row 6, and what the construct table says.
 
+use crate::bits::bits;
 use crate::tables::{Record, NONE};
 
 const SINGLE: u8 = 1;
@@ -7,9 +8,25 @@ const MASTER: u8 = 2;
 const CRITICAL: u8 = 3;
 const DO: u8 = 4;
 const ORDERED: u8 = 5;
+const SECTIONS: u8 = 6;
+const SECTION: u8 = 7;
 
 /// By kind, the kinds that may be above, bit k for kind k.
-const ABOVE: [u8; 8] = [0, 0, 1 << CRITICAL, 0b11_1110, 0, 1 << DO, 0, 0];
+const ABOVE: [u8; 8] = [
+    0,
+    0,
+    1 << CRITICAL,
+    0b1111_1110,
+    0,
+    1 << DO,
+    0,
+    1 << SECTIONS,
+];
+
+/// By kind, what of these must not be all that is above. Nothing is above a do or a sections, so that
+/// their bit alone tells the parent: an ordered and a section have one, a critical is not directly in a
+/// sections. Bit 0 is no kind's.
+const NOT_ALL: [u8; 8] = [1, 1, 1, 1 << SECTIONS, 1, 0, 1, 0];
 
 /// The bit of an exclusion that all masters share; constructs have bits 0 to 47.
 pub const ANY_MASTER: u64 = 1 << 63;
@@ -23,13 +40,19 @@ pub fn at(construct: u8) -> usize {
 /// What the construct table says, by construct.
 pub struct Constructs {
     pub parent: [u8; 64],
-    /// Of a node that lies there: the masters' bit, the single around it, or the do of the ordered
-    /// around it. The nesting table leaves at most one.
+    /// The construct whose exclusions its begin and end have: its parent, for a section itself.
+    pub framed: [u8; 64],
+    /// Of a node that lies there: the masters' bit, the single or the section around it, or the do of
+    /// the ordered around it. The nesting table leaves at most one.
     pub excludes: [u64; 64],
     pub count: usize,
     pub singles: u64,
     /// Dos that have an ordered.
     pub dos: u64,
+    /// Sections constructs.
+    pub dealt: u64,
+    /// The sections in them.
+    pub parts: u64,
 }
 
 /// What is above a construct, itself included.
@@ -44,17 +67,20 @@ impl Constructs {
     pub fn new() -> Constructs {
         Constructs {
             parent: [NONE; 64],
+            framed: [NONE; 64],
             excludes: [0; 64],
             count: 0,
             singles: 0,
             dos: 0,
+            dealt: 0,
+            parts: 0,
         }
     }
 
-    /// Constructs whose return takes an exclusion away.
+    /// Constructs whose return takes exclusions away.
     #[inline(always)]
     pub fn returnable(&self) -> u64 {
-        self.singles | self.dos
+        self.singles | self.dos | self.dealt
     }
 
     /// Reads the table; false if row 6 applies.
@@ -65,13 +91,14 @@ impl Constructs {
             kinds: [0; 64],
             names: [0; 64],
         };
+        let mut kinds = 0;
         for (number, record) in table.iter().enumerate() {
             if !above.allow(table, number, record) {
                 return false;
             }
             let &[kind, parent, ..] = record;
             let own = match kind {
-                SINGLE => 1 << number,
+                SINGLE | SECTION => 1 << number,
                 MASTER => ANY_MASTER,
                 ORDERED => 1 << at(parent),
                 _ => 0,
@@ -80,9 +107,32 @@ impl Constructs {
             self.excludes[number & 63] = self.excludes[at(parent)] | own;
             self.singles |= if kind == SINGLE { own } else { 0 };
             self.dos |= if kind == ORDERED { own } else { 0 };
+            kinds |= kind_bit(kind);
+        }
+        self.framed = self.parent;
+        if kinds & kind_bit(SECTIONS) != 0 {
+            self.read_sections(table);
         }
         true
     }
+
+    /// What is known only of charts with a sections construct.
+    #[inline(always)]
+    fn read_sections(&mut self, table: &[Record]) {
+        for (number, &[kind, ..]) in table.iter().enumerate() {
+            self.dealt |= u64::from(kind == SECTIONS) << number;
+            self.parts |= u64::from(kind == SECTION) << number;
+        }
+        for part in bits(self.parts) {
+            self.framed[part] = part as u8;
+        }
+    }
+}
+
+/// The bit of a kind from 1 to 7.
+#[inline(always)]
+fn kind_bit(kind: u8) -> u8 {
+    1 << (kind & 7)
 }
 
 impl Above {
@@ -92,15 +142,12 @@ impl Above {
         let &[kind, parent, low, high] = record;
         let critical = kind == CRITICAL;
         let outer = at(parent);
-        let orphan = kind == ORDERED
-            && table
-                .get(usize::from(parent))
-                .is_none_or(|above| above[0] != DO);
-        if kind.wrapping_sub(1) > 4
+        let kinds = self.kinds[outer];
+        if kind.wrapping_sub(1) > 6
             || (parent != NONE && usize::from(parent) >= number)
             || (!critical && low | high != 0)
-            || self.kinds[outer] & !ABOVE[usize::from(kind & 7)] != 0
-            || orphan
+            || kinds & !ABOVE[usize::from(kind & 7)] != 0
+            || kinds == NOT_ALL[usize::from(kind & 7)]
         {
             return false;
         }
@@ -109,7 +156,7 @@ impl Above {
         if self.names[outer] & name != 0 && repeats_name(table, record) {
             return false;
         }
-        self.kinds[number & 63] = self.kinds[outer] | 1 << kind;
+        self.kinds[number & 63] = kinds | kind_bit(kind);
         self.names[number & 63] = self.names[outer] | name;
         true
     }

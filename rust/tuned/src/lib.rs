@@ -80,7 +80,7 @@ fn with_marks<const RULES: bool, const LEVELS: bool>(
         let mut nodes = Nodes::new();
         nodes.read(&tables, &constructs, row_6)?;
         let mut edges = Edges::new();
-        if !edges.read(&tables, &nodes) {
+        if !edges.read(&tables, &nodes, &constructs) {
             return Err(9);
         }
         // Tables are lent from here on: to move them costs as much as to fill them.

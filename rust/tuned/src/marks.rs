@@ -2,7 +2,7 @@
 //! for, levels.
 
 use crate::bits::{bits, Masks};
-use crate::constructs::Constructs;
+use crate::constructs::{at, Constructs};
 use crate::edges::{ends_of, Edges};
 use crate::levels::{self, Levels, AT_BARRIER, FAR};
 use crate::loops::Loops;
@@ -24,7 +24,7 @@ pub struct Marks {
     /// 0 for a barrier and where there is no node; never 0 for another node, and so the next.
     pub starts: Masks,
     pub ends: Masks,
-    /// Of the exclusions, those that hold: without constructs that return.
+    /// Of the exclusions, those that hold: without constructs that return, and the sections in them.
     pub kept: u64,
     pub levels: Levels,
 }
@@ -56,6 +56,11 @@ impl Marks {
             for construct in bits(read.constructs.returnable()) {
                 let begin = read.nodes.begin[construct];
                 self.kept &= !(left[usize::from(begin)] & 1 << construct);
+            }
+            // A section's exclusion goes with its sections construct.
+            for part in bits(read.constructs.parts) {
+                let dealt = at(read.constructs.parent[part]);
+                self.kept &= !((!self.kept >> dealt & 1) << part);
             }
         }
         if LEVELS {

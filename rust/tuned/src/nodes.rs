@@ -1,4 +1,4 @@
-//! Rows 5, 7 and 8, and what the node table says. The table is taken apart into bytes and sets of
+//! Rows 5, 7 and 8, row 6 for nodes, and what the node table says. The table is taken apart into bytes and sets of
 //! nodes: loops over bytes of one kind are vectorised, loops over records are not.
 
 use crate::bits::{members, packed, Nodes as Set, ONES};
@@ -6,6 +6,7 @@ use crate::constructs::{at, Constructs};
 use crate::tables::{Tables, MOST_BARRIERS, MOST_NODES};
 use std::ops::Range;
 
+const PLAIN: u8 = 0;
 const BARRIER: u8 = 1;
 const BEGIN: u8 = 2;
 const END: u8 = 3;
@@ -43,13 +44,13 @@ impl Nodes {
         }
     }
 
-    /// Reads the table, `row_6` telling whether row 6 applies.
+    /// Reads the table, `row_6` telling whether row 6 applies to a construct.
     #[inline(always)]
     pub fn read(&mut self, t: &Tables, constructs: &Constructs, row_6: bool) -> Result<(), u8> {
         if !self.take_apart(t) {
             return Err(5);
         }
-        if row_6 {
+        if row_6 || (constructs.dealt != 0 && self.any_stray(t.nodes.len(), constructs.dealt)) {
             return Err(6);
         }
         let [barriers, begins, ends] = self.by_kind(constructs.count != 0);
@@ -68,16 +69,17 @@ impl Nodes {
         }
     }
 
-    /// The innermost construct around each of some nodes.
+    /// The innermost construct that each of some nodes is inside, a section's begin and end counted as
+    /// inside it.
     #[inline(always)]
-    pub fn around<'s>(
+    pub fn inside<'s>(
         &'s self,
         nodes: Range<usize>,
         constructs: &'s Constructs,
     ) -> impl Iterator<Item = u8> + 's {
         let records = self.kind[nodes.clone()].iter().zip(&self.number[nodes]);
         records.map(|(&kind, &number)| match kind >= BEGIN {
-            true => constructs.parent[at(number)],
+            true => constructs.framed[at(number)],
             false => number,
         })
     }
@@ -102,6 +104,17 @@ impl Nodes {
             wrong |= u8::from(kind > END) | u8::from(next > most) | u8::from(next < kind >> 1);
         }
         wrong == 0
+    }
+
+    /// Row 6: whether a plain node lies directly in a sections construct.
+    #[inline(always)]
+    fn any_stray(&self, n: usize, dealt: u64) -> bool {
+        let n = n.min(MOST_NODES);
+        let mut stray = 0;
+        for (&kind, &number) in self.kind[..n].iter().zip(&self.number[..n]) {
+            stray |= dealt >> at(number) & u64::from(kind == PLAIN);
+        }
+        stray != 0
     }
 
     /// The nodes of kinds 1, 2 and 3; without constructs there are none of the last two.

@@ -1,45 +1,59 @@
 -- `edges::bad_edges` meets its contract.
 -- Assumes nothing.
-use native.Mathlib.Omega.{arith}
+use mathlib.Core.Path.{_≡_, sym, _∙_}
+use mathlib.Core.Bool.{false}
+use lib.ListN.{length}
+use borrow.Author.Tests.{not-true}
 use borrow.Author.Needs.{needs}
-use Rattle.chart.proofs.Records.{nodes-length}
-use Rattle.edges.proofs.Scopes.{shut-at}
+use Rattle.lists.specs.Range.{any}
+use Rattle.chart.specs.Format.{decode}
+use Rattle.chart.specs.Refusal.{badEdgeAt, badEdges}
+use Rattle.edges.proofs.Sections.{no-joins}
 use Rattle.edges.proofs.bad_edges.Statement.{statement}
 use Rattle.edges.proofs.bad_edges.Tie as tie
 
-fill-scopes-requires : tie.Need-fill-scopes-requires
-fill-scopes-requires c κs = search needs
-
-sub-finish : tie.Need-sub-finish
-sub-finish c = search needs
-
-mul-leave : tie.Need-mul-leave
-mul-leave c = search needs
-
-array-write-leave : tie.Need-array-write-leave
-array-write-leave c = search needs
-
-array-write-arrive : tie.Need-array-write-arrive
-array-write-arrive c = search needs
-
-bad-edges-by-requires : tie.Need-bad-edges-by-requires
-bad-edges-by-requires c κs =
-    let f = c .before .before .before in
-    let e = f .before .before .before .before in
-    let n = nodes-length _ (e .args .chart) (e .pre .0) in
-    (e .pre .0, shut-at n (omega (arith, e .pre .0 .two-nodes)) (f .fill-scopes .ensures .0) (f .fill-scopes .ensures .1))
+bad-scopes-requires : tie.Need-bad-scopes-requires
+bad-scopes-requires c κs = search needs
 
 returns : tie.Need-returns
-returns c = search needs
+unfolding badEdges
+returns c = rw (sym (c .before .bad-scopes .ensures) ∙ c .if1 .taken)
+
+-- the edges are in order but for sections
+passed : (c : tie.Else1) → let e = c .before .before .before in
+    let D = decode (e .args .s .now) in
+    any (length (D .edges)) (badEdgeAt D) ≡ false
+passed c = sym (c .before .bad-scopes .ensures) ∙ c .if1 .left
+
+occurs-requires : tie.Need-occurs-requires
+occurs-requires c κs = search needs
+
+returns-2 : tie.Need-returns-2
+unfolding badEdges
+returns-2 c =
+    let l = c .before .before in
+    let s = l .before .before .before .args .s .now in
+    rw (passed l) (sym (no-joins (decode s) (sym (c .before .occurs .ensures) ∙ not-true _ (c .if2 .taken))))
+
+joins-sections-requires : tie.Need-joins-sections-requires
+joins-sections-requires c κs =
+    let l = c .before .before in
+    let e = l .before .before .before in
+    (e .pre .0, e .pre .1, passed l)
+
+returns-3 : tie.Need-returns-3
+unfolding badEdges
+returns-3 c =
+    let l = c .before .before .before in
+    rw (passed l) (c .joins-sections .ensures)
 
 pub bad-edges-spec : {M : Type 1} → statement M
 bad-edges-spec =
     tie.close
     (tie.spec
-    fill-scopes-requires
-    sub-finish
-    mul-leave
-    array-write-leave
-    array-write-arrive
-    bad-edges-by-requires
-    returns)
+    bad-scopes-requires
+    returns
+    occurs-requires
+    returns-2
+    joins-sections-requires
+    returns-3)

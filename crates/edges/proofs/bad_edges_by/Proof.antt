@@ -7,7 +7,7 @@ use native.Mathlib.Omega.{arith}
 use lib.ListN.{length}
 use Rattle.lists.specs.Range.{any, at-any, any-more}
 use Rattle.chart.proofs.Records.{edges-length}
-use Rattle.chart.specs.Refusal.{badEdgeAt, badEdges}
+use Rattle.chart.specs.Refusal.{badEdgeAt}
 use Rattle.chart.specs.Format.{decode}
 use Rattle.edges.proofs.bad_edges_by.Statement.{statement}
 use Rattle.edges.proofs.bad_edges_by.Tie as tie
@@ -26,7 +26,6 @@ bad-edge-at-requires : tie.Need-bad-edge-at-requires Inv-loop μ-loop
 bad-edge-at-requires c κs = let e = c .before .before .before in (e .pre .0, omega arith, e .pre .1)
 
 returns : tie.Need-returns Inv-loop μ-loop
-unfolding badEdges
 returns c =
     let l = c .before .before .before in
     let e = l .before .before in
@@ -44,7 +43,6 @@ loop-again c =
     (omega arith, any-more (l .loop .i) _ (l .loop .inv .1) (sym (c .before .bad-edge-at .ensures) ∙ c .if1 .left))
 
 returns-2 : tie.Need-returns-2 Inv-loop μ-loop
-unfolding badEdges
 returns-2 c =
     let e = c .before .before .before in
     let q : length (decode (e .args .s .now) .edges) ≡ c .before .loop .i = omega (arith, edges-length _ (e .args .chart) (e .pre .0)) in

@@ -1,11 +1,16 @@
 -- `nesting::bad_at` meets its contract.
 -- Assumes nothing.
+use mathlib.Core.Logic.{inl, inr}
 use mathlib.Core.Path.{_≡_, sym, _∙_}
+use Prim.Native.Nat.{_+_}
+use native.Mathlib.Omega.{arith}
 use borrow.Author.Needs.{needs}
 use Rattle.lists.specs.Range.{any-more}
 use Rattle.chart.specs.Format.{decode}
+use Rattle.chart.specs.Scope.{parentOf}
 use Rattle.chart.specs.Nesting.{misnested}
 use Rattle.chart.specs.Refusal.{badAlone}
+use Rattle.nesting.proofs.Ancestors.{parents}
 use Rattle.nesting.proofs.bad_at.Statement.{statement}
 use Rattle.nesting.proofs.bad_at.Tie as tie
 
@@ -34,18 +39,35 @@ returns-2 c =
     let l = c .before .before in
     rw (sym (tested (l .before)) ∙ l .if1 .left, sym (c .before .bad-above .ensures) ∙ c .if2 .taken)
 
-stray-ordered-requires : tie.Need-stray-ordered-requires
-stray-ordered-requires c κs =
+kind-above-requires : tie.Need-kind-above-requires
+unfolding parentOf
+kind-above-requires c κs =
     let l = c .before .before in
-    let e = l .before .before .before .before in
-    (e .pre .0, e .pre .2, any-more (e .args .c) _ (e .pre .3) (sym (tested (l .before)) ∙ l .if1 .left))
+    let r = l .before .before in
+    let e = r .before .before in
+    let alone = any-more (e .args .c) _ (e .pre .3) (sym (tested (l .before)) ∙ l .if1 .left) in
+    let low = parents _ (e .args .c + 1) alone (e .args .c) (omega arith) in (
+      e .pre .0,
+      λ n. elim low [ inl q ↦ absurd (n (r .read .ensures .1 ∙ q)) | inr m ↦ omega (arith, m, r .read .ensures .1, e .pre .2) ],
+    )
+
+bad-place-requires : tie.Need-bad-place-requires
+bad-place-requires c κs = search needs
 
 returns-3 : tie.Need-returns-3
-unfolding misnested
+unfolding misnested parentOf
 returns-3 c =
-    let k = c .before in
+    let a = c .before in
+    let k = a .before in
     let l = k .before .before in
-    rw (sym (tested (l .before)) ∙ l .if1 .left, sym (k .before .bad-above .ensures) ∙ k .if2 .left) (c .stray-ordered .ensures)
+    let r = l .before .before in
+    rw (
+      sym (tested (l .before)) ∙ l .if1 .left,
+      sym (k .before .bad-above .ensures) ∙ k .if2 .left,
+      ← r .read .ensures .0,
+      ← r .read .ensures .1,
+      ← a .kind-above .ensures,
+    ) (c .bad-place .ensures)
 
 pub bad-at-spec : {M : Type 1} → statement M
 bad-at-spec =
@@ -56,5 +78,6 @@ bad-at-spec =
     returns
     bad-above-requires
     returns-2
-    stray-ordered-requires
+    kind-above-requires
+    bad-place-requires
     returns-3)

@@ -10,7 +10,7 @@ use Rattle.lists.specs.Range.{any, at-any, any-more, any-or}
 use Rattle.lists.specs.Truth.{or-neither}
 use Rattle.chart.specs.Format.{decode}
 use Rattle.chart.specs.Nesting.{misnested}
-use Rattle.chart.specs.Refusal.{badAlone, badConstructs}
+use Rattle.chart.specs.Refusal.{badAlone}
 use Rattle.chart.proofs.Records.{constructs-length}
 use Rattle.nesting.proofs.bad_nesting.Statement.{statement}
 use Rattle.nesting.proofs.bad_nesting.Tie as tie
@@ -18,9 +18,10 @@ use Rattle.nesting.proofs.bad_nesting.Tie as tie
 abbrev bad : List ℕ → ℕ → Bool
 bad s c = badAlone (decode s .constructs) c || misnested (decode s .constructs) c
 
--- row 6, construct by construct
-row : (s : List ℕ) → any (length (decode s .constructs)) (bad s) ≡ badConstructs (decode s)
-unfolding badConstructs
+-- row 6 of the constructs, one by one
+row : (s : List ℕ) →
+    let cs = decode s .constructs in
+    any (length cs) (bad s) ≡ (any (length cs) (badAlone cs) || any (length cs) (misnested cs))
 row s = let cs = decode s .constructs in any-or (length cs) (badAlone cs) (misnested cs)
 
 abbrev Inv-loop : tie.InvT-loop

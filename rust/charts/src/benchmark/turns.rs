@@ -3,7 +3,7 @@
 use super::code;
 use crate::damage::aimed_at;
 use crate::random::Random;
-use crate::valid::{valid, Shape};
+use crate::valid::{valid, Shape, PLAIN_KINDS};
 use reference::builder::ChartBuilder;
 use reference::refusals::decode_checked;
 
@@ -36,6 +36,7 @@ fn dense(random: &mut Random) -> ChartBuilder {
         further_edges: 1_000,
         window: 192,
         returning: 20,
+        kinds: PLAIN_KINDS,
     };
     valid(random, &shape)
 }
@@ -49,6 +50,7 @@ fn sparse(random: &mut Random) -> ChartBuilder {
         further_edges: random.between(0, 60),
         window: random.pick(&[1, 3, 20]),
         returning: 20,
+        kinds: PLAIN_KINDS,
     };
     valid(random, &shape)
 }

@@ -23,6 +23,9 @@ no-master c = sym (c .before .common3 .ensures) ∙ c .if3 .left
 no-single : (c : tie.Else4) → let e = c .before .before .before .before .before .before .before .before .before .before in common (bitAnd (e .args .x .held) (e .args .y .held)) (e .args .sets .singles) ≡ false
 no-single c = sym (c .before .common4 .ensures) ∙ c .if4 .left
 
+no-do : (c : tie.Else5) → let e = c .before .before .before .before .before .before .before .before .before .before .before .before in common (bitAnd (e .args .x .held) (e .args .y .held)) (e .args .sets .dos) ≡ false
+no-do c = sym (c .before .common5 .ensures) ∙ c .if5 .left
+
 common-requires : tie.Need-common-requires
 common-requires c κs = search needs
 
@@ -67,13 +70,26 @@ returns-5 c =
     let e = m .before .before .before .before in
     rw (starts-shared (e .before .before), ends-shared e, no-master m, no-single u, sym (c .before .common5 .ensures) ∙ c .if5 .taken)
 
+common-requires-6 : tie.Need-common-requires-6
+common-requires-6 c κs = search needs
+
 returns-6 : tie.Need-returns-6
 unfolding answerBy
 returns-6 c =
-    let u = c .before .before in
+    let d = c .before .before in
+    let u = d .before .before in
     let m = u .before .before in
     let e = m .before .before .before .before in
-    rw (starts-shared (e .before .before), ends-shared e, no-master m, no-single u, sym (c .before .common5 .ensures) ∙ c .if5 .left)
+    rw (starts-shared (e .before .before), ends-shared e, no-master m, no-single u, no-do d, sym (c .before .common6 .ensures) ∙ c .if6 .taken)
+
+returns-7 : tie.Need-returns-7
+unfolding answerBy
+returns-7 c =
+    let d = c .before .before in
+    let u = d .before .before in
+    let m = u .before .before in
+    let e = m .before .before .before .before in
+    rw (starts-shared (e .before .before), ends-shared e, no-master m, no-single u, no-do d, sym (c .before .common6 .ensures) ∙ c .if6 .left)
 
 pub answer-by-spec : {M : Type 1} → statement M
 answer-by-spec =
@@ -89,4 +105,6 @@ answer-by-spec =
     returns-4
     common-requires-5
     returns-5
-    returns-6)
+    common-requires-6
+    returns-6
+    returns-7)

@@ -9,7 +9,7 @@ use Rattle.chart.specs.Format.{decode}
 use Rattle.chart.specs.Scope.{parentOf}
 use Rattle.chart.proofs.Records.{constructs-length}
 use Rattle.chart.proofs.Tree.{Below}
-use Rattle.profiles.proofs.Constructs.{index-below, parent-lower, ordered-parent, chains-more}
+use Rattle.profiles.proofs.Constructs.{index-below, parent-lower, ordered-parent, section-parent, chains-more}
 use Rattle.profiles.proofs.chains.add_construct.Statement.{statement}
 use Rattle.profiles.proofs.chains.add_construct.Tie as tie
 
@@ -34,6 +34,7 @@ own-requires c κs =
     let e = r .before .before in (
       omega (arith, e .pre .0 .laid .constructs-most, e .pre .1),
       λ k. rw (r .read .ensures .1) (ordered-parent _ (e .args .chart) (e .pre .0) (e .args .c) (counted r) (sym (r .read .ensures .0) ∙ k)),
+      λ k. rw (r .read .ensures .1) (section-parent _ (e .args .chart) (e .pre .0) (e .args .c) (counted r) (sym (r .read .ensures .0) ∙ k)),
     )
 
 mul-held : tie.Need-mul-held

@@ -5,25 +5,26 @@ use Prim.Native.Nat.{_-_, _≤_}
 use native.Mathlib.Omega.{arith}
 use Rattle.lists.specs.Mask.{maskOf}
 use Rattle.chart.specs.Format.{decode}
-use Rattle.chart.specs.Scope.{singleByte, masterByte, loopByte}
+use Rattle.chart.specs.Scope.{singleByte, masterByte, loopByte, sectionByte}
 use Rattle.profiles.specs.Chains.{isOf}
 use Rattle.profiles.proofs.Constructs.{of-next, kinds}
 use Rattle.profiles.proofs.chains.sets_of.Statement.{statement}
 use Rattle.profiles.proofs.chains.sets_of.Tie as tie
 
 abbrev Inv-loop : tie.InvT-loop
-Inv-loop s chart n masters₀ singles₀ dos₀ c₀ masters singles dos c =
+Inv-loop s chart n masters₀ singles₀ dos₀ sections₀ c₀ masters singles dos sections c =
     (c ≤ chart .constructs)
     × (masters ≡ maskOf (isOf (decode s .constructs) masterByte) c)
     × (singles ≡ maskOf (isOf (decode s .constructs) singleByte) c)
     × (dos ≡ maskOf (isOf (decode s .constructs) loopByte) c)
+    × (sections ≡ maskOf (isOf (decode s .constructs) sectionByte) c)
 
 abbrev μ-loop : tie.MeasureT-loop
-μ-loop s chart n masters₀ singles₀ dos₀ c₀ masters singles dos c = chart .constructs - c
+μ-loop s chart n masters₀ singles₀ dos₀ sections₀ c₀ masters singles dos sections c = chart .constructs - c
 
 loop-holds : tie.Need-loop-holds Inv-loop μ-loop
 unfolding maskOf
-loop-holds c = (omega arith, refl, refl, refl)
+loop-holds c = (omega arith, refl, refl, refl, refl)
 
 read-requires : tie.Need-read-requires Inv-loop μ-loop
 read-requires c κs = (c .before .before .before .pre .laid, omega arith)
@@ -37,6 +38,9 @@ add-kind-requires-2 c κs = omega (arith, c .before .before .before .before .bef
 add-kind-requires-3 : tie.Need-add-kind-requires-3 Inv-loop μ-loop
 add-kind-requires-3 c κs = omega (arith, c .before .before .before .before .before .before .pre .laid .constructs-most)
 
+add-kind-requires-4 : tie.Need-add-kind-requires-4 Inv-loop μ-loop
+add-kind-requires-4 c κs = omega (arith, c .before .before .before .before .before .before .before .pre .laid .constructs-most)
+
 add-c : tie.Need-add-c Inv-loop μ-loop
 add-c c = omega arith
 
@@ -45,12 +49,13 @@ loop-less c = omega arith
 
 loop-again : tie.Need-loop-again Inv-loop μ-loop
 loop-again c =
-    let r = c .before .before .before in
+    let r = c .before .before .before .before in
     let l = r .before .before in (
       omega arith,
-      of-next _ _ (l .loop .c) (r .read .ensures .0) (l .loop .inv .1) (c .before .before .add-kind .ensures),
-      of-next _ _ (l .loop .c) (r .read .ensures .0) (l .loop .inv .2) (c .before .add-kind2 .ensures),
-      of-next _ _ (l .loop .c) (r .read .ensures .0) (l .loop .inv .3) (c .add-kind3 .ensures),
+      of-next _ _ (l .loop .c) (r .read .ensures .0) (l .loop .inv .1) (c .before .before .before .add-kind .ensures),
+      of-next _ _ (l .loop .c) (r .read .ensures .0) (l .loop .inv .2) (c .before .before .add-kind2 .ensures),
+      of-next _ _ (l .loop .c) (r .read .ensures .0) (l .loop .inv .3) (c .before .add-kind3 .ensures),
+      of-next _ _ (l .loop .c) (r .read .ensures .0) (l .loop .inv .4) (c .add-kind4 .ensures),
     )
 
 returns : tie.Need-returns Inv-loop μ-loop
@@ -58,7 +63,7 @@ returns c =
     let l = c .before in
     let e = l .before .before in
     let q : l .loop .c ≡ e .args .chart .constructs = omega arith in
-    rw (l .loop .inv .1, l .loop .inv .2, l .loop .inv .3, q) (kinds _ (e .args .chart) (e .pre))
+    rw (l .loop .inv .1, l .loop .inv .2, l .loop .inv .3, l .loop .inv .4, q) (kinds _ (e .args .chart) (e .pre))
 
 pub sets-of-spec : {M : Type 1} → statement M
 sets-of-spec =
@@ -71,6 +76,7 @@ sets-of-spec =
     add-kind-requires
     add-kind-requires-2
     add-kind-requires-3
+    add-kind-requires-4
     add-c
     loop-less
     loop-again

@@ -24,8 +24,9 @@ fill-chains-requires c κs =
 mark-nodes-requires : tie.Need-mark-nodes-requires
 mark-nodes-requires c κs =
     let f = c .before .before in
-    let e = f .before .before .before .before .before .before in
-    (e .pre .0, f .fill-chains .ensures, refl)
+    let k = f .before .before .before in
+    let e = k .before .before .before in
+    (e .pre .0, f .fill-chains .ensures, k .sets-of .ensures .sections, refl)
 
 returns-2 : tie.Need-returns-2
 returns-2 c =
