@@ -20,7 +20,8 @@ use Rattle.chart.specs.declared.format.Checked.the-variants.{Passed}
 use Rattle.refusals.proofs.Outcome.{passed-none}
 use Rattle.paths.specs.Admission.{admitRows}
 use Rattle.phases.specs.Phases.{forward, backward, barriers, barrierAt}
-use Rattle.loading.specs.Tables.{Accepted, Barriers}
+use Rattle.loading.specs.Tables.{Accepted, Arranged, Barriers}
+use Rattle.search.specs.Search.{Ready}
 use Rattle.loading.proofs.Accepted.{accepted, well-formed}
 use Rattle.loading.proofs.Loading.{barriers-most, barriers-below}
 use Rattle.loading.proofs.Rows.{refused-paths, admits}
@@ -50,6 +51,10 @@ marked-same {a} {b} {m} {n} e P p =
     rw (← q, ← r) p
 
 -- the tables of an accepted chart
+
+pub ready : {R : Region} {edges : List (List ℕ)} {places stops : List ℕ} {ups low ins : ℕ} → Arranged R edges places stops ups low ins
+    → Ready edges places ups low ins
+ready {stops = stops} T = record { count = T .count; stops = stops; split = T .split; begins = T .begins }
 
 module _ {s : List ℕ} {chart : Chart} (A : Accepted s chart) {nodes : List ℕ} {total : ℕ} (B : Barriers (region (decode s)) nodes total) where
   pub few : total ≤ 64

@@ -11,12 +11,14 @@ ghost use Rattle.paths.specs.Admission.{admitRows};
 ghost use Rattle.phases.specs.Phases.{barriers as barriersOf};
 ghost use Rattle.marking.specs.Entered.{entered, Entry};
 ghost use Rattle.marking.specs.declared.enter.Entered.the-variants.{Marked};
-use crate::masks::fill;
+use crate::masks::fill_ends;
+use crate::masks::fill_starts;
 use chart::format::Chart;
 use chart::format::Checked;
 use chart::format::Refusal;
 use loading::tables::load_tables;
 use refusals::check::check;
+use splitting::Parts;
 
 // A chart whose nodes are marked and how many barriers it has, or the first row that applies.
 pub enum Entered {
@@ -35,25 +37,16 @@ fn enter_chart(
     ensures { λ r. ⌜ r ≡ entered (firstOf (admitRows (now (s .entry)))) (countsOf (now (s .entry))) (length (barriersOf (region (decode (now (s .entry)))))) ⌝ }
     ensures { λ r. ⌜ ((chart : Chart) (total : ℕ) → r ≡ Marked chart total → Entry (now (s .entry)) chart total (now (starts .exit)) (now (ends .exit))) ⌝ }
 {
-    let mut ahead = [0u8; Chart::EDGES];
-    let mut behind = [0u8; Chart::EDGES];
-    let mut begins = [[0usize; Chart::PLACES]; 2];
+    let mut edges = [[0u8; Chart::EDGES]; Parts::ROWS];
+    let mut places = [0usize; Chart::PLACES];
     let mut stops = [0u8; Chart::NODES];
     let mut nodes = [0u8; Chart::BARRIERS];
-    let extent = load_tables(
-        s,
-        chart,
-        &mut ahead,
-        &mut behind,
-        &mut begins,
-        &mut stops,
-        &mut nodes,
-    );
-    if fill(&ahead, &begins[0], &stops, &nodes, extent, 0, starts) {
+    let extent = load_tables(s, chart, &mut edges, &mut places, &mut stops, &mut nodes);
+    if fill_starts(&edges, &places, &stops, &nodes, extent, 0, starts) {
         return Entered::Refused(Refusal::PATHS);
     }
     let last = extent.barriers - 1;
-    if fill(&behind, &begins[1], &stops, &nodes, extent, last, ends) {
+    if fill_ends(&edges, &places, &stops, &nodes, extent, last, ends) {
         return Entered::Refused(Refusal::PATHS);
     }
     Entered::Marked(chart, extent.barriers)

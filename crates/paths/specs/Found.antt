@@ -27,9 +27,11 @@ pub record ReachedIn (E : ℕ → ℕ → Type 0) (P : ℕ → Type 0) (sources 
   pub path : Reached E P sources source y
   pub long : edges path ≡ j
 
-pub record Found (E : ℕ → ℕ → Type 0) (P : ℕ → Type 0) (sources : List ℕ) (total : ℕ) (masks levels : List ℕ) : Type 0 where
+pub record Found (E : ℕ → ℕ → Type 0) (P : ℕ → Type 0) (sources : List ℕ) (total : ℕ) (masks : List ℕ) : Type 0 where
   -- a node's mask has the sources from which a path leads there
   pub mask : (y : ℕ) → Mask (λ b. Reached E P sources b y) total (getD masks y 0)
+
+pub record Leveled (E : ℕ → ℕ → Type 0) (P : ℕ → Type 0) (sources : List ℕ) (total : ℕ) (levels : List ℕ) : Type 0 where
   -- its level is the number of edges of such a path, 0 where there is none, and no such path has fewer
   pub path : (y : ℕ) → 0 < getD levels y 0 → ReachedIn E P sources total (getD levels y 0) y
   pub least : (b y : ℕ) → b < total → (w : Reached E P sources b y) → (0 < getD levels y 0) × (getD levels y 0 ≤ edges w)

@@ -16,13 +16,17 @@ use Rattle.paths.specs.PathLaws.{carry, edges-carry, reverse}
 use Rattle.paths.specs.Reach.{reaches, distance}
 use Rattle.paths.specs.ReachLaws.{reaches-path, path-reaches, distance-path, path-distance}
 use Rattle.paths.specs.Graph.{Listed, listed}
-use Rattle.paths.specs.Found.{Clear, clear, Found}
+use Rattle.paths.specs.Found.{Clear, clear, Found, Leveled}
 
-pub found-carry : {E F : ℕ → ℕ → Type 0} {P Q : ℕ → Type 0} {sources : List ℕ} {total : ℕ} {masks levels : List ℕ}
+pub found-carry : {E F : ℕ → ℕ → Type 0} {P Q : ℕ → Type 0} {sources : List ℕ} {total : ℕ} {masks : List ℕ}
     → ((x y : ℕ) → E x y → F x y) → ((x y : ℕ) → F x y → E x y) → ((z : ℕ) → P z → Q z) → ((z : ℕ) → Q z → P z)
-    → Found E P sources total masks levels → Found F Q sources total masks levels
-found-carry f g p q w = record {
-  mask = λ y. mask-carry (λ b _. carry f p) (λ b _. carry g q) (w .mask y);
+    → Found E P sources total masks → Found F Q sources total masks
+found-carry f g p q w = record { mask = λ y. mask-carry (λ b _. carry f p) (λ b _. carry g q) (w .mask y) }
+
+pub leveled-carry : {E F : ℕ → ℕ → Type 0} {P Q : ℕ → Type 0} {sources : List ℕ} {total : ℕ} {levels : List ℕ}
+    → ((x y : ℕ) → E x y → F x y) → ((x y : ℕ) → F x y → E x y) → ((z : ℕ) → P z → Q z) → ((z : ℕ) → Q z → P z)
+    → Leveled E P sources total levels → Leveled F Q sources total levels
+leveled-carry f g p q w = record {
   path = λ y h.
       let r = w .path y h in
       record { source = r .source; below = r .below; path = carry f p (r .path); long = edges-carry f p (r .path) ∙ r .long };
@@ -31,8 +35,8 @@ found-carry f g p q w = record {
 }
 
 -- Along edges turned round a path from a source is a path to it.
-pub found-to : {E : ℕ → ℕ → Type 0} {P : ℕ → Type 0} {sources : List ℕ} {total : ℕ} {masks levels : List ℕ}
-    → Found (λ x y. E y x) P sources total masks levels → (y : ℕ) → Mask (λ b. Path E P y (getD sources b 0)) total (getD masks y 0)
+pub found-to : {E : ℕ → ℕ → Type 0} {P : ℕ → Type 0} {sources : List ℕ} {total : ℕ} {masks : List ℕ}
+    → Found (λ x y. E y x) P sources total masks → (y : ℕ) → Mask (λ b. Path E P y (getD sources b 0)) total (getD masks y 0)
 found-to w y = mask-carry (λ b _. reverse) (λ b _. reverse) (w .mask y)
 
 pub listed-turned : {keys values : List ℕ} {e : ℕ} (x y : ℕ) → Listed keys values e x y → Listed values keys e y x
@@ -40,15 +44,15 @@ listed-turned x y l = record { at = l .at; below = l .below; key = l .value; val
 
 -- The masks and the levels are those that are computed.
 
-module _ (n : ℕ) (edge : ℕ → ℕ → Bool) (pass : ℕ → Bool) (to-below : (x y : ℕ) → edge x y ≡ true → y < n)
-    {sources : List ℕ} {total : ℕ} {masks levels : List ℕ}
-    (w : Found (λ x y. edge x y ≡ true) (λ z. pass z ≡ true) sources total masks levels) (y : ℕ) where
-  pub found-mask : getD masks y 0 ≡ maskOf (λ b. reaches n edge pass (getD sources b 0) y) total
-  found-mask = mask-is _
+module _ (n : ℕ) (edge : ℕ → ℕ → Bool) (pass : ℕ → Bool) (to-below : (x y : ℕ) → edge x y ≡ true → y < n) where
+  pub found-mask : {sources : List ℕ} {total : ℕ} {masks : List ℕ} → Found (λ x y. edge x y ≡ true) (λ z. pass z ≡ true) sources total masks
+      → (y : ℕ) → getD masks y 0 ≡ maskOf (λ b. reaches n edge pass (getD sources b 0) y) total
+  found-mask {sources} {total} w y = mask-is _
       (λ b _. path-reaches n edge pass to-below (getD sources b 0) y) (λ b _. reaches-path n edge pass to-below (getD sources b 0) y) (w .mask y)
 
-  pub found-level : getD levels y 0 ≡ least (λ b. distance n edge pass (getD sources b 0) y) total
-  found-level = least-unique (λ b. distance n edge pass (getD sources b 0) y) total (getD levels y 0) (record {
+  pub found-level : {sources : List ℕ} {total : ℕ} {levels : List ℕ} → Leveled (λ x y. edge x y ≡ true) (λ z. pass z ≡ true) sources total levels
+      → (y : ℕ) → getD levels y 0 ≡ least (λ b. distance n edge pass (getD sources b 0) y) total
+  found-level {sources} {total} {levels} w y = least-unique (λ b. distance n edge pass (getD sources b 0) y) total (getD levels y 0) (record {
     one = λ h.
         let r = w .path y h in
         let (p, l) = path-distance n edge pass to-below (getD sources (r .source) 0) y (r .path) in
@@ -77,16 +81,16 @@ module _ (keys values : List ℕ) (e : ℕ) where
   unfolding listed
   true-listed x y l = at-any e _ (l .at) (l .below) (both-and _ _ (eq-eqb _ _ (l .key)) (eq-eqb _ _ (l .value)))
 
-  module _ (n : ℕ) (node : (j : ℕ) → getD values j 0 < n) (stops : List ℕ) {sources : List ℕ} {total : ℕ} {masks levels : List ℕ}
-      (w : Found (Listed keys values e) (Clear stops) sources total masks levels) (y : ℕ) where
+  module _ (n : ℕ) (node : (j : ℕ) → getD values j 0 < n) where
     to-below : (x y : ℕ) → listed keys values e x y ≡ true → y < n
     to-below x y h = let l = listed-true x y h in rw (l .value) at (node (l .at))
 
-    computed : Found (λ x y. listed keys values e x y ≡ true) (λ z. clear stops z ≡ true) sources total masks levels
-    computed = found-carry true-listed listed-true (λ z. eq-eqb (getD stops z 0) 0) (λ z. eqb-true (getD stops z 0) 0) w
+    pub mask-computed : (stops : List ℕ) {sources : List ℕ} {total : ℕ} {masks : List ℕ} → Found (Listed keys values e) (Clear stops) sources total masks
+        → (y : ℕ) → getD masks y 0 ≡ maskOf (λ b. reaches n (listed keys values e) (clear stops) (getD sources b 0) y) total
+    mask-computed stops w = found-mask n (listed keys values e) (clear stops) to-below
+        (found-carry true-listed listed-true (λ z. eq-eqb (getD stops z 0) 0) (λ z. eqb-true (getD stops z 0) 0) w)
 
-    pub mask-computed : getD masks y 0 ≡ maskOf (λ b. reaches n (listed keys values e) (clear stops) (getD sources b 0) y) total
-    mask-computed = found-mask n (listed keys values e) (clear stops) to-below computed y
-
-    pub level-computed : getD levels y 0 ≡ least (λ b. distance n (listed keys values e) (clear stops) (getD sources b 0) y) total
-    level-computed = found-level n (listed keys values e) (clear stops) to-below computed y
+    pub level-computed : (stops : List ℕ) {sources : List ℕ} {total : ℕ} {levels : List ℕ} → Leveled (Listed keys values e) (Clear stops) sources total levels
+        → (y : ℕ) → getD levels y 0 ≡ least (λ b. distance n (listed keys values e) (clear stops) (getD sources b 0) y) total
+    level-computed stops w = found-level n (listed keys values e) (clear stops) to-below
+        (leveled-carry true-listed listed-true (λ z. eq-eqb (getD stops z 0) 0) (λ z. eqb-true (getD stops z 0) 0) w)

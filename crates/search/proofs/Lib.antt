@@ -1,4 +1,2 @@
-pub mod Bounds
-pub mod Levels
-pub mod Masks
-pub mod Turns
+pub mod Feeding
+pub mod Finding

@@ -1,2 +1,2 @@
-pub mod Invariant
-pub mod Steps
+pub mod Fed
+pub mod Search

@@ -8,71 +8,63 @@ use Rattle.lists.specs.Truth.{bad}
 use Rattle.chart.specs.Format.{decode}
 use Rattle.chart.specs.Reading.{region}
 use Rattle.chart.proofs.Records.{nodes-length}
-use Rattle.sorting.proofs.Sort.{bounded}
-use Rattle.phases.specs.Phases.{forward, backward}
 use Rattle.loading.specs.Tables.{Accepted}
 use Rattle.loading.proofs.Accepted.{accepted, well-formed}
 use Rattle.marking.specs.Entered.{Entry}
-use Rattle.marking.proofs.Entering.{marked-same, few, not-none, nodes-below, unreached, stuck, connects, refuses, marks}
+use Rattle.marking.proofs.Entering.{marked-same, ready, few, not-none, nodes-below, unreached, stuck, connects, refuses, marks}
 use Rattle.marking.proofs.enter.enter_chart.Statement.{statement}
 use Rattle.marking.proofs.enter.enter_chart.Tie as tie
 
 -- where the function was called, and what is known of the chart
 abbrev start : (c : tie.After-load-tables) → tie.Start
-start c = c .before .before .before .before .before .before .before
+start c = c .before .before .before .before .before .before
 
 is-accepted : (c : tie.After-load-tables) → Accepted (start c .args .s .now) (start c .args .chart)
 is-accepted c = accepted _ _ (start c .pre)
 
 -- before the first search, and before the second
-abbrev loaded : (c : tie.After-fill) → tie.After-load-tables
+abbrev loaded : (c : tie.After-fill-starts) → tie.After-load-tables
 loaded c = c .before .before .before .before .before .before
 
-abbrev forth : (c : tie.After-fill2) → tie.Else1
+abbrev forth : (c : tie.After-fill-ends) → tie.Else1
 forth c = c .before .before .before .before .before .before .before
 
 load-tables-requires : tie.Need-load-tables-requires
-load-tables-requires c κs = (accepted _ _ (c .before .before .before .before .before .before .pre), refl)
+load-tables-requires c κs = accepted _ _ (c .before .before .before .before .before .pre)
 
-index-1-fill : tie.Need-index-1-fill
-index-1-fill c = search needs
-
-fill-requires : tie.Need-fill-requires
-fill-requires c κs =
+fill-starts-requires : tie.Need-fill-starts-requires
+fill-starts-requires c κs =
     let l = c .before .before .before .before .before in
     let A = is-accepted l in
-    let (F, (B, (S, N, Q))) = l .load-tables .ensures in
-    ((few A N, not-none A N, omega (arith, Q, A .laid .nodes-most), bounded (F .table), S .long), nodes-below A N)
+    let (T, (S, N, Q)) = l .load-tables .ensures in
+    ((few A N, not-none A N, omega (arith, Q, A .laid .nodes-most), ready T), nodes-below A N)
 
 returns : tie.Need-returns
 returns c =
     let l = loaded (c .before) in
     let e = start l in
     let A = is-accepted l in
-    let (F, (B, (S, N, Q))) = l .load-tables .ensures in
-    let lost = c .before .fill .ensures .0 forward _ (well-formed _ _ A) F S N (Q ∙ sym (nodes-length _ _ (A .laid))) in
+    let (T, (S, N, Q)) = l .load-tables .ensures in
+    let lost = c .before .fill-starts .ensures .0 _ (well-formed _ _ A) T S N (Q ∙ sym (nodes-length _ _ (A .laid))) in
     (refuses _ _ (e .pre) 10 (unreached _ _ (e .pre) (sym lost ∙ c .if1 .taken)), λ chart total q. absurd (bad (cc)))
 
 sub-last : tie.Need-sub-last
-sub-last c = let l = loaded (c .before .before) in omega (arith, not-none (is-accepted l) (l .load-tables .ensures .1 .1 .1))
+sub-last c = let l = loaded (c .before .before) in omega (arith, not-none (is-accepted l) (l .load-tables .ensures .1 .1))
 
-index-1-fill-2 : tie.Need-index-1-fill-2
-index-1-fill-2 c = search needs
-
-fill-requires-2 : tie.Need-fill-requires-2
-fill-requires-2 c κs =
+fill-ends-requires : tie.Need-fill-ends-requires
+fill-ends-requires c κs =
     let l = loaded (c .before .before .before .before .before .before .before) in
     let A = is-accepted l in
-    let (F, (B, (S, N, Q))) = l .load-tables .ensures in
-    ((few A N, omega (arith, not-none A N), omega (arith, Q, A .laid .nodes-most), bounded (B .table), S .long), nodes-below A N)
+    let (T, (S, N, Q)) = l .load-tables .ensures in
+    ((few A N, omega (arith, not-none A N), omega (arith, Q, A .laid .nodes-most), ready T), nodes-below A N)
 
 returns-2 : tie.Need-returns-2
 returns-2 c =
     let l = loaded (forth (c .before) .before) in
     let e = start l in
     let A = is-accepted l in
-    let (F, (B, (S, N, Q))) = l .load-tables .ensures in
-    let lost = c .before .fill2 .ensures .0 backward _ (well-formed _ _ A) B S N (Q ∙ sym (nodes-length _ _ (A .laid))) in
+    let (T, (S, N, Q)) = l .load-tables .ensures in
+    let lost = c .before .fill-ends .ensures .0 _ (well-formed _ _ A) T S N (Q ∙ sym (nodes-length _ _ (A .laid))) in
     (refuses _ _ (e .pre) 10 (stuck _ _ (e .pre) _ (N .count) (sym lost ∙ c .if2 .taken)), λ chart total q. absurd (bad (cc)))
 
 returns-3 : tie.Need-returns-3
@@ -82,17 +74,17 @@ returns-3 c =
     let e = start l in
     let A = is-accepted l in
     let W = well-formed _ _ A in
-    let (F, (B, (S, N, Q))) = l .load-tables .ensures in
+    let (T, (S, N, Q)) = l .load-tables .ensures in
     let n = Q ∙ sym (nodes-length _ _ (A .laid)) in
-    let (lost, starts) = left .before .fill .ensures in
-    let (lost′, ends) = c .before .fill2 .ensures in
-    let admits = connects _ _ (e .pre) _ (N .count) (sym (lost forward _ W F S N n) ∙ left .if1 .left) (sym (lost′ backward _ W B S N n) ∙ c .if2 .left) in (
+    let (lost, starts) = left .before .fill-starts .ensures in
+    let (lost′, ends) = c .before .fill-ends .ensures in
+    let admits = connects _ _ (e .pre) _ (N .count) (sym (lost _ W T S N n) ∙ left .if1 .left) (sym (lost′ _ W T S N n) ∙ c .if2 .left) in (
       marks _ _ (e .pre) _ (N .count) admits,
-      λ chart total q. marked-same q (λ k m. Entry (e .args .s .now) k m (left .before .fill .last .1 .1 .1 .1 .1 .1 .0) (c .before .fill2 .last .1 .1 .1 .1 .1 .1 .0)) (record {
+      λ chart total q. marked-same q (λ k m. Entry (e .args .s .now) k m (left .before .fill-starts .last .1 .1 .1 .1 .1 .1 .0) (c .before .fill-ends .last .1 .1 .1 .1 .1 .1 .0)) (record {
         accepted = A;
         count = N .count;
-        has-starts = starts forward _ W F S N;
-        has-ends = ends backward _ W B S N;
+        has-starts = starts _ W T S N;
+        has-ends = ends _ W T S N;
       }),
     )
 
@@ -101,11 +93,9 @@ enter-chart-spec =
     tie.close
     (tie.spec
     load-tables-requires
-    index-1-fill
-    fill-requires
+    fill-starts-requires
     returns
     sub-last
-    index-1-fill-2
-    fill-requires-2
+    fill-ends-requires
     returns-2
     returns-3)
