@@ -14,7 +14,7 @@ use reference::refusals::decode_checked;
 type Step = (usize, u8);
 
 /// What a run does from one barrier on: both threads go to node 1, then take these steps.
-fn stretch(steps: &[Step]) -> Vec<Vec<u8>> {
+fn interval(steps: &[Step]) -> Vec<Vec<u8>> {
     let mut places = vec![vec![1, 1]];
     for &(thread, node) in steps {
         let mut after = places[places.len() - 1].clone();
@@ -31,13 +31,13 @@ fn forbidden_on(chart: &[u8], fault: Option<Fault>, trace: &[Vec<u8>]) -> Option
 }
 
 fn assert_allowed(chart: &[u8], steps: &[Step]) {
-    let trace = stretch(steps);
+    let trace = interval(steps);
     assert_eq!(forbidden_on(chart, None, &trace), None, "{steps:?}");
 }
 
 /// The last step is forbidden, and no other.
 fn assert_refused(chart: &[u8], steps: &[Step]) {
-    let trace = stretch(steps);
+    let trace = interval(steps);
     let refused = forbidden_on(chart, None, &trace);
     assert_eq!(refused, Some(steps.len()), "{steps:?}");
 }
@@ -45,7 +45,7 @@ fn assert_refused(chart: &[u8], steps: &[Step]) {
 /// The last step is forbidden, but not under a fault.
 fn assert_noticed(chart: &[u8], fault: Fault, steps: &[Step]) {
     assert_refused(chart, steps);
-    let with_fault = forbidden_on(chart, Some(fault), &stretch(steps));
+    let with_fault = forbidden_on(chart, Some(fault), &interval(steps));
     assert_eq!(with_fault, None, "{fault:?}, {steps:?}");
 }
 
@@ -158,9 +158,9 @@ fn no_section_is_taken_after_an_opening() {
     chart.edge(8, 9);
     assert_eq!(chart.nodes[8].kind, Node::BARRIER);
     let all = through(0, &[2, 3, 4, 7, 5, 6, 7, 8]);
-    let first = stretch(&[all, through(1, &[7, 8])].concat());
+    let first = interval(&[all, through(1, &[7, 8])].concat());
     for other in [2, 5] {
-        let second = stretch(&[(1, other)]);
+        let second = interval(&[(1, other)]);
         let trace = [first.clone(), second].concat();
         assert_eq!(forbidden_on(&chart.bytes(), None, &trace), None);
     }
