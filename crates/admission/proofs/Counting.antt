@@ -4,56 +4,24 @@
 use mathlib.Core.Path.{_≡_, refl, sym, _∙_}
 use mathlib.Core.Bool.{Bool, true, false, _&&_, _||_, cond}
 use mathlib.Core.List.{List}
-use Prim.Native.Nat.{ℕ, _+_, _-_, _/_, _%_, _^_, _<_}
-use native.Mathlib.Omega.{arith}
+use Prim.Native.Nat.{ℕ, _+_, _/_, _%_, _^_, _<_}
 use native.Mathlib.Decide.{ℕ-discrete}
 use native.Mathlib.Numerals.{add-one}
-use lib.Bits.{bitAnd, bitOr}
+use lib.Bits.{bitOr}
 use lib.Count.{ones}
 use lib.Dec.{eqb}
-use lib.ListN.{length, getD, set, replicate, length-set, length-replicate}
-use lib.Seq.{getD-set-other}
+use lib.ListN.{length, getD, replicate, length-replicate}
 use borrow.Author.Tests.{eq-eqb, ne-eqb}
 use Rattle.lists.specs.Range.{any, countPairs, count-pairs-more}
-use Rattle.lists.specs.Mask.{Has, Sub, has-none, maskOf}
+use Rattle.lists.specs.Mask.{has-none, maskOf}
 use Rattle.lists.specs.Bits.{has, has-of, mask-empty, mask-same, or-mask, or-again, ones-mask}
-use Rattle.lists.specs.Lowest.{Lowest, without-lowest}
-use Rattle.lists.specs.Store.{at-set, zeros}
+use Rattle.lists.specs.Store.{zeros}
 use Rattle.lists.specs.Truth.{or-false}
 use Rattle.chart.specs.Region.{Region}
 use Rattle.phases.specs.Phases.{forward, backward, barriers, marked, marks, phase}
 use Rattle.loading.specs.Tables.{Masks}
-use Rattle.admission.specs.Unions.{Added, among, United}
-
--- one node: its starts that are left wait, and for the others its ends are added
-
-pub record Adding (old : List ℕ) (starts ends rest : ℕ) (unions : List ℕ) : Type 0 where
-  pub long : length unions ≡ 64
-  pub left : Sub rest starts
-  pub waits : (b : ℕ) → Has rest b → getD unions b 0 ≡ getD old b 0
-  pub done : (b : ℕ) → b < 64 → (Has rest b → ⊥) → getD unions b 0 ≡ cond (has starts b) (bitOr (getD old b 0) ends) (getD old b 0)
-
-pub adding-none : (old : List ℕ) (starts ends : ℕ) → length old ≡ 64 → Adding old starts ends starts old
-adding-none old starts ends l = record {
-  long = l;
-  left = λ b h. h;
-  waits = λ b h. refl;
-  done = λ b l n. rw (ne-eqb (starts / 2 ^ b % 2) 1 n);
-}
-
-pub adding-more : {old : List ℕ} {starts ends rest : ℕ} {unions : List ℕ} (t : ℕ) → Adding old starts ends rest unions → Lowest rest t 64
-    → Adding old starts ends (bitAnd rest (rest - 1)) (set unions t (bitOr (getD unions t 0) ends))
-adding-more {old} {starts} {ends} {rest} {unions} t a l = record {
-  long = length-set unions t _ ∙ a .long;
-  left = λ b h. a .left b (without-lowest l b .0 h .0);
-  waits = λ b h. let (r, d) = without-lowest l b .0 h in getD-set-other unions t b _ 0 d ∙ a .waits b r;
-  done = λ b m n. at-set (λ v. v ≡ cond (has starts b) (bitOr (getD old b 0) ends) (getD old b 0)) unions t _ b (omega (arith, a .long, l .below))
-      (λ e. rw (e, a .waits t (l .own), eq-eqb (starts / 2 ^ t % 2) 1 (a .left t (l .own))))
-      (λ d. a .done b m (λ h. n (without-lowest l b .1 (h, d))));
-}
-
-pub adding-all : {old : List ℕ} {starts ends : ℕ} {unions : List ℕ} → Adding old starts ends 0 unions → Added old starts ends unions
-adding-all a = record { long = a .long; at = λ b l. a .done b l (has-none b) }
+use Rattle.unions.specs.Unions.{Added}
+use Rattle.admission.specs.Unions.{among, United}
 
 -- adding the same once more changes nothing
 added-again : {old : List ℕ} {starts ends : ℕ} {new : List ℕ} → Added old starts ends new → Added new starts ends new

@@ -1,21 +1,14 @@
 -- For each start the union of the ends of the nodes that have it, as the phase count makes them.
 -- Assumes nothing.
 use mathlib.Core.Path.{_≡_}
-use mathlib.Core.Bool.{Bool, _&&_, cond}
+use mathlib.Core.Bool.{Bool, _&&_}
 use mathlib.Core.List.{List}
 use Prim.Native.Nat.{ℕ, _<_}
-use lib.Bits.{bitOr}
 use lib.ListN.{length, getD}
 use Rattle.lists.specs.Range.{any}
 use Rattle.lists.specs.Mask.{maskOf}
-use Rattle.lists.specs.Bits.{has}
 use Rattle.chart.specs.Region.{Region}
 use Rattle.phases.specs.Phases.{forward, backward, barriers, marked}
-
--- The ends are added for each of the starts.
-pub record Added (old : List ℕ) (starts ends : ℕ) (new : List ℕ) : Type 0 where
-  pub long : length new ≡ 64
-  pub at : (b : ℕ) → b < 64 → getD new b 0 ≡ cond (has starts b) (bitOr (getD old b 0) ends) (getD old b 0)
 
 -- The ends c of the first n nodes that have the start b.
 abbrev pub among : Region → ℕ → ℕ → ℕ → Bool

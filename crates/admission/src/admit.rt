@@ -4,8 +4,8 @@ ghost use Rattle.admission.specs.Admission.{admitted};
 use crate::count::count;
 use chart::format::Chart;
 use chart::format::Refusal;
-use marking::enter::Entered;
-use marking::enter::enter;
+use entrance::Entered;
+use entrance::enter;
 
 pub struct Counts {
     pub nodes: usize,
@@ -25,7 +25,8 @@ pub fn admit(s: &[u8]) -> Admission
 {
     let mut starts = [0u64; Chart::NODES];
     let mut ends = [0u64; Chart::NODES];
-    match enter(s, &mut starts, &mut ends) {
+    let mut levels = [0u8; Chart::NODES];
+    match enter(s, &mut starts, &mut ends, &mut levels) {
         Entered::Refused(refusal) => Admission::Refused(refusal),
         Entered::Marked(chart, barriers) => {
             let nodes = chart.nodes;

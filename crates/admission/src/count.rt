@@ -7,25 +7,13 @@ ghost use lib.ListN.{length};
 ghost use Rattle.chart.specs.Region.{Region};
 ghost use Rattle.phases.specs.Phases.{forward, backward, barriers, phaseCount};
 ghost use Rattle.loading.specs.Tables.{Masks};
-ghost use Rattle.admission.specs.Unions.{Added, United};
-use bits::lowest;
+ghost use Rattle.unions.specs.Unions.{Added};
+ghost use Rattle.admission.specs.Unions.{United};
 use bits::ones;
 use chart::format::Chart;
+use unions::add;
 
-// The ends are added for each of the starts, lowest first.
-fn add(unions: &mut [u64; Chart::BARRIERS], starts: u64, ends: u64)
-    requires { ⌜ length (now unions) ≡ 64 ⌝ }
-    ensures { λ _. ⌜ Added (now (unions .entry)) starts ends (now (unions .exit)) ⌝ }
-{
-    let mut rest = starts;
-    while rest != 0 {
-        let b = lowest(rest);
-        unions[b] = unions[b] | ends;
-        rest = rest & (rest - 1);
-    }
-}
-
-// The same, but nothing is done where starts and ends are those that were added last.
+// The ends are added for each of the starts, but nothing is done where starts and ends are those that were added last.
 fn add_new(
     unions: &mut [u64; Chart::BARRIERS],
     starts: u64,

@@ -14,8 +14,8 @@ ghost use Rattle.calls.specs.Phases.{phasesResult, phasesWritten, phases
 ghost use Rattle.calls.specs.Sheet.{sheetWritten, sheetLeft};
 use crate::fill::fill_phases;
 use chart::format::Chart;
-use marking::enter::Entered;
-use marking::enter::enter;
+use entrance::Entered;
+use entrance::enter;
 use output::Written;
 use output::room_for;
 use profiles::chains::Sets;
@@ -52,7 +52,8 @@ pub fn phases(s: &[u8], out: &mut [u8]) -> Written
 {
     let mut starts = [0u64; Chart::NODES];
     let mut ends = [0u64; Chart::NODES];
-    match enter(s, &mut starts, &mut ends) {
+    let mut levels = [0u8; Chart::NODES];
+    match enter(s, &mut starts, &mut ends, &mut levels) {
         Entered::Refused(refusal) => Written::Refused(refusal),
         Entered::Marked(chart, _) => write_phases(chart.nodes, &starts, &ends, out),
     }

@@ -155,8 +155,8 @@ module _ {R : Region} (W : WellFormed R) where
   open? z = elim (truth (noBarrier (R .role z))) [ inl h ↦ yes (no-barrier _ h) | inr h ↦ no (λ o. clash (barrier-no _ o) h) ]
 
   -- the masks of a search from the barriers, past none of them
-  module _ (d : Direction) {nodes masks levels : List ℕ} {total : ℕ} (B : Barriers R nodes total)
-      (w : Found (Along d R) (Open R) nodes total masks levels) (source : ℕ) (within : source < total) where
+  module _ (d : Direction) {nodes masks : List ℕ} {total : ℕ} (B : Barriers R nodes total)
+      (w : Found (Along d R) (Open R) nodes total masks) (source : ℕ) (within : source < total) where
     abbrev Own : ℕ → Type 0
     Own = Joined masks nodes total source
 
@@ -224,22 +224,22 @@ module _ {R : Region} (W : WellFormed R) where
           full : count total (has all) ≡ total → ⊥
           full e = omega (arith, ones-count v)
 
-      -- where all barriers are joined, a node that is no barrier is led to from the source exactly when it has a level
+      -- where all barriers are joined, a node that is no barrier is led to from the source exactly when its mask is not empty
       pub all-joined : total ≤ ones all → {stops : List ℕ} → Stops R stops
-          → any (R .nodes) (λ x. eqb (getD stops x 0) 0 && eqb (getD levels x 0) 0) ≡ lost d R (getD nodes source 0)
+          → any (R .nodes) (λ x. eqb (getD stops x 0) 0 && eqb (getD masks x 0) 0) ≡ lost d R (getD nodes source 0)
       all-joined f {stops} S = any-same (R .nodes) _ _ (λ x l. rw (S .at x) (asked x (truth (noBarrier (R .role x)))))
         where
           joined : (b : ℕ) → b < total → Own b
           joined b l = v .only b l (eqb-true _ 1 (count-full total (has all) (omega (arith, ones-count v)) b l))
 
-          none : (x : ℕ) → getD levels x 0 ≡ 0 → leadsAny d R (getD nodes source 0) x ≡ true → ⊥
-          none x z h = let (c, l, j, g) = led x h in omega (arith, w .least c x l (w .mask x .only c l g) .0)
+          none : (x : ℕ) → getD masks x 0 ≡ 0 → leadsAny d R (getD nodes source 0) x ≡ true → ⊥
+          none x z h = let (c, l, j, g) = led x h in has-none c (rw z at g)
 
-          same : (x : ℕ) → Dec (getD levels x 0 ≡ 0) → eqb (getD levels x 0) 0 ≡ not (leadsAny d R (getD nodes source 0) x)
+          same : (x : ℕ) → Dec (getD masks x 0 ≡ 0) → eqb (getD masks x 0) 0 ≡ not (leadsAny d R (getD nodes source 0) x)
           same x (yes z) = rw (eq-eqb _ _ z, false-if (none x z))
           same x (no n) =
-              let r = w .path x (omega arith) in
-              rw (ne-eqb _ _ n, on (joined (r .source) (r .below)) (r .path))
+              let (b, (l, p)) = some-bit (w .mask x) .0 n in
+              rw (ne-eqb _ _ n, on (joined b l) p)
 
           -- a barrier is the source, or led to
           found : (x : ℕ) → R .role x ≡ barrier → (x ≡ getD nodes source 0 → ⊥) → leadsAny d R (getD nodes source 0) x ≡ true
@@ -249,11 +249,11 @@ module _ {R : Region} (W : WellFormed R) where
               ⊎-elim (λ s. absurd (n (sym e ∙ ap (λ (c : ℕ). getD nodes c 0) s))) (λ p. path-leads d (rw e at p)) (joined-path (joined b (omega (arith, B .count))))
 
           asked : (x : ℕ) → (noBarrier (R .role x) ≡ true) ⊎ (noBarrier (R .role x) ≡ false)
-              → (eqb (cond (noBarrier (R .role x)) 0 1) 0 && eqb (getD levels x 0) 0) ≡ (not (eqb x (getD nodes source 0)) && not (leadsAny d R (getD nodes source 0) x))
+              → (eqb (cond (noBarrier (R .role x)) 0 1) 0 && eqb (getD masks x 0) 0) ≡ (not (eqb x (getD nodes source 0)) && not (leadsAny d R (getD nodes source 0) x))
           asked x (inl t) =
               let other : x ≡ getD nodes source 0 → ⊥ = λ e.
               clash t (ap noBarrier (ap (R .role) (e ∙ B .at source) ∙ number-barrier R W source (omega (arith, B .count)))) in
-              rw (t, ne-eqb _ _ other) (same x (ℕ-discrete (getD levels x 0) 0))
+              rw (t, ne-eqb _ _ other) (same x (ℕ-discrete (getD masks x 0) 0))
           asked x (inr t) = elim (ℕ-discrete x (getD nodes source 0)) [
             | yes e ↦ rw (t, eq-eqb _ _ e)
             | no n ↦ rw (t, ne-eqb _ _ n, found x (is-barrier _ t) n)

@@ -1,5 +1,5 @@
 // Row 10 of the refusals: every node is reached from start and reaches finish, along edges. The masks of a search past no barrier tell
-// it: first which barriers are joined to start (to finish), then whether some barrier leads to each other node, which has a level then.
+// it: first which barriers are joined to start (to finish), then whether some barrier leads to each other node.
 ghost use mathlib.Core.Path.{_≡_};
 ghost use mathlib.Core.Bool.{_&&_, cond};
 ghost use Prim.Native.Nat.{ℕ, _^_, _≤_, _<_};
@@ -20,7 +20,7 @@ use bits::either;
 use bits::ones;
 use chart::cursor::wide;
 use chart::format::Chart;
-use loading::tables::Extent;
+use splitting::Extent;
 
 // The k-th barrier from the source on, so that one pass will do for a chart in program order.
 fn from_source(source: usize, total: usize, k: usize) -> usize
@@ -89,46 +89,45 @@ fn joined(
     all
 }
 
-// Whether no stop stands on a node, and it has no level.
-fn missed(stop: u8, level: u8) -> bool
-    ensures { λ r. ⌜ r ≡ (eqb stop 0 && eqb level 0) ⌝ }
+// Whether no stop stands on a node, and its mask is empty.
+fn missed(stop: u8, mask: u64) -> bool
+    ensures { λ r. ⌜ r ≡ (eqb stop 0 && eqb mask 0) ⌝ }
 {
     if stop == 0 {
-        return level == 0;
+        return mask == 0;
     }
     false
 }
 
 // Whether one of the first n nodes was missed. No turn leaves the loop, so that several are taken at once.
-fn any_missed(stops: &[u8; Chart::NODES], levels: &[u8; Chart::NODES], n: usize) -> bool
+fn any_missed(stops: &[u8; Chart::NODES], masks: &[u64; Chart::NODES], n: usize) -> bool
     requires { ⌜ n ≤ 192 ⌝ }
-    ensures { λ r. ⌜ r ≡ any n (λ x. eqb (getD (now (stops .entry)) x 0) 0 && eqb (getD (now (levels .entry)) x 0) 0) ⌝ }
+    ensures { λ r. ⌜ r ≡ any n (λ x. eqb (getD (now (stops .entry)) x 0) 0 && eqb (getD (now (masks .entry)) x 0) 0) ⌝ }
 {
     let mut found = false;
     let mut x = 0;
     while x < n {
-        found = either(found, missed(stops[x], levels[x]));
+        found = either(found, missed(stops[x], masks[x]));
         x += 1;
     }
     found
 }
 
-// Whether to one of the nodes, other than the source, no path leads from there, by the masks and levels of all nodes.
+// Whether to one of the nodes, other than the source, no path leads from there, by the masks of all nodes.
 pub fn cut_off(
     stops: &[u8; Chart::NODES],
     masks: &[u64; Chart::NODES],
-    levels: &[u8; Chart::NODES],
     nodes: &[u8; Chart::BARRIERS],
     extent: Extent,
     source: usize,
 ) -> bool
     requires { ⌜ (extent .barriers ≤ 64) × (source < extent .barriers) × (extent .nodes ≤ 192) ⌝ }
     requires { ⌜ ((b : ℕ) → getD (now nodes) b 0 < 192) ⌝ }
-    ensures { λ r. ⌜ ((d : Direction) (R : Region) → WellFormed R → extent .nodes ≡ R .nodes → Stops R (now (stops .entry)) → Barriers R (now (nodes .entry)) (extent .barriers) → Found (Along d R) (Open R) (now (nodes .entry)) (extent .barriers) (now (masks .entry)) (now (levels .entry)) → r ≡ lost d R (barrierAt R source)) ⌝ }
+    ensures { λ r. ⌜ ((d : Direction) (R : Region) → WellFormed R → extent .nodes ≡ R .nodes → Stops R (now (stops .entry)) → Barriers R (now (nodes .entry)) (extent .barriers) → Found (Along d R) (Open R) (now (nodes .entry)) (extent .barriers) (now (masks .entry)) → r ≡ lost d R (barrierAt R source)) ⌝ }
 {
     let total = extent.barriers;
     if ones(joined(masks, nodes, total, source)) < total {
         return true;
     }
-    any_missed(stops, levels, extent.nodes)
+    any_missed(stops, masks, extent.nodes)
 }

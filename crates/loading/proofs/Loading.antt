@@ -24,12 +24,11 @@ use Rattle.chart.specs.declared.format.Chart.{Chart}
 use Rattle.chart.proofs.Records.{nodes-length, edges-length, constructs-length}
 use Rattle.chart.proofs.Facts.{FrameAt, OneFrame, isFrame, is-frame, frame-is, frame-construct}
 use Rattle.paths.specs.Decide.{noBarrier}
-use Rattle.paths.specs.Graph.{Listed, Places, Heads, Rising}
-use Rattle.paths.specs.FoundLaws.{listed-turned}
-use Rattle.sorting.proofs.Sort.{heads-rising}
-use Rattle.phases.specs.Phases.{Direction, forward, backward, barriers}
+use Rattle.paths.specs.Graph.{Listed, Places, Rising}
+use Rattle.splitting.specs.Parts.{row, Beside, Split}
+use Rattle.phases.specs.Phases.{barriers}
 use Rattle.loading.proofs.Accepted.{tables}
-use Rattle.loading.specs.Tables.{Accepted, Along, Stops, Barriers, Noted, skip, put, Framed, Columns, Tabled}
+use Rattle.loading.specs.Tables.{Accepted, Stops, Barriers, Noted, skip, put, Framed, Columns, Blank, Arranged}
 
 -- past the last record an edge leads from 0 to 0
 pub edge-past : (edges : List Edge) (i : ℕ) → length edges ≤ i → (edgeAt edges i .from ≡ 0) × (edgeAt edges i .to ≡ 0)
@@ -226,23 +225,23 @@ module _ (s : List ℕ) (chart : Chart) (A : Accepted s chart) (kind : ℕ) (low
       go (yes h) = rw (e, eq-eqb k kind h) (stored h)
       go (no n) = rw (e, ne-eqb k kind n) (passed n)
 
-  pub framing-all : (frames : List ℕ) → Framing (decode s .nodes) kind (chart .nodes) frames → Framed (decode s) kind frames
+  found : (c : ℕ) → c < length (decode s .constructs)
+      → (frameOf (decode s .nodes) kind c < length (decode s .nodes)) × FrameAt (decode s .nodes) kind c (frameOf (decode s .nodes) kind c)
   unfolding frameOf
+  found c l =
+      let nodes = decode s .nodes in
+      let O = one-frame c l in
+      let (b, p) = first-passes (length nodes) (isFrame nodes kind c) (at-any (length nodes) (isFrame nodes kind c) (O .node) (O .below) (frame-is nodes kind c (O .node) (O .there))) in
+      (b, is-frame nodes kind c _ p)
+
+  pub framing-all : (frames : List ℕ) → Framing (decode s .nodes) kind (chart .nodes) frames → Framed (decode s) kind frames
   framing-all frames F = record {
-    at = λ c l.
-        let nodes = decode s .nodes in
-        let O = one-frame c l in
-        let (b, p) = first-passes (length nodes) (isFrame nodes kind c) (at-any (length nodes) (isFrame nodes kind c) (O .node) (O .below) (frame-is nodes kind c (O .node) (O .there))) in
-        F .at c _ (omega (arith, b, nodes-length s chart (A .laid))) (is-frame nodes kind c _ p);
+    at = λ c l. F .at c _ (omega (arith, found c l .0, nodes-length s chart (A .laid))) (found c l .1);
     node = F .node;
+    there = λ c l. found c l .1 .0;
   }
 
 -- the tables of the edges
-
--- the column that the edges leave from in a direction; the columns exchanged, that in which they end
-abbrev keysOf : Direction → List ℕ → List ℕ → List ℕ
-keysOf forward froms tos = froms
-keysOf backward froms tos = tos
 
 module _ (s : List ℕ) (chart : Chart) (A : Accepted s chart) {froms tos : List ℕ} (C : Columns (decode s) froms tos) where
   pub ends-below : (i : ℕ) → (getD froms i 0 < 192) × (getD tos i 0 < 192)
@@ -282,31 +281,52 @@ module _ (s : List ℕ) (chart : Chart) (A : Accepted s chart) {froms tos : List
       let (a, b) = and-both (eqb (edgeAt (decode s .edges) i .from) x) _ p in
       record { at = i; below = omega (arith, edges-length s chart (A .laid)); key = C .from i ∙ eqb-true _ _ a; value = C .to i ∙ eqb-true _ _ b }
 
-  -- in a direction
-
-  key-below : (d : Direction) (i : ℕ) → getD (keysOf d froms tos) i 0 < 192
-  key-below forward i = ends-below i .0
-  key-below backward i = ends-below i .1
-
-  listed-along : (d : Direction) (x y : ℕ) → Listed (keysOf d froms tos) (keysOf d tos froms) (chart .edges) x y → Along d (region (decode s)) x y
-  listed-along forward x y t = listed-edge x y t
-  listed-along backward x y t = listed-edge y x (listed-turned x y t)
-
-  along-listed : (d : Direction) (x y : ℕ) → Along d (region (decode s)) x y → Listed (keysOf d froms tos) (keysOf d tos froms) (chart .edges) x y
-  along-listed forward x y h = edge-listed x y h
-  along-listed backward x y h = listed-turned y x (edge-listed y x h)
-
-  pub tabled : (d : Direction) (heads places : List ℕ) → Places (keysOf d froms tos) (chart .edges) places
-      → Heads (keysOf d froms tos) (keysOf d tos froms) (chart .edges) heads → Tabled d (region (decode s)) heads places
-  tabled d heads places P H = record {
-    keys = keysOf d froms tos;
-    values = keysOf d tos froms;
-    edges = chart .edges;
-    table = record { few = A .laid .edges-most; key = key-below d; begins = P; sorted = H };
-    listed-edge = listed-along d;
-    edge-listed = along-listed d;
+  pub arranged : {edges : List (List ℕ)} {places stops : List ℕ} {ups low ins : ℕ} → row edges 0 ≡ froms → row edges 1 ≡ tos
+      → Split edges (chart .edges) stops ups low ins → Places (row edges 0) (chart .edges) places → Arranged (region (decode s)) edges places stops ups low ins
+  arranged p q T P = record {
+    count = chart .edges;
+    split = T;
+    begins = P;
+    listed-edge = rw (p, q) listed-edge;
+    edge-listed = rw (p, q) edge-listed;
   }
 
-  -- forward the edges are sorted as they stand
-  pub tabled-rising : (places : List ℕ) → Places froms (chart .edges) places → Tabled forward (region (decode s)) tos places
-  tabled-rising places P = tabled forward tos places P (heads-rising froms tos (chart .edges) rising (λ i. ends-below i .1))
+-- a table whose first rows are written
+
+blank-row : {A : Type 0} (n : ℕ) (x d : A) (r : ℕ) → r < n → getD (replicate n x) r d ≡ x
+blank-row zero x d r l = absurd (omega arith)
+blank-row (suc n) x d zero l = refl
+blank-row (suc n) x d (suc r) l = blank-row n x d r (omega arith)
+
+blank-past : (n : ℕ) (x : List ℕ) (r : ℕ) → n ≤ r → getD (replicate n x) r [] ≡ []
+blank-past zero x r l = refl
+blank-past (suc n) x zero l = absurd (omega arith)
+blank-past (suc n) x (suc r) l = blank-past n x r (omega arith)
+
+pub blank-rows : (r : ℕ) → r < 6 → row (replicate 6 (replicate 1024 0)) r ≡ replicate 1024 0
+blank-rows r l = blank-row 6 (replicate 1024 0) [] r l
+
+pub blank-none : Blank (replicate 6 (replicate 1024 0))
+blank-none = record {
+  six = length-replicate {A = List ℕ} 6 (replicate 1024 0);
+  long = λ r l. rw (blank-rows r l) (length-replicate {A = ℕ} 1024 0);
+  rest = λ r j _. elim (decLt r 6) [ yes l ↦ rw (blank-rows r l) (zeros 1024 j) | no n ↦ rw (blank-past 6 (replicate 1024 0) r (omega arith)) refl ];
+}
+
+-- all its numbers are nodes
+pub nodes-fit : (s : List ℕ) (chart : Chart) → Accepted s chart → {table : List (List ℕ)} → Columns (decode s) (row table 0) (row table 1) → Blank table
+    → (r j : ℕ) → getD (row table r) j 0 < 192
+nodes-fit s chart A C b r j = elim (ℕ-discrete r 0) [
+  | yes e ↦ rw e (ends-below s chart A C j .0)
+  | no n ↦ elim (ℕ-discrete r 1) [ yes e ↦ rw e (ends-below s chart A C j .1) | no m ↦ omega (arith, b .rest r j (omega arith)) ]
+]
+
+pub blank-turn : {old new : List (List ℕ)} (i x y : ℕ) → Blank old → row new 0 ≡ set (row old 0) i x → row new 1 ≡ set (row old 1) i y → Beside 0 1 old new → Blank new
+blank-turn {old} {new} i x y b p q d = record {
+  six = d .long ∙ b .six;
+  long = λ r l. elim (ℕ-discrete r 0) [
+    | yes e ↦ rw (e, p) (length-set (row old 0) i x ∙ b .long 0 (omega arith))
+    | no n ↦ elim (ℕ-discrete r 1) [ yes e ↦ rw (e, q) (length-set (row old 1) i y ∙ b .long 1 (omega arith)) | no m ↦ rw (d .same r n m) (b .long r l) ]
+  ];
+  rest = λ r j l. rw (d .same r (λ e. omega arith) (λ e. omega arith)) (b .rest r j l);
+}

@@ -5,18 +5,19 @@ use mathlib.Core.Path.{_≡_}
 use mathlib.Core.Bool.{Bool, cond}
 use mathlib.Core.List.{List}
 use mathlib.Core.Option.{none}
-use Prim.Native.Nat.{ℕ, _+_, _<_}
+use Prim.Native.Nat.{ℕ, _+_, _≤_, _<_}
 use lib.ListN.{length, getD, set}
-use Rattle.chart.specs.Format.{Decoded, decode, edgeAt}
+use Rattle.chart.specs.Format.{Decoded, decode, nodeAt, edgeAt}
 use Rattle.chart.specs.Region.{Region}
 use Rattle.chart.specs.Refusal.{firstOf, tableRows}
 use Rattle.chart.specs.Reading.{frameOf}
 use Rattle.chart.specs.Checked.{Laid}
 use Rattle.chart.specs.declared.format.Chart.{Chart}
-use Rattle.paths.specs.Path.{Edge}
+use Rattle.paths.specs.Path.{Edge, Open}
 use Rattle.paths.specs.Decide.{noBarrier, reachesAny}
-use Rattle.paths.specs.Graph.{Listed, Table}
-use Rattle.phases.specs.Phases.{Direction, forward, backward, barriers, barrierAt, marks}
+use Rattle.paths.specs.Graph.{Listed, Places}
+use Rattle.splitting.specs.Parts.{row, Split}
+use Rattle.phases.specs.Phases.{Direction, forward, backward, barriers, barrierAt, marks, nearest}
 
 -- Bytes of a chart that rows 1 to 9 of the refusals let pass, with its counts.
 pub record Accepted (s : List ℕ) (chart : Chart) : Type 0 where
@@ -28,6 +29,12 @@ pub record Columns (D : Decoded) (froms tos : List ℕ) : Type 0 where
   pub from : (i : ℕ) → getD froms i 0 ≡ edgeAt (D .edges) i .from
   pub to : (i : ℕ) → getD tos i 0 ≡ edgeAt (D .edges) i .to
 
+-- Besides, a table of edges has rows that are not written yet.
+pub record Blank (table : List (List ℕ)) : Type 0 where
+  pub six : length table ≡ 6
+  pub long : (r : ℕ) → r < 6 → length (row table r) ≡ 1024
+  pub rest : (r j : ℕ) → 2 ≤ r → getD (row table r) j 0 ≡ 0
+
 -- An edge leads from x to y; backward: from y to x. And so for any path.
 abbrev pub Along : Direction → Region → ℕ → ℕ → Type 0
 Along forward R x y = Edge R x y
@@ -37,14 +44,13 @@ abbrev pub leadsAny : Direction → Region → ℕ → ℕ → Bool
 leadsAny forward R x y = reachesAny R x y
 leadsAny backward R x y = reachesAny R y x
 
--- The table of the region's edges, read in a direction.
-pub record Tabled (d : Direction) (R : Region) (heads places : List ℕ) : Type 0 where
-  pub keys : List ℕ
-  pub values : List ℕ
-  pub edges : ℕ
-  pub table : Table keys values edges heads places
-  pub listed-edge : (x y : ℕ) → Listed keys values edges x y → Along d R x y
-  pub edge-listed : (x y : ℕ) → Along d R x y → Listed keys values edges x y
+-- The table of the region's edges, parted by stops, and the places where the edges of each node begin.
+pub record Arranged (R : Region) (edges : List (List ℕ)) (places stops : List ℕ) (ups low ins : ℕ) : Type 0 where
+  pub count : ℕ
+  pub split : Split edges count stops ups low ins
+  pub begins : Places (row edges 0) count places
+  pub listed-edge : (x y : ℕ) → Listed (row edges 0) (row edges 1) count x y → Edge R x y
+  pub edge-listed : (x y : ℕ) → Edge R x y → Listed (row edges 0) (row edges 1) count x y
 
 -- A stop stands on each barrier.
 pub record Stops (R : Region) (stops : List ℕ) : Type 0 where
@@ -60,10 +66,9 @@ pub record Barriers (R : Region) (nodes : List ℕ) (total : ℕ) : Type 0 where
 abbrev pub Masks : Direction → Region → List ℕ → Type 0
 Masks d R masks = (x : ℕ) → x < 192 → getD masks x 0 ≡ marks d R x
 
--- The masks of the first `total` nodes of a list become 0, and the others stay.
-pub record Cleared (nodes : List ℕ) (total : ℕ) (old new : List ℕ) : Type 0 where
-  pub gone : (b : ℕ) → b < total → getD new (getD nodes b 0) 0 ≡ 0
-  pub rest : (y : ℕ) → ((b : ℕ) → b < total → getD nodes b 0 ≡ y → ⊥) → getD new y 0 ≡ getD old y 0
+-- The fewest edges from a barrier to each node that is none, in a direction.
+abbrev pub Levels : Direction → Region → List ℕ → Type 0
+Levels d R levels = (x : ℕ) → Open R x → getD levels x 0 ≡ nearest d R x
 
 -- One node more for the list of the first `total` barriers: no stop stands on it, or it is put behind the others.
 pub data Noted (stop x : ℕ) (nodes : List ℕ) (total : ℕ) : List ℕ → ℕ → Type 0 where
@@ -74,3 +79,4 @@ pub data Noted (stop x : ℕ) (nodes : List ℕ) (total : ℕ) : List ℕ → �
 pub record Framed (D : Decoded) (kind : ℕ) (frames : List ℕ) : Type 0 where
   pub at : (c : ℕ) → c < length (D .constructs) → getD frames c 0 ≡ frameOf (D .nodes) kind c
   pub node : (c : ℕ) → getD frames c 0 < 192
+  pub there : (c : ℕ) → c < length (D .constructs) → nodeAt (D .nodes) (frameOf (D .nodes) kind c) .kind ≡ kind

@@ -7,25 +7,26 @@ ghost use lib.ListN.{length, set};
 ghost use Rattle.chart.specs.Format.{decode};
 ghost use Rattle.chart.specs.Scope.{beginNode, endNode};
 ghost use Rattle.chart.specs.Checked.{Laid, reading};
-ghost use Rattle.loading.specs.Tables.{Accepted, Columns, Stops, Barriers, Noted, Framed};
+ghost use Rattle.splitting.specs.Parts.{row};
+ghost use Rattle.loading.specs.Tables.{Accepted, Columns, Blank, Stops, Barriers, Noted, Framed};
 use chart::cursor::wide;
 use chart::format::Chart;
 use chart::format::Edge;
 use chart::format::Node;
+use splitting::Parts;
 
-// The edges, as a column of the nodes that they leave and one of those that they come to.
-fn edges(s: &[u8], chart: Chart, froms: &mut [u8; Chart::EDGES], tos: &mut [u8; Chart::EDGES])
+// The edges, as a row of the nodes that they leave and one of those that they come to; the other rows are blank.
+fn edges(s: &[u8], chart: Chart, table: &mut [[u8; Chart::EDGES]; Parts::ROWS])
     requires { ⌜ Laid (now s) chart ⌝ }
-    ensures { λ _. ⌜ Columns (decode (now (s .entry))) (now (froms .exit)) (now (tos .exit)) ⌝ }
+    ensures { λ _. ⌜ Columns (decode (now (s .entry))) (row (now (table .exit)) 0) (row (now (table .exit)) 1) × Blank (now (table .exit)) ⌝ }
 {
-    *froms = [0u8; Chart::EDGES];
-    *tos = [0u8; Chart::EDGES];
+    *table = [[0u8; Chart::EDGES]; Parts::ROWS];
     let e = chart.edges;
     let mut i = 0;
     while i < e {
         let edge = Edge::read(s, chart, i);
-        froms[i] = edge.from;
-        tos[i] = edge.to;
+        table[Parts::FROM][i] = edge.from;
+        table[Parts::TO][i] = edge.to;
         i += 1;
     }
 }
@@ -91,17 +92,16 @@ fn barriers(
 pub fn load(
     s: &[u8],
     chart: Chart,
-    froms: &mut [u8; Chart::EDGES],
-    tos: &mut [u8; Chart::EDGES],
+    table: &mut [[u8; Chart::EDGES]; Parts::ROWS],
     stops: &mut [u8; Chart::NODES],
     nodes: &mut [u8; Chart::BARRIERS],
 ) -> usize
     requires { ⌜ Accepted (now s) chart ⌝ }
-    ensures { λ _. ⌜ Columns (decode (now (s .entry))) (now (froms .exit)) (now (tos .exit)) ⌝ }
+    ensures { λ _. ⌜ Columns (decode (now (s .entry))) (row (now (table .exit)) 0) (row (now (table .exit)) 1) × Blank (now (table .exit)) ⌝ }
     ensures { λ _. ⌜ Stops (reading (now (s .entry)) chart) (now (stops .exit)) ⌝ }
     ensures { λ r. ⌜ Barriers (reading (now (s .entry)) chart) (now (nodes .exit)) r ⌝ }
 {
-    edges(s, chart, froms, tos);
+    edges(s, chart, table);
     load_stops(s, chart, stops);
     barriers(s, chart, stops, nodes)
 }

@@ -1,87 +1,165 @@
--- What a search finds, as the masks of a region, one time for both directions; as the constructs that return.
+-- What a search finds, as the masks and levels of a region, one time for both directions; as the constructs that return.
 -- Assumes nothing.
 use mathlib.Core.Path.{_≡_, refl, ap, sym, _∙_}
 use mathlib.Core.Logic.{_⊎_, inl, inr}
 use mathlib.Core.Bool.{Bool, true, false, cond}
 use mathlib.Core.List.{List}
-use Prim.Native.Nat.{ℕ, _<_}
+use Prim.Native.Nat.{ℕ, _≤_, _<_}
 use native.Mathlib.Omega.{arith}
 use lib.ListN.{length, getD}
-use Rattle.lists.specs.Truth.{truth, clash}
-use Rattle.lists.specs.Mask.{maskOf, mask-is}
+use Rattle.lists.specs.Truth.{truth, clash, false-if}
+use Rattle.lists.specs.Mask.{Mask, mask-carry, maskOf, mask-is}
+use Rattle.lists.specs.Least.{least-unique}
 use Rattle.lists.specs.Bits.{has, has-of, mask-same, mask-empty}
 use Rattle.chart.specs.Format.{Decoded}
 use Rattle.chart.specs.Region.{Region}
 use Rattle.chart.specs.Scope.{beginNode, endNode}
 use Rattle.chart.specs.Reading.{region, frameOf}
 use Rattle.chart.specs.WellFormed.{WellFormed}
-use Rattle.paths.specs.Path.{Open}
+use Rattle.paths.specs.Path.{Path, edges, Open}
+use Rattle.paths.specs.PathLaws.{carry, edges-carry, reverse, edges-reverse}
+use Rattle.paths.specs.ReachLaws.{distance-path, path-distance}
 use Rattle.paths.specs.Decide.{noBarrier, no-barrier, barrier-no, reachesFree, returns}
 use Rattle.paths.specs.Graph.{Listed}
-use Rattle.paths.specs.Found.{Clear, Found}
-use Rattle.paths.specs.FoundLaws.{found-carry, found-to}
-use Rattle.phases.specs.Phases.{Direction, forward, backward, leads, isBoundary, barriers, marked, marks, returning}
+use Rattle.paths.specs.Found.{Clear, Reached, Found, Leveled}
+use Rattle.paths.specs.FoundLaws.{found-carry, leveled-carry}
+use Rattle.phases.specs.Phases.{Direction, forward, backward, leads, isBoundary, barriers, barrierAt, marked, marks, edgesFree, nearest, returning}
 use Rattle.phases.specs.PhasesLaws.{is-barrier, number-barrier, barrier-number, leads-free, free-leads}
-use Rattle.loading.specs.Tables.{Along, Tabled, Stops, Barriers, Cleared, Framed}
+use Rattle.loading.specs.Tables.{Along, Arranged, Stops, Barriers, Framed}
+use Rattle.loading.proofs.Loading.{stop-byte}
+use Rattle.splitting.specs.Parts.{row}
+use Rattle.search.specs.Search.{Ready, Standing, Spread, Marked}
 
-module _ {R : Region} (W : WellFormed R) {sources : List ℕ} {total : ℕ} {masks levels : List ℕ} where
+module _ {R : Region} (W : WellFormed R) where
   -- past no barrier
-  free-masks : (d : Direction) → Found (Along d R) (Open R) sources total masks levels
-      → (y : ℕ) → getD masks y 0 ≡ maskOf (λ b. leads d R (getD sources b 0) y) total
-  free-masks forward w y = mask-is _ (λ b _. free-leads R W forward (getD sources b 0) y) (λ b _. leads-free R W forward (getD sources b 0) y) (w .mask y)
-  free-masks backward w y = mask-is _ (λ b _. free-leads R W backward (getD sources b 0) y) (λ b _. leads-free R W backward (getD sources b 0) y) (found-to w y)
+  free-mask : (d : Direction) (sources : List ℕ) (total y m : ℕ) → Mask (λ b. Reached (Along d R) (Open R) sources b y) total m
+      → m ≡ maskOf (λ b. leads d R (getD sources b 0) y) total
+  free-mask forward sources total y m w = mask-is _ (λ b _. free-leads R W forward (getD sources b 0) y) (λ b _. leads-free R W forward (getD sources b 0) y) w
+  free-mask backward sources total y m w = mask-is _ (λ b _. free-leads R W backward (getD sources b 0) y) (λ b _. leads-free R W backward (getD sources b 0) y)
+      (mask-carry (λ b _. reverse) (λ b _. reverse) w)
+
+  -- the fewest edges are those of some path, in that direction, and no path has fewer
+  edges-path : (d : Direction) (x y : ℕ) → 0 < edgesFree d R x y → (w : Path (Along d R) (Open R) x y) × (edges w ≡ edgesFree d R x y)
+  edges-path forward x y h =
+      let (w, q) = distance-path (R .nodes) (R .edge) (λ z. noBarrier (R .role z)) (λ x y. W .to-below) x y h in
+      (carry (λ x y e. e) (λ z. no-barrier (R .role z)) w, edges-carry (λ x y e. e) (λ z. no-barrier (R .role z)) w ∙ q)
+  edges-path backward x y h =
+      let (w, q) = distance-path (R .nodes) (R .edge) (λ z. noBarrier (R .role z)) (λ x y. W .to-below) y x h in
+      let v = carry (λ x y e. e) (λ z. no-barrier (R .role z)) w in
+      (reverse v, edges-reverse v ∙ edges-carry (λ x y e. e) (λ z. no-barrier (R .role z)) w ∙ q)
+
+  path-edges : (d : Direction) (x y : ℕ) (w : Path (Along d R) (Open R) x y) → (0 < edgesFree d R x y) × (edgesFree d R x y ≤ edges w)
+  path-edges forward x y w =
+      let (p, q) = path-distance (R .nodes) (R .edge) (λ z. noBarrier (R .role z)) (λ x y. W .to-below) x y (carry (λ x y e. e) (λ z. barrier-no (R .role z)) w) in
+      (p, omega (arith, edges-carry (λ x y e. e) (λ z. barrier-no (R .role z)) w))
+  path-edges backward x y w =
+      let v = reverse w in
+      let (p, q) = path-distance (R .nodes) (R .edge) (λ z. noBarrier (R .role z)) (λ x y. W .to-below) y x (carry (λ x y e. e) (λ z. barrier-no (R .role z)) v) in
+      (p, omega (arith, edges-carry (λ x y e. e) (λ z. barrier-no (R .role z)) v, edges-reverse w))
+
+  found-nearest : (d : Direction) {sources levels : List ℕ} {total : ℕ} → Barriers R sources total
+      → Leveled (Along d R) (Open R) (Open R) sources total levels → (x : ℕ) → Open R x → getD levels x 0 ≡ nearest d R x
+  unfolding nearest
+  found-nearest d {sources} {levels} {total} B F x o =
+      least-unique (λ b. edgesFree d R (barrierAt R b) x) (length (barriers R)) (getD levels x 0) (record { one = one; below = below })
+    where
+      few : total ≡ length (barriers R)
+      few = B .count
+
+      same : (b : ℕ) → edgesFree d R (getD sources b 0) x ≡ edgesFree d R (barrierAt R b) x
+      same b = ap (λ (z : ℕ). edgesFree d R z x) (B .at b)
+
+      below : (b : ℕ) → b < length (barriers R) → 0 < edgesFree d R (barrierAt R b) x
+          → (0 < getD levels x 0) × (getD levels x 0 ≤ edgesFree d R (barrierAt R b) x)
+      below b l h =
+          let (w, q) = edges-path d (getD sources b 0) x (omega (arith, same b)) in
+          let (a, c) = F .least b x (omega arith) o w in
+          (a, omega (arith, same b))
+
+      one : 0 < getD levels x 0 → (b : ℕ) × (b < length (barriers R)) × (edgesFree d R (barrierAt R b) x ≡ getD levels x 0)
+      one h =
+          let r = F .path x o h in
+          let (p, q) = path-edges d (getD sources (r .source) 0) x (r .path) in
+          let l : r .source < length (barriers R) = omega (arith, r .below) in
+          let (a, c) = below (r .source) l (omega (arith, same (r .source))) in
+          (r .source, l, omega (arith, same (r .source), r .long))
 
 clear-free : (b : Bool) → _≡_ {A = ℕ} (cond b 0 1) 0 → b ≡ true
 clear-free true h = refl
 clear-free false h = absurd (omega arith)
 
--- the search's own words: along a table, past no stop
-pub table-found : {R : Region} (d : Direction) {heads places stops sources : List ℕ} {total : ℕ} {masks levels : List ℕ}
-    (T : Tabled d R heads places) → Stops R stops
-    → Found (Listed (T .keys) (T .values) (T .edges)) (Clear stops) sources total masks levels
-    → Found (Along d R) (Open R) sources total masks levels
-table-found {R} d T S w = found-carry (T .listed-edge) (T .edge-listed)
-    (λ z h. no-barrier (R .role z) (clear-free (noBarrier (R .role z)) (sym (S .at z) ∙ h)))
-    (λ z h. S .at z ∙ rw (barrier-no (R .role z) h)) w
+module _ {R : Region} {stops : List ℕ} (S : Stops R stops) where
+  open-node : (z : ℕ) → Clear stops z → Open R z
+  open-node z h = no-barrier (R .role z) (clear-free (noBarrier (R .role z)) (sym (S .at z) ∙ h))
 
--- barriers keep no mask
-pub all-masks : {R : Region} (W : WellFormed R) (d : Direction) {heads places stops nodes : List ℕ} {total : ℕ} {masks levels new : List ℕ}
-    (T : Tabled d R heads places) → Stops R stops → Barriers R nodes total
-    → Found (Listed (T .keys) (T .values) (T .edges)) (Clear stops) nodes total masks levels
-    → Cleared nodes total masks new → (y : ℕ) → getD new y 0 ≡ marks d R y
-unfolding marks marked isBoundary
-all-masks {R} W d {nodes = nodes} {total} {masks = masks} {new = new} T S B w c y = go (truth (noBarrier (R .role y)))
-  where
-    same : getD masks y 0 ≡ maskOf (λ b. leads d R (getD (barriers R) b 0) y) (length (barriers R))
-    same = free-masks W d (table-found d T S w) y ∙ rw (B .count) (mask-same _ _ _ (λ b l. rw (B .at b)))
+  clear-node : (z : ℕ) → Open R z → Clear stops z
+  clear-node z h = S .at z ∙ rw (barrier-no (R .role z) h)
 
-    no : noBarrier (R .role y) ≡ true → (b : ℕ) → b < total → getD nodes b 0 ≡ y → ⊥
-    no t b l e = clash t (ap noBarrier (ap (R .role) (sym e ∙ B .at b) ∙ number-barrier R W b (omega (arith, B .count))))
+  stopped : (z : ℕ) → noBarrier (R .role z) ≡ false → Clear stops z → ⊥
+  stopped z t h = clash (clear-free (noBarrier (R .role z)) (sym (S .at z) ∙ h)) t
 
-    gone : noBarrier (R .role y) ≡ false → getD new y 0 ≡ 0
-    gone t =
-        let (b, l, q) = barrier-number R W y (is-barrier _ t) in
-        let e : getD nodes b 0 ≡ y = B .at b ∙ q in
-        rw e at (c .gone b (omega (arith, B .count)))
+  -- stops stand on the barriers
+  pub standing : WellFormed R → {nodes : List ℕ} {total : ℕ} → Barriers R nodes total → Standing stops nodes total
+  standing W B = record {
+    on = λ b l. stopped _ (ap noBarrier (ap (R .role) (B .at b) ∙ number-barrier R W b (omega (arith, B .count))));
+    number = λ y n.
+        let (b, l, q) = barrier-number R W y (is-barrier _ (false-if (λ t. n (S .at y ∙ rw t)))) in
+        (b, omega (arith, B .count), B .at b ∙ q);
+  }
 
-    go : (noBarrier (R .role y) ≡ true) ⊎ (noBarrier (R .role y) ≡ false) → getD new y 0 ≡ maskOf (marked d R y) (length (barriers R))
-    go (inl t) = c .rest y (no t) ∙ same ∙ mask-same _ (marked d R y) _ (λ b l. rw (t, number-barrier R W b l))
-    go (inr t) = gone t ∙ sym (mask-empty (marked d R y) _ (λ b l. rw t))
+  module _ (d : Direction) {E : ℕ → ℕ → Type 0} (f : (x y : ℕ) → E x y → Along d R x y) (g : (x y : ℕ) → Along d R x y → E x y) where
+    -- the search's own words: along edges in a direction, past no stop
+    pub found-along : {sources : List ℕ} {total : ℕ} {masks : List ℕ} → Found E (Clear stops) sources total masks → Found (Along d R) (Open R) sources total masks
+    found-along = found-carry f g open-node clear-node
+
+    along-mask : (sources : List ℕ) (total y m : ℕ) → Mask (λ b. Reached E (Clear stops) sources b y) total m
+        → Mask (λ b. Reached (Along d R) (Open R) sources b y) total m
+    along-mask sources total y m = mask-carry (λ b _. carry f open-node) (λ b _. carry g clear-node)
+
+    -- barriers keep no mask
+    pub all-masks : WellFormed R → {nodes : List ℕ} {total : ℕ} {masks all : List ℕ} → Barriers R nodes total → Marked E stops nodes total masks all
+        → (y : ℕ) → getD masks y 0 ≡ marks d R y
+    unfolding marks marked isBoundary
+    all-masks W {nodes} {total} {masks} B w y = go (truth (noBarrier (R .role y)))
+      where
+        go : (noBarrier (R .role y) ≡ true) ⊎ (noBarrier (R .role y) ≡ false) → getD masks y 0 ≡ maskOf (marked d R y) (length (barriers R))
+        go (inl t) =
+            let same : maskOf (λ b. leads d R (getD nodes b 0) y) total ≡ maskOf (λ b. leads d R (getD (barriers R) b 0) y) (length (barriers R))
+            = rw (B .count) (mask-same _ _ _ (λ b l. rw (B .at b))) in
+            free-mask W d nodes total y (getD masks y 0) (along-mask nodes total y (getD masks y 0) (w .clear y (S .at y ∙ rw t)))
+            ∙ same
+            ∙ mask-same _ (marked d R y) _ (λ b l. rw (t, number-barrier R W b l))
+        go (inr t) = w .stop y (stopped y t) ∙ sym (mask-empty (marked d R y) _ (λ b l. rw t))
+
+    -- and the levels are the fewest edges
+    pub all-levels : WellFormed R → {nodes : List ℕ} {total : ℕ} {levels : List ℕ} → Barriers R nodes total
+        → Leveled E (Clear stops) (Clear stops) nodes total levels → (x : ℕ) → Open R x → getD levels x 0 ≡ nearest d R x
+    all-levels W B w = found-nearest W d B (leveled-carry f g open-node clear-node clear-node w)
+
+-- what a search asks of the tables
+
+pub ready : {R : Region} {edges : List (List ℕ)} {places stops : List ℕ} {ups low ins : ℕ} → Arranged R edges places stops ups low ins
+    → Ready edges places ups low ins
+ready {stops = stops} T = record { count = T .count; stops = stops; split = T .split; begins = T .begins }
 
 -- the constructs that return: bit c of the mask of the begin of c, in a search from the ends
 
 pub ends-reach : (D : Decoded) → WellFormed (region D) → (n : ℕ) → n ≡ length (D .constructs)
-    → {heads places stops begins ends masks levels : List ℕ} (T : Tabled forward (region D) heads places) → Stops (region D) stops
-    → Framed D beginNode begins → Framed D endNode ends
-    → Found (Listed (T .keys) (T .values) (T .edges)) (Clear stops) ends n masks levels
+    → {edges : List (List ℕ)} {places stops begins ends masks : List ℕ} {ups low ins : ℕ} (T : Arranged (region D) edges places stops ups low ins)
+    → Stops (region D) stops → Framed D beginNode begins → Framed D endNode ends
+    → Spread (Listed (row edges 0) (row edges 1) (T .count)) stops ends n masks
     → maskOf (λ c. has (getD masks (getD begins c 0) 0) c) n ≡ returning (region D)
 unfolding returning returns
-ends-reach D W n q {begins = begins} {ends} {masks} T S B E w = rw q (mask-same _ _ _ (λ c l. bit c l))
+ends-reach D W n q {stops = stops} {begins} {ends} {masks} T S B E w = rw q (mask-same _ _ _ (λ c l. bit c l))
   where
+    passable : (c : ℕ) → c < length (D .constructs) → Clear stops (getD begins c 0)
+    passable c l = rw (B .at c l) (S .at _ ∙ sym (stop-byte (D .nodes) (frameOf (D .nodes) beginNode c) beginNode (sym (B .there c l))))
+
     bit : (c : ℕ) → c < length (D .constructs)
         → has (getD masks (getD begins c 0) 0) c ≡ reachesFree (region D) (frameOf (D .nodes) endNode c) (frameOf (D .nodes) beginNode c)
     bit c l =
-        ap (λ (m : ℕ). has m c) (free-masks W forward (table-found forward T S w) (getD begins c 0))
+        ap (λ (m : ℕ). has m c) (free-mask W forward ends n (getD begins c 0) _ (along-mask S forward (T .listed-edge) (T .edge-listed) ends n (getD begins c 0) _
+        (w .clear (getD begins c 0) (B .node c) (passable c l))))
         ∙ has-of (λ b. reachesFree (region D) (getD ends b 0) (getD begins c 0)) n c (omega arith)
         ∙ ap (λ (x : ℕ). reachesFree (region D) x (getD begins c 0)) (E .at c l)
         ∙ ap (reachesFree (region D) (frameOf (D .nodes) endNode c)) (B .at c l)

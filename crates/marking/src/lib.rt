@@ -1,5 +1,3 @@
-// Marking: which barriers are starts and ends of each node, which constructs return, and row 10 of the refusals, by searches along tables
-// that are built once. `enter::enter` is the entrance of the calls that answer no pairs; those that do enter by crate `survey`.
-pub mod enter;
+// The starts and ends of a chart's nodes, and the constructs that return. What they are is in crate `phases`; these functions find it.
 pub mod masks;
 pub mod returns;

@@ -1,51 +1,56 @@
-// The masks of the nodes in one direction: starts along the table of the edges, ends along the turned table.
+// The masks of the nodes in each direction, by one search from all barriers, past no barrier, and the fewest edges from a barrier; and
+// whether a node is cut off.
 ghost use mathlib.Core.Path.{_≡_};
-ghost use Prim.Native.Nat.{ℕ, _≤_, _<_};
-ghost use lib.ListN.{getD, length};
+ghost use Prim.Native.Nat.{ℕ, _-_, _≤_, _<_};
+ghost use lib.ListN.{getD};
 ghost use Rattle.chart.specs.Region.{Region};
 ghost use Rattle.chart.specs.WellFormed.{WellFormed};
-ghost use Rattle.paths.specs.Graph.{Bounded};
-ghost use Rattle.phases.specs.Phases.{Direction, barrierAt};
-ghost use Rattle.loading.specs.Tables.{Tabled, Stops, Barriers, Masks, Cleared};
-ghost use Rattle.joining.specs.Joined.{lost as Joined·lost};
-use chart::cursor::wide;
+ghost use Rattle.search.specs.Search.{Ready};
+ghost use Rattle.phases.specs.Phases.{forward, backward, barrierAt};
+ghost use Rattle.loading.specs.Tables.{Arranged, Stops, Barriers, Masks, Levels};
+ghost use Rattle.joining.specs.Joined.{lost};
 use chart::format::Chart;
 use joining::cut_off;
-use loading::tables::Extent;
-use search::search;
+use search::ends;
+use search::starts;
+use splitting::Extent;
+use splitting::Parts;
 
-// The masks of the barriers become 0.
-fn clear(nodes: &[u8; Chart::BARRIERS], total: usize, masks: &mut [u64; Chart::NODES])
-    requires { ⌜ total ≤ 64 ⌝ }
-    requires { ⌜ ((b : ℕ) → getD (now nodes) b 0 < 192) ⌝ }
-    ensures { λ _. ⌜ Cleared (now (nodes .entry)) total (now (masks .entry)) (now (masks .exit)) ⌝ }
-{
-    let mut b = 0;
-    while b < total {
-        masks[wide(nodes[b])] = 0;
-        b += 1;
-    }
-}
-
-// The masks by one search from all barriers, past no barrier; and whether a node is cut off from the source.
-pub fn fill(
-    heads: &[u8; Chart::EDGES],
+// The starts with their levels, and whether a node is cut off from the first barrier.
+pub fn fill_starts(
+    edges: &[[u8; Chart::EDGES]; Parts::ROWS],
     places: &[usize; Chart::PLACES],
     stops: &[u8; Chart::NODES],
     nodes: &[u8; Chart::BARRIERS],
     extent: Extent,
-    source: usize,
+    masks: &mut [u64; Chart::NODES],
+    levels: &mut [u8; Chart::NODES],
+) -> bool
+    requires { ⌜ (extent .barriers ≤ 64) × (0 < extent .barriers) × (extent .nodes ≤ 192) × Ready (now edges) (now places) (extent .parts .ups) (extent .parts .low) (extent .parts .ins) ⌝ }
+    requires { ⌜ ((b : ℕ) → getD (now nodes) b 0 < 192) ⌝ }
+    ensures { λ r. ⌜ ((R : Region) → WellFormed R → Arranged R (now (edges .entry)) (now (places .entry)) (now (stops .entry)) (extent .parts .ups) (extent .parts .low) (extent .parts .ins) → Stops R (now (stops .entry)) → Barriers R (now (nodes .entry)) (extent .barriers) → extent .nodes ≡ R .nodes → r ≡ lost forward R (barrierAt R 0)) ⌝ }
+    ensures { λ _. ⌜ ((R : Region) → WellFormed R → Arranged R (now (edges .entry)) (now (places .entry)) (now (stops .entry)) (extent .parts .ups) (extent .parts .low) (extent .parts .ins) → Stops R (now (stops .entry)) → Barriers R (now (nodes .entry)) (extent .barriers) → Masks forward R (now (masks .exit)) × Levels forward R (now (levels .exit))) ⌝ }
+{
+    let mut all = [0u64; Chart::NODES];
+    starts(edges, places, extent, nodes, masks, levels, &mut all);
+    cut_off(stops, &all, nodes, extent, 0)
+}
+
+// The ends, and whether a node is cut off from the last barrier.
+pub fn fill_ends(
+    edges: &[[u8; Chart::EDGES]; Parts::ROWS],
+    places: &[usize; Chart::PLACES],
+    stops: &[u8; Chart::NODES],
+    nodes: &[u8; Chart::BARRIERS],
+    extent: Extent,
     masks: &mut [u64; Chart::NODES],
 ) -> bool
-    requires { ⌜ (extent .barriers ≤ 64) × (source < extent .barriers) × (extent .nodes ≤ 192) × Bounded (now heads) (now places) × (length (now stops) ≡ 192) ⌝ }
+    requires { ⌜ (extent .barriers ≤ 64) × (0 < extent .barriers) × (extent .nodes ≤ 192) × Ready (now edges) (now places) (extent .parts .ups) (extent .parts .low) (extent .parts .ins) ⌝ }
     requires { ⌜ ((b : ℕ) → getD (now nodes) b 0 < 192) ⌝ }
-    ensures { λ r. ⌜ ((d : Direction) (R : Region) → WellFormed R → Tabled d R (now (heads .entry)) (now (places .entry)) → Stops R (now (stops .entry)) → Barriers R (now (nodes .entry)) (extent .barriers) → extent .nodes ≡ R .nodes → r ≡ Joined·lost d R (barrierAt R source)) ⌝ }
-    ensures { λ _. ⌜ ((d : Direction) (R : Region) → WellFormed R → Tabled d R (now (heads .entry)) (now (places .entry)) → Stops R (now (stops .entry)) → Barriers R (now (nodes .entry)) (extent .barriers) → Masks d R (now (masks .exit))) ⌝ }
+    ensures { λ r. ⌜ ((R : Region) → WellFormed R → Arranged R (now (edges .entry)) (now (places .entry)) (now (stops .entry)) (extent .parts .ups) (extent .parts .low) (extent .parts .ins) → Stops R (now (stops .entry)) → Barriers R (now (nodes .entry)) (extent .barriers) → extent .nodes ≡ R .nodes → r ≡ lost backward R (barrierAt R (extent .barriers - 1))) ⌝ }
+    ensures { λ _. ⌜ ((R : Region) → WellFormed R → Arranged R (now (edges .entry)) (now (places .entry)) (now (stops .entry)) (extent .parts .ups) (extent .parts .low) (extent .parts .ins) → Stops R (now (stops .entry)) → Barriers R (now (nodes .entry)) (extent .barriers) → Masks backward R (now (masks .exit))) ⌝ }
 {
-    let total = extent.barriers;
-    let mut levels = [0u8; Chart::NODES];
-    search(heads, places, stops, nodes, total, masks, &mut levels);
-    let lost = cut_off(stops, masks, &levels, nodes, extent, source);
-    clear(nodes, total, masks);
-    lost
+    let mut all = [0u64; Chart::NODES];
+    ends(edges, places, extent, nodes, masks, &mut all);
+    cut_off(stops, &all, nodes, extent, extent.barriers - 1)
 }

@@ -7,13 +7,14 @@ ghost use lib.ListN.{getD};
 ghost use Rattle.lists.specs.Mask.{maskOf};
 ghost use Rattle.lists.specs.Bits.{has as Bits·has};
 ghost use Rattle.chart.specs.Checked.{reading};
-ghost use Rattle.phases.specs.Phases.{forward, returning};
-ghost use Rattle.loading.specs.Tables.{Accepted, Tabled, Stops};
+ghost use Rattle.phases.specs.Phases.{returning};
+ghost use Rattle.loading.specs.Tables.{Accepted, Arranged, Stops};
 use bits::has;
 use chart::cursor::wide;
 use chart::format::Chart;
 use loading::load::frames;
-use search::search;
+use search::ahead;
+use splitting::Parts;
 
 // One bit more, where the mask has it.
 fn add_bit(mask: u64, c: usize, all: u64) -> u64
@@ -45,11 +46,12 @@ fn diagonal(masks: &[u64; Chart::NODES], nodes: &[u8; Chart::BARRIERS], n: usize
 pub fn returns(
     s: &[u8],
     chart: Chart,
-    heads: &[u8; Chart::EDGES],
+    edges: &[[u8; Chart::EDGES]; Parts::ROWS],
     places: &[usize; Chart::PLACES],
+    parts: Parts,
     stops: &[u8; Chart::NODES],
 ) -> u64
-    requires { ⌜ Accepted (now s) chart × Tabled forward (reading (now s) chart) (now heads) (now places) × Stops (reading (now s) chart) (now stops) ⌝ }
+    requires { ⌜ Accepted (now s) chart × Arranged (reading (now s) chart) (now edges) (now places) (now stops) (parts .ups) (parts .low) (parts .ins) × Stops (reading (now s) chart) (now stops) ⌝ }
     ensures { λ r. ⌜ r ≡ returning (reading (now (s .entry)) chart) ⌝ }
 {
     let n = chart.constructs;
@@ -60,7 +62,6 @@ pub fn returns(
     let mut ends = [0u8; Chart::BARRIERS];
     frames(s, chart, &mut begins, &mut ends);
     let mut masks = [0u64; Chart::NODES];
-    let mut levels = [0u8; Chart::NODES];
-    search(heads, places, stops, &ends, n, &mut masks, &mut levels);
+    ahead(edges, places, parts, &ends, n, &mut masks);
     diagonal(&masks, &begins, n)
 }

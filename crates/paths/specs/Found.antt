@@ -1,10 +1,8 @@
 -- What a search finds: for each node the sources from which a path leads there, as a mask, and the fewest edges on such a path.
 -- Assumes nothing.
 use mathlib.Core.Path.{_≡_}
-use mathlib.Core.Bool.{Bool}
 use mathlib.Core.List.{List}
 use Prim.Native.Nat.{ℕ, _≤_, _<_}
-use lib.Dec.{eqb}
 use lib.ListN.{getD}
 use Rattle.lists.specs.Mask.{Mask}
 use Rattle.paths.specs.Path.{Path, edges}
@@ -12,9 +10,6 @@ use Rattle.paths.specs.Path.{Path, edges}
 -- no stop stands on z
 abbrev pub Clear : List ℕ → ℕ → Type 0
 Clear stops z = getD stops z 0 ≡ 0
-
-abbrev pub clear : List ℕ → ℕ → Bool
-clear stops z = eqb (getD stops z 0) 0
 
 -- A path leads from source b to y, past nodes that have P.
 abbrev pub Reached : (ℕ → ℕ → Type 0) → (ℕ → Type 0) → List ℕ → ℕ → ℕ → Type 0
@@ -27,10 +22,12 @@ pub record ReachedIn (E : ℕ → ℕ → Type 0) (P : ℕ → Type 0) (sources 
   pub path : Reached E P sources source y
   pub long : edges path ≡ j
 
-pub record Found (E : ℕ → ℕ → Type 0) (P : ℕ → Type 0) (sources : List ℕ) (total : ℕ) (masks levels : List ℕ) : Type 0 where
+pub record Found (E : ℕ → ℕ → Type 0) (P : ℕ → Type 0) (sources : List ℕ) (total : ℕ) (masks : List ℕ) : Type 0 where
   -- a node's mask has the sources from which a path leads there
   pub mask : (y : ℕ) → Mask (λ b. Reached E P sources b y) total (getD masks y 0)
-  -- its level is the number of edges of such a path, 0 where there is none, and no such path has fewer
-  pub path : (y : ℕ) → 0 < getD levels y 0 → ReachedIn E P sources total (getD levels y 0) y
-  pub least : (b y : ℕ) → b < total → (w : Reached E P sources b y) → (0 < getD levels y 0) × (getD levels y 0 ≤ edges w)
-  pub short : (y : ℕ) → getD levels y 0 ≤ 192
+
+-- The levels of the nodes that have Q.
+pub record Leveled (E : ℕ → ℕ → Type 0) (P Q : ℕ → Type 0) (sources : List ℕ) (total : ℕ) (levels : List ℕ) : Type 0 where
+  -- a node's level is the number of edges of such a path, 0 where there is none, and no such path has fewer
+  pub path : (y : ℕ) → Q y → 0 < getD levels y 0 → ReachedIn E P sources total (getD levels y 0) y
+  pub least : (b y : ℕ) → b < total → Q y → (w : Reached E P sources b y) → (0 < getD levels y 0) × (getD levels y 0 ≤ edges w)

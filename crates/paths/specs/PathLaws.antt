@@ -23,6 +23,11 @@ unfolding edges append
 edges-append (last e) p v = omega arith
 edges-append (next e q w) p v = omega (arith, edges-append w p v)
 
+-- the last edge of a path
+pub final : {E : ℕ → ℕ → Type 0} {P : ℕ → Type 0} {x y : ℕ} → Path E P x y → E x y ⊎ ((z : ℕ) × Path E P x z × P z × E z y)
+final (last e) = inl e
+final (next {z = z} e p w) = elim (final w) [ inl f ↦ inr (z, last e, p, f) | inr (v, u, q, f) ↦ inr (v, next e p u, q, f) ]
+
 -- a path stays one along other edges and past other nodes, where these have what those have
 module _ {E F : ℕ → ℕ → Type 0} {P Q : ℕ → Type 0} (f : (x y : ℕ) → E x y → F x y) (g : (z : ℕ) → P z → Q z) where
   pub carry : {x y : ℕ} → Path E P x y → Path F Q x y

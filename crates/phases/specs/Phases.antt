@@ -8,9 +8,11 @@ use Prim.Native.Nat.{ℕ}
 use lib.ListN.{length, getD}
 use Rattle.lists.specs.Range.{any, countPairs}
 use Rattle.lists.specs.Mask.{maskOf}
+use Rattle.lists.specs.Least.{least}
 use Rattle.lists.specs.Select.{select}
 use Rattle.chart.specs.Region.{barrier, Region}
 use Rattle.paths.specs.Path.{Open, BarrierFree}
+use Rattle.paths.specs.Reach.{distance}
 use Rattle.paths.specs.Decide.{noBarrier, reachesFree, returns}
 
 -- Along the edges, or against them. Starts are read forward, ends backward.
@@ -57,6 +59,15 @@ starts R x = marks forward R x
 
 abbrev pub ends : Region → ℕ → ℕ
 ends R x = marks backward R x
+
+-- The fewest edges on a barrier-free path from x to y, 0 where there is none; backward: from y to x.
+abbrev pub edgesFree : Direction → Region → ℕ → ℕ → ℕ
+edgesFree forward R x y = distance (R .nodes) (R .edge) (λ z. noBarrier (R .role z)) x y
+edgesFree backward R x y = distance (R .nodes) (R .edge) (λ z. noBarrier (R .role z)) y x
+
+-- The fewest over all barriers, 0 where no such path leads from one to x; backward: from x to one.
+unfoldable pub nearest : Direction → Region → ℕ → ℕ
+nearest d R x = least (λ b. edgesFree d R (barrierAt R b) x) (length (barriers R))
 
 -- Some node has the start b and the end c (01: phase).
 unfoldable pub phase : Region → ℕ → ℕ → Bool

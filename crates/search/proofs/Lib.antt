@@ -1,4 +1,1 @@
-pub mod Bounds
-pub mod Levels
-pub mod Masks
-pub mod Turns
+pub mod Finding

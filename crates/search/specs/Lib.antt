@@ -1,2 +1,1 @@
-pub mod Invariant
-pub mod Steps
+pub mod Search

@@ -20,8 +20,9 @@ use Rattle.loading.specs.Tables.{Stops}
 use Rattle.profiles.specs.Marks.{Marks}
 use Rattle.profiles.specs.declared.chains.Sets.{Sets}
 use Rattle.pairs.specs.Rules.{profileAt, answer-by}
-use Rattle.sheets.specs.Sheet.{Closed, entryBy, Scratch}
+use Rattle.eights.specs.Eights.{covered}
 use Rattle.pairs.specs.declared.rules.Profile.{Profile}
+use Rattle.sheets.specs.Sheet.{Closed, rowOf}
 
 -- of a chart read whole, the nodes that a claim may not name are the barriers
 pub stops-closed : (D : Decoded) (stops : List ℕ) → Stops (region D) stops → Closed (region D) stops
@@ -44,26 +45,21 @@ unfolding entry
 entry-closed R a b h = rw h
 
 -- the row of a node that a claim may name, by masks
-module _ {R : Region} {marks : List (List ℕ)} {sets : Sets} {closed : List ℕ} (M : Marks R marks sets) (C : Closed R closed) where
-  pub entry-by : (a j : ℕ) → a < R .nodes → j < R .nodes → asked R a ≡ true → entryBy closed sets (profileAt marks) (profileAt marks a) j ≡ entry R a j
-  unfolding entryBy entry
-  entry-by a j la lj o = elim (truth (asked R j)) [
-    | inl h ↦ rw (C .at j lj, h, o) (sym (answer-by M a j la lj))
-    | inr h ↦ rw (C .at j lj, h, o)
-  ]
+pub entry-by : {R : Region} {marks : List (List ℕ)} {sets : Sets} {closed : List ℕ} → Marks R marks sets → Closed R closed
+    → (a j : ℕ) → a < R .nodes → j < R .nodes → asked R a ≡ true → rowOf closed sets marks (profileAt marks a) j ≡ entry R a j
+unfolding rowOf covered entry
+entry-by {R} M C a j la lj o = elim (truth (asked R j)) [
+  | inl h ↦ rw (C .at j lj, h, o) (sym (answer-by M a j la lj))
+  | inr h ↦ rw (C .at j lj, h, o)
+]
 
-  pub worked : (a n : ℕ) (own : Profile) (last : List ℕ) → R .nodes ≡ n → a < n → asked R a ≡ true → own ≡ profileAt marks a → length last ≡ 192
-      → ((j : ℕ) → j < n → getD last j 0 ≡ entryBy closed sets (profileAt marks) own j) → Scratch R a last × ((j : ℕ) → j < n → getD last j 0 ≡ entry R a j)
-  worked a n own last e l o q long at = (record { long = long; is-asked = λ l. o; at = λ l j h. made j (omega arith) }, made)
-    where
-      made : (j : ℕ) → j < n → getD last j 0 ≡ entry R a j
-      made j h = at j h ∙ ap (λ (own : Profile). entryBy closed sets (profileAt marks) own j) q ∙ entry-by a j (omega arith) (omega arith) o
-
-  -- nodes with the same masks have the same row
-  pub same-entry : (a k j : ℕ) → a < R .nodes → k < R .nodes → j < R .nodes → asked R a ≡ true → asked R k ≡ true → profileAt marks a ≡ profileAt marks k
-      → entry R k j ≡ entry R a j
-  same-entry a k j la lk lj oa ok q =
-      sym (entry-by k j lk lj ok) ∙ ap (λ (own : Profile). entryBy closed sets (profileAt marks) own j) (sym q) ∙ entry-by a j la lj oa
+-- and the scratch row, once it is that of the node
+pub kept-row : {R : Region} {marks : List (List ℕ)} {sets : Sets} {closed : List ℕ} → Marks R marks sets → Closed R closed
+    → (a j : ℕ) (r own : Profile) → a < R .nodes → j < R .nodes → (getD closed a 0 ≡ 0 → r ≡ own) → own ≡ profileAt marks a → asked R a ≡ true
+    → rowOf closed sets marks r j ≡ entry R a j
+kept-row {R} {marks} {sets} {closed} M C a j r own la lj new is o =
+    let flag : getD closed a 0 ≡ 0 = rw (C .at a la, o) in
+    ap (λ (x : Profile). rowOf closed sets marks x j) (new flag ∙ is) ∙ entry-by M C a j la lj o
 
 pub row-by : (R : Region) (a : ℕ) (l : List ℕ) → length l ≡ R .nodes → ((b : ℕ) → b < R .nodes → getD l b 0 ≡ entry R a b) → l ≡ row R a
 unfolding row

@@ -1,28 +1,46 @@
--- The sheet by masks, and the scratch row that it is written through.
+-- The sheet by masks: a row by the masks of its node, and the sets of nodes that it is written from.
 -- Assumes nothing.
 use mathlib.Core.Path.{_≡_}
-use mathlib.Core.Bool.{true, cond}
-use mathlib.Core.List.{List}
-use Prim.Native.Nat.{ℕ, _<_}
+use mathlib.Core.Bool.{Bool, _&&_, not, cond}
+use mathlib.Core.List.{List, []}
+use Prim.Native.Nat.{ℕ, _+_, _*_, _/_, _%_, _<_}
 use lib.Dec.{eqb}
-use lib.ListN.{length, getD}
+use lib.ListN.{getD}
+use Rattle.lists.specs.Bits.{has}
+use Rattle.lists.specs.Common.{common}
 use Rattle.chart.specs.Region.{Region}
 use Rattle.answers.specs.Numbers.{asked}
-use Rattle.answers.specs.Sheet.{entry}
 use Rattle.profiles.specs.declared.chains.Sets.{Sets}
-use Rattle.pairs.specs.Rules.{answerBy}
+use Rattle.unions.specs.declared.Words.{Words}
+use Rattle.nodesets.specs.Gathered.{Gathered}
+use Rattle.eights.specs.Eights.{Fence, covered}
+use Rattle.pairs.specs.Rules.{profileAt, answerBy}
 use Rattle.pairs.specs.declared.rules.Profile.{Profile}
 
 -- A flag on each node that a claim may not name.
 pub record Closed (R : Region) (closed : List ℕ) : Type 0 where
   pub at : (x : ℕ) → x < R .nodes → getD closed x 0 ≡ cond (asked R x) 0 1
 
--- Entry j of the row of a node with no flag.
-unfoldable pub entryBy : List ℕ → Sets → (ℕ → Profile) → Profile → ℕ → ℕ
-entryBy closed sets profile own j = cond (eqb (getD closed j 0) 0) (answerBy sets own (profile j)) 255
+-- Entry j of the row of a node with no flag and these masks.
+unfoldable pub rowOf : List ℕ → Sets → List (List ℕ) → Profile → ℕ → ℕ
+rowOf closed sets marks own j = covered closed j (answerBy sets own (profileAt marks j))
 
--- The scratch row is that of node x, which a claim may name; or it is none yet, and x is no node.
-pub record Scratch (R : Region) (x : ℕ) (last : List ℕ) : Type 0 where
-  pub long : length last ≡ 192
-  pub is-asked : x < R .nodes → asked R x ≡ true
-  pub at : x < R .nodes → (j : ℕ) → j < R .nodes → getD last j 0 ≡ entry R x j
+-- The first rule, by what of the rules' conditions holds.
+unfoldable pub byRules : Bool → Bool → Bool → Bool → Bool → ℕ
+byRules both master single ordered section = cond (not both) 1 (cond master 2 (cond single 3 (cond ordered 4 (cond section 5 0))))
+
+-- The sets of all nodes that are not closed, and the covers of the others.
+pub record InSets (closed : List ℕ) (marks nodes : List (List ℕ)) : Type 0 where
+  pub sets : (k : ℕ) → k < 9 → Gathered closed (getD marks (k / 3) []) (64 * (k % 3)) (getD nodes k [])
+  pub fence : Fence closed (getD nodes 9 [])
+
+-- Of 64 nodes from `first` on, those that are not closed and share a bit with the mask.
+abbrev pub SharedFrom : List ℕ → List ℕ → ℕ → ℕ → ℕ → Type 0
+SharedFrom closed masks mask first set =
+    (j : ℕ) → j < 64 → has set j ≡ (eqb (getD closed (first + j) 0) 0 && common mask (getD masks (first + j) 0))
+
+-- And of all.
+pub record Sharing (closed masks : List ℕ) (mask : ℕ) (r : Words) : Type 0 where
+  pub low : SharedFrom closed masks mask (64 * 0) (r .low)
+  pub middle : SharedFrom closed masks mask (64 * 1) (r .middle)
+  pub high : SharedFrom closed masks mask (64 * 2) (r .high)

@@ -11,7 +11,8 @@ use chart::format::Chart;
 use chart::format::Checked;
 use chart::format::Refusal;
 use loading::tables::load_tables;
-use marking::masks::fill;
+use marking::masks::fill_ends;
+use marking::masks::fill_starts;
 use marking::returns::returns;
 use profiles::chains::Sets;
 use profiles::marks::ENDS;
@@ -20,6 +21,7 @@ use profiles::marks::MaskTable;
 use profiles::marks::STARTS;
 use profiles::marks::fill_held;
 use refusals::check::check;
+use splitting::Parts;
 
 // A chart whose nodes are marked, with its constructs by kind, or the first row that applies.
 pub enum Surveyed {
@@ -33,30 +35,21 @@ fn survey_chart(s: &[u8], chart: Chart, marks: &mut MaskTable) -> Surveyed
     ensures { λ r. ⌜ checkedOf r ≡ answer (firstOf (admitRows (now (s .entry)))) (countsOf (now (s .entry))) ⌝ }
     ensures { λ r. ⌜ ((chart : Chart) (sets : Sets) → r ≡ Marked chart sets → Survey (now (s .entry)) chart (now (marks .exit)) sets) ⌝ }
 {
-    let mut ahead = [0u8; Chart::EDGES];
-    let mut behind = [0u8; Chart::EDGES];
-    let mut begins = [[0usize; Chart::PLACES]; 2];
+    let mut edges = [[0u8; Chart::EDGES]; Parts::ROWS];
+    let mut places = [0usize; Chart::PLACES];
     let mut stops = [0u8; Chart::NODES];
     let mut nodes = [0u8; Chart::BARRIERS];
-    let extent = load_tables(
-        s,
-        chart,
-        &mut ahead,
-        &mut behind,
-        &mut begins,
-        &mut stops,
-        &mut nodes,
-    );
+    let mut levels = [0u8; Chart::NODES];
+    let extent = load_tables(s, chart, &mut edges, &mut places, &mut stops, &mut nodes);
     let starts = &mut marks[STARTS];
-    if fill(&ahead, &begins[0], &stops, &nodes, extent, 0, starts) {
+    if fill_starts(&edges, &places, &stops, &nodes, extent, starts, &mut levels) {
         return Surveyed::Refused(Refusal::PATHS);
     }
-    let last = extent.barriers - 1;
     let ends = &mut marks[ENDS];
-    if fill(&behind, &begins[1], &stops, &nodes, extent, last, ends) {
+    if fill_ends(&edges, &places, &stops, &nodes, extent, ends) {
         return Surveyed::Refused(Refusal::PATHS);
     }
-    let returning = returns(s, chart, &ahead, &begins[0], &stops);
+    let returning = returns(s, chart, &edges, &places, extent.parts, &stops);
     let sets = fill_held(s, chart, returning, &mut marks[HELD]);
     Surveyed::Marked(chart, sets)
 }

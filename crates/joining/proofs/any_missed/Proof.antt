@@ -14,13 +14,13 @@ use Rattle.joining.proofs.any_missed.Statement.{statement}
 use Rattle.joining.proofs.any_missed.Tie as tie
 
 abbrev lost : List ℕ → List ℕ → ℕ → Bool
-lost stops levels x = eqb (getD stops x 0) 0 && eqb (getD levels x 0) 0
+lost stops masks x = eqb (getD stops x 0) 0 && eqb (getD masks x 0) 0
 
 abbrev Inv-loop : tie.InvT-loop
-Inv-loop stops levels n found₀ x₀ found x = (x ≤ n) × (found ≡ any x (lost stops levels))
+Inv-loop stops masks n found₀ x₀ found x = (x ≤ n) × (found ≡ any x (lost stops masks))
 
 abbrev μ-loop : tie.MeasureT-loop
-μ-loop stops levels n found₀ x₀ found x = n - x
+μ-loop stops masks n found₀ x₀ found x = n - x
 
 loop-holds : tie.Need-loop-holds Inv-loop μ-loop
 unfolding any
@@ -28,6 +28,9 @@ loop-holds c = (omega arith, refl)
 
 element-copy-out-missed : tie.Need-element-copy-out-missed Inv-loop μ-loop
 element-copy-out-missed c = omega arith
+
+mul-missed : tie.Need-mul-missed Inv-loop μ-loop
+mul-missed c = omega arith
 
 element-copy-out-missed-2 : tie.Need-element-copy-out-missed-2 Inv-loop μ-loop
 element-copy-out-missed-2 c = omega arith
@@ -65,6 +68,7 @@ any-missed-spec =
     μ-loop
     loop-holds
     element-copy-out-missed
+    mul-missed
     element-copy-out-missed-2
     missed-requires
     either-requires

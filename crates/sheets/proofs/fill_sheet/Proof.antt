@@ -1,89 +1,121 @@
 -- `sheets::fill_sheet` meets its contract. The loop's invariant: the rows passed stand at the front of the buffer.
 -- Assumes nothing.
 use mathlib.Core.Path.{_≡_, refl, ap, sym, _∙_}
-use Prim.Native.Nat.{ℕ, _+_, _*_, _-_, _≤_}
+use Prim.Native.Nat.{ℕ, _+_, _*_, _-_, _≤_, _<_}
 use native.Mathlib.Omega.{arith}
-use lib.ListN.{length}
+use lib.ListN.{length, getD}
 use Rattle.chart.specs.Format.{decode}
 use Rattle.chart.specs.Reading.{region}
 use Rattle.chart.proofs.Records.{nodes-length}
-use Rattle.sheets.specs.Sheet.{Scratch}
+use Rattle.sheets.specs.Sheet.{rowOf}
 use Rattle.lists.specs.Rows.{square, row-room, row-end, after, after-none, after-length, after-more, after-all, part-length}
 use Rattle.answers.specs.Sheet.{entry, row, sheet}
-use Rattle.sheets.proofs.Entries.{stops-closed}
+use Rattle.sheets.proofs.Entries.{stops-closed, kept-row}
 use Rattle.sheets.proofs.fill_sheet.Statement.{statement}
 use Rattle.sheets.proofs.fill_sheet.Tie as tie
 
 abbrev Inv-loop : tie.InvT-loop
-Inv-loop s marks sets out₀ closed last₀ n kept₀ a₀ out last kept a =
+Inv-loop s marks sets out₀ closed nodes spread last₀ kept₀ n a₀ out last kept a =
     let R = region (decode s) in
-    (R .nodes ≡ n) × (a ≤ n) × (length out ≡ length out₀) × (out ≡ after (entry R) (R .nodes) a out₀) × Scratch R kept last
+    (R .nodes ≡ n) × (a ≤ n) × (length out ≡ length out₀) × (out ≡ after (entry R) (R .nodes) a out₀) × (length last ≡ 192)
+    × ((j : ℕ) → j < 192 → getD last j 0 ≡ rowOf closed sets marks kept j)
 
 abbrev μ-loop : tie.MeasureT-loop
-μ-loop s marks sets out₀ closed last₀ n kept₀ a₀ out last kept a = n - a
+μ-loop s marks sets out₀ closed nodes spread last₀ kept₀ n a₀ out last kept a = n - a
 
 load-stops-requires : tie.Need-load-stops-requires Inv-loop μ-loop
 load-stops-requires c κs = c .before .before .before .pre .0
 
+gather-all-requires : tie.Need-gather-all-requires Inv-loop μ-loop
+gather-all-requires c κs = refl
+
+fill-spread-requires : tie.Need-fill-spread-requires Inv-loop μ-loop
+fill-spread-requires c κs = tt
+
+work-row-requires : tie.Need-work-row-requires Inv-loop μ-loop
+work-row-requires c κs = (c .before .before .before .fill-spread .ensures, refl)
+
+-- where the sets were gathered, and where the function was called
+abbrev gathered : tie.After-work-row Inv-loop μ-loop → tie.After-gather-all Inv-loop μ-loop
+gathered w = w .before .before .before .before .before .before
+
+abbrev start : tie.After-work-row Inv-loop μ-loop → tie.Start Inv-loop μ-loop
+start w = gathered w .before .before .before .before .before .before .before
+
 loop-holds : tie.Need-loop-holds Inv-loop μ-loop
 loop-holds c =
-    let e = c .before .before .before .before in
+    let e = start c in
     let R = region (decode (e .args .s .now)) in
     let n = nodes-length _ (e .args .chart) (e .pre .0) in (
       n,
       omega arith,
       refl,
       after-none (entry R) (R .nodes) (e .args .out .now),
-      record { long = refl; is-asked = λ l. absurd (omega arith); at = λ l. absurd (omega arith) },
+      c .work-row .ensures .0,
+      c .work-row .ensures .1 _ _ (gathered c .gather-all .ensures),
     )
 
--- where the function was called
-abbrev start : tie.At-loop Inv-loop μ-loop → tie.Start Inv-loop μ-loop
-start l = l .before .before .before .before .before
+few : (c : tie.In-loop Inv-loop μ-loop) → c .before .loop .a < 192
+few c = omega (arith, start (c .before .before) .pre .0 .nodes-most, c .loop-test .taken)
 
 -- row a ends where the next one starts, within the buffer
-ends : (c : tie.In-loop Inv-loop μ-loop) → let n = start (c .before) .args .chart .nodes in (c .before .loop .a + 1) * n ≡ c .before .loop .a * n + n
-ends c = row-end (c .before .loop .a) (start (c .before) .args .chart .nodes)
+ends : (c : tie.In-loop Inv-loop μ-loop) → let n = start (c .before .before) .args .chart .nodes in (c .before .loop .a + 1) * n ≡ c .before .loop .a * n + n
+ends c = row-end (c .before .loop .a) (start (c .before .before) .args .chart .nodes)
 
-most : (c : tie.In-loop Inv-loop μ-loop) → (c .before .loop .a + 1) * start (c .before) .args .chart .nodes ≤ 36864
+most : (c : tie.In-loop Inv-loop μ-loop) → (c .before .loop .a + 1) * start (c .before .before) .args .chart .nodes ≤ 36864
 most c =
-    let e = start (c .before) in
+    let e = start (c .before .before) in
     omega (arith, ends c, row-room (c .before .loop .a) (e .args .chart .nodes) (c .loop-test .taken), square (e .pre .0 .nodes-most))
 
-room : (c : tie.In-loop Inv-loop μ-loop) → (c .before .loop .a + 1) * start (c .before) .args .chart .nodes ≤ length (c .before .loop .out)
+room : (c : tie.In-loop Inv-loop μ-loop) → (c .before .loop .a + 1) * start (c .before .before) .args .chart .nodes ≤ length (c .before .loop .out)
 room c =
     let l = c .before in
-    let e = start l in
+    let e = start (l .before) in
     omega (arith, ends c, row-room (l .loop .a) (e .args .chart .nodes) (c .loop-test .taken), e .pre .2, l .loop .inv .2)
 
+-- the turn of the loop in which row a is filled
+abbrev turn : tie.After-last3 Inv-loop μ-loop → tie.In-loop Inv-loop μ-loop
+turn c = c .before .before .before .before .before .before .before
+
+profile-of-requires : tie.Need-profile-of-requires Inv-loop μ-loop
+profile-of-requires c κs = few c
+
+array-read-keep-row : tie.Need-array-read-keep-row Inv-loop μ-loop
+array-read-keep-row c = few (c .before)
+
+keep-row-requires : tie.Need-keep-row-requires Inv-loop μ-loop
+keep-row-requires c κs =
+    let l = c .before .before .before .before .before in
+    (l .before .before .before .before .before .fill-spread .ensures, l .loop .inv .4)
+
 mul-fill-row : tie.Need-mul-fill-row Inv-loop μ-loop
-mul-fill-row c = let i = c .before .before in omega (arith, most i, ends i)
+mul-fill-row c = let i = turn c in omega (arith, most i, ends i)
 
 add-fill-row : tie.Need-add-fill-row Inv-loop μ-loop
-add-fill-row c = omega arith
+add-fill-row c = omega (arith, few (turn c))
 
 mul-fill-row-2 : tie.Need-mul-fill-row-2 Inv-loop μ-loop
-mul-fill-row-2 c = omega (arith, most (c .before .before))
+mul-fill-row-2 c = omega (arith, most (turn c))
 
 sub-fill-row : tie.Need-sub-fill-row Inv-loop μ-loop
-sub-fill-row c = omega (arith, ends (c .before .before))
+sub-fill-row c = omega (arith, ends (turn c))
 
 part-fill-row-start : tie.Need-part-fill-row-start Inv-loop μ-loop
-part-fill-row-start c = omega (arith, ends (c .before .before))
+part-fill-row-start c = omega (arith, ends (turn c))
 
 part-fill-row-end : tie.Need-part-fill-row-end Inv-loop μ-loop
-part-fill-row-end c = room (c .before .before)
+part-fill-row-end c = room (turn c)
 
 fill-row-requires : tie.Need-fill-row-requires Inv-loop μ-loop
 fill-row-requires c κs =
-    let i = c .before .before .before in
+    let i = turn (c .before) in
     let l = i .before in
-    let e = start l in
+    let e = start (l .before) in
     let long = part-length (e .args .chart .nodes) _ _ (l .loop .out) (ends i) (room i) in
-    (omega (arith, long, e .pre .0 .nodes-most), omega (arith, long), l .loop .inv .4 .long)
+    (omega (arith, long, e .pre .0 .nodes-most), omega (arith, long))
 
 add-a : tie.Need-add-a Inv-loop μ-loop
-add-a c = omega arith
+add-a c = omega (arith, few (turn (c .before .before .before .before)))
 
 loop-less : tie.Need-loop-less Inv-loop μ-loop
 loop-less c = omega arith
@@ -92,16 +124,23 @@ loop-again : tie.Need-loop-again Inv-loop μ-loop
 unfolding row
 loop-again c =
     let f = c .before .before in
-    let i = f .before .before .before .before in
+    let y = f .before .before .before .before in
+    let p = y .before .before .before .before in
+    let i = p .before in
     let l = i .before in
-    let e = start l in
+    let e = start (l .before) in
     let R = region (decode (e .args .s .now)) in
-    let (n, below, long, done, kept) = l .loop .inv in
-    let (filled, next) = f .fill-row .ensures R (n ∙ sym (part-length (e .args .chart .nodes) _ _ (l .loop .out) (ends i) (room i))) (e .pre .1) (stops-closed (decode (e .args .s .now)) _ (l .before .load-stops .ensures)) kept in
+    let (n, below, long, done, wide, kept) = l .loop .inv in
+    let I = gathered (l .before) .gather-all .ensures in
+    let C = stops-closed (decode (e .args .s .now)) _ (gathered (l .before) .before .before .before .load-stops .ensures) in
+    let next = y .keep-row .ensures .2 _ _ I kept in
+    let filled = f .fill-row .ensures R (n ∙ sym (part-length (e .args .chart .nodes) _ _ (l .loop .out) (ends i) (room i))) C
+    (λ o j h. next j (omega (arith, n, e .pre .0 .nodes-most, h)) ∙ kept-row (e .pre .1) C (l .loop .a) j _ _ (omega (arith, n, i .loop-test .taken)) h (y .keep-row .ensures .1) (p .profile-of .ensures) o)
+    in
     let now = after-more (entry R) (R .nodes) (l .loop .a) _ _ (e .args .out .now) (l .loop .out) _ (ap (λ (k : ℕ). l .loop .a * k) (sym n))
     (ends i ∙ ap (λ (k : ℕ). l .loop .a * e .args .chart .nodes + k) (sym n)) done filled
     in
-    (n, omega arith, ap length now ∙ after-length (entry R) (R .nodes) (l .loop .a + 1) (e .args .out .now) (rw n (omega (arith, room i, long))), now, next)
+    (n, omega arith, ap length now ∙ after-length (entry R) (R .nodes) (l .loop .a + 1) (e .args .out .now) (rw n (omega (arith, room i, long))), now, y .keep-row .ensures .0, next)
 
 same-length : tie.Need-same-length Inv-loop μ-loop
 same-length c = c .before .loop .inv .2
@@ -110,7 +149,7 @@ returns : tie.Need-returns Inv-loop μ-loop
 unfolding sheet
 returns c =
     let l = c .before in
-    let e = start l in
+    let e = start (l .before) in
     let R = region (decode (e .args .s .now)) in
     let q : l .loop .a ≡ R .nodes = omega (arith, l .loop .inv .0) in
     l .loop .inv .3 ∙ ap (λ (k : ℕ). after (entry R) (R .nodes) k (e .args .out .now)) q ∙ after-all (entry R) (R .nodes) (R .nodes) (e .args .out .now)
@@ -122,7 +161,13 @@ fill-sheet-spec =
     Inv-loop
     μ-loop
     load-stops-requires
+    gather-all-requires
+    fill-spread-requires
+    work-row-requires
     loop-holds
+    profile-of-requires
+    array-read-keep-row
+    keep-row-requires
     mul-fill-row
     add-fill-row
     mul-fill-row-2

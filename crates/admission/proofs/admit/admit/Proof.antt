@@ -7,7 +7,7 @@ use Rattle.chart.specs.Format.{decode}
 use Rattle.chart.specs.Reading.{region}
 use Rattle.chart.proofs.Records.{nodes-length}
 use Rattle.loading.proofs.Loading.{barriers-most}
-use Rattle.marking.proofs.Entering.{entered-refused, entered-marked}
+use Rattle.entrance.proofs.Entering.{entered-refused, entered-marked}
 use Rattle.admission.specs.Admission.{countsIn, answer, admitted}
 use Rattle.admission.proofs.admit.admit.Statement.{statement}
 use Rattle.admission.proofs.admit.admit.Tie as tie
@@ -38,7 +38,7 @@ returns-2 c =
     let k = m .before .before in
     let E = k .enter .ensures .1 _ _ (m .chart .given .1) in
     let nodes = nodes-length _ _ (E .accepted .laid) in
-    let R = region (decode (k .before .before .before .before .args .s .now)) in
+    let R = region (decode (k .before .before .before .before .before .args .s .now)) in
     let phases = c .count .ensures R (sym nodes) (E .count) (E .has-starts) (E .has-ends) in
     rw (entered-marked _ _ _ (sym (k .enter .ensures .0) ∙ m .chart .given .1), E .count, phases, ← nodes)
 

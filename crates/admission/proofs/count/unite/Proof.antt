@@ -8,7 +8,8 @@ use borrow.Author.Needs.{needs}
 use Rattle.chart.specs.Region.{Region}
 use Rattle.phases.specs.Phases.{forward, backward}
 use Rattle.loading.specs.Tables.{Masks}
-use Rattle.admission.specs.Unions.{Added, United}
+use Rattle.unions.specs.Unions.{Added}
+use Rattle.admission.specs.Unions.{United}
 use Rattle.admission.proofs.Counting.{added-none, added-latest, united-none, united-more}
 use Rattle.admission.proofs.count.unite.Statement.{statement}
 use Rattle.admission.proofs.count.unite.Tie as tie

@@ -7,7 +7,7 @@ use Rattle.chart.specs.Format.{decode}
 use Rattle.chart.specs.Reading.{region}
 use Rattle.chart.proofs.Records.{nodes-length}
 use Rattle.paths.specs.Admission.{admitRows}
-use Rattle.marking.proofs.Entering.{entered-refused, entered-marked}
+use Rattle.entrance.proofs.Entering.{entered-refused, entered-marked}
 use Rattle.output.proofs.Outputs.{refused-before, passed-before}
 use Rattle.calls.specs.Phases.{phasesResult}
 use Rattle.calls.proofs.writing.phases.Statement.{statement}
@@ -30,7 +30,7 @@ write-phases-requires c κs =
 returns : tie.Need-returns
 returns c =
     let k = c .before .before .before in
-    let e = k .before .before .before .before .before in
+    let e = k .before .before .before .before .before .before in
     let s = e .args .s .now in
     refused-before (admitRows s) [] _ (phasesResult (region (decode s))) (e .args .out .now) _ (entered-refused _ _ _ (sym (k .enter .ensures .0) ∙ c .before .refusal .given .1))
 
@@ -42,7 +42,7 @@ returns-2 c =
     let w = c .before .before in
     let m = w .before .before .before .before .before in
     let k = m .before .before in
-    let e = k .before .before .before .before .before in
+    let e = k .before .before .before .before .before .before in
     let s = e .args .s .now in
     let R = region (decode s) in
     let E = k .enter .ensures .1 _ _ (m .chart .given .1) in

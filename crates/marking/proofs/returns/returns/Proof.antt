@@ -7,10 +7,9 @@ use borrow.Author.Needs.{needs}
 use Rattle.lists.specs.Mask.{maskOf}
 use Rattle.chart.specs.Format.{decode}
 use Rattle.chart.proofs.Records.{constructs-length}
-use Rattle.sorting.proofs.Sort.{bounded}
 use Rattle.phases.specs.Phases.{returning}
 use Rattle.loading.proofs.Accepted.{well-formed}
-use Rattle.marking.proofs.Searching.{ends-reach}
+use Rattle.marking.proofs.Searching.{ready, ends-reach}
 use Rattle.marking.proofs.returns.returns.Statement.{statement}
 use Rattle.marking.proofs.returns.returns.Tie as tie
 
@@ -24,12 +23,12 @@ returns c =
 frames-requires : tie.Need-frames-requires
 frames-requires c κs = search needs
 
-search-requires : tie.Need-search-requires
-search-requires c κs =
-    let framed = c .before .before .before in
+ahead-requires : tie.Need-ahead-requires
+ahead-requires c κs =
+    let framed = c .before .before in
     let start = framed .before .before .before .before .before in
     let (A, F, S) = start .pre in
-    ((omega (arith, A .laid .constructs-most), bounded (F .table), S .long), framed .frames .ensures .1 .node)
+    ((omega (arith, A .laid .constructs-most), ready F), framed .frames .ensures .1 .node)
 
 diagonal-requires : tie.Need-diagonal-requires
 diagonal-requires c κs = search needs
@@ -37,14 +36,14 @@ diagonal-requires c κs = search needs
 returns-2 : tie.Need-returns-2
 returns-2 c =
     let found = c .before .before .before in
-    let framed = found .before .before .before .before in
+    let framed = found .before .before .before in
     let start = framed .before .before .before .before .before in
     let s = start .args .s .now in
     let (A, F, S) = start .pre in
     c .diagonal .ensures
-    ∙ ends-reach (decode s) (well-formed _ _ A) _ (sym (constructs-length s _ (A .laid))) F S (framed .frames .ensures .0) (framed .frames .ensures .1) (found .search .ensures _ _ _ (F .table))
+    ∙ ends-reach (decode s) (well-formed _ _ A) _ (sym (constructs-length s _ (A .laid))) F S (framed .frames .ensures .0) (framed .frames .ensures .1) (found .ahead .ensures _ _ (F .split) (F .begins))
 
 pub returns-spec : {M : Type 1} → statement M
 returns-spec =
     tie.close
-    (tie.spec returns frames-requires search-requires diagonal-requires returns-2)
+    (tie.spec returns frames-requires ahead-requires diagonal-requires returns-2)

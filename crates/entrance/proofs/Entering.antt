@@ -1,0 +1,93 @@
+-- The entrance: what the two searches say about row 10, and an answer read backwards.
+-- Assumes nothing.
+use mathlib.Core.Path.{_≡_, refl, ap, _∙_}
+use mathlib.Core.Bool.{true, false}
+use mathlib.Core.List.{List}
+use mathlib.Core.Option.{Option, none, some}
+use Prim.Native.Nat.{ℕ, _-_, _≤_, _<_}
+use native.Mathlib.Omega.{arith}
+use lib.ListN.{length, getD}
+use Rattle.lists.specs.Truth.{bad, or-left, or-right, neither-or}
+use Rattle.chart.specs.Format.{decode}
+use Rattle.chart.specs.Region.{Region}
+use Rattle.chart.specs.Reading.{region}
+use Rattle.chart.specs.Refusal.{firstOf}
+use Rattle.chart.specs.Checked.{countsOf, checked}
+use Rattle.chart.specs.WellFormed.{WellFormed}
+use Rattle.chart.specs.declared.format.Chart.{Chart}
+use Rattle.chart.specs.declared.format.Refusal.{Refusal}
+use Rattle.chart.specs.declared.format.Checked.the-variants.{Passed}
+use Rattle.refusals.proofs.Outcome.{passed-none}
+use Rattle.paths.specs.Admission.{admitRows}
+use Rattle.phases.specs.Phases.{forward, backward, barriers, barrierAt}
+use Rattle.loading.specs.Tables.{Accepted, Barriers}
+use Rattle.loading.proofs.Accepted.{accepted, well-formed}
+use Rattle.loading.proofs.Loading.{barriers-most, barriers-below}
+use Rattle.loading.proofs.Rows.{refused-paths, admits}
+use Rattle.entrance.specs.Entered.{entered}
+use Rattle.joining.specs.Joined.{lost}
+use Rattle.entrance.specs.declared.Entered.the-variants.{Marked, Refused}
+use Rattle.joining.proofs.Joining.{some-barrier, both-ways}
+
+pub entered-refused : (o : Option ℕ) (counts : Chart) (barriers : ℕ) {refusal : Refusal} → entered o counts barriers ≡ Refused refusal → o ≡ some (refusal .number)
+unfolding entered
+entered-refused none counts barriers h = absurd (bad (cc))
+entered-refused (some number) counts barriers {refusal} h = ap some (ap (λ (r : Refusal). r .number) same)
+  where
+    same : record { number = number } ≡ refusal
+    same = cc
+
+pub entered-marked : (o : Option ℕ) (counts : Chart) (barriers : ℕ) {chart : Chart} {total : ℕ} → entered o counts barriers ≡ Marked chart total → o ≡ none
+unfolding entered
+entered-marked none counts barriers h = refl
+entered-marked (some number) counts barriers h = absurd (bad (cc))
+
+-- marked as two answers that are one
+pub marked-same : {a b : Chart} {m n : ℕ} → Marked a m ≡ Marked b n → (P : Chart → ℕ → Type 0) → P a m → P b n
+marked-same {a} {b} {m} {n} e P p =
+    let q : a ≡ b = cc in
+    let r : m ≡ n = cc in
+    rw (← q, ← r) p
+
+-- the barriers of an accepted chart
+
+module _ {s : List ℕ} {chart : Chart} (A : Accepted s chart) {nodes : List ℕ} {total : ℕ} (B : Barriers (region (decode s)) nodes total) where
+  pub few : total ≤ 64
+  few = omega (arith, barriers-most s chart A, B .count)
+
+  pub not-none : 0 < total
+  not-none = omega (arith, some-barrier (region (decode s)) (well-formed s chart A), B .count)
+
+  pub nodes-below : (b : ℕ) → getD nodes b 0 < 192
+  nodes-below b = omega (arith, B .at b, barriers-below s chart A b)
+
+-- row 10
+
+module _ (s : List ℕ) (chart : Chart) (h : checked s ≡ Passed chart) where
+  abbrev R : Region
+  R = region (decode s)
+
+  W : WellFormed R
+  W = well-formed s chart (accepted s chart h)
+
+  pub unreached : lost forward R (barrierAt R 0) ≡ true → firstOf (admitRows s) ≡ some 10
+  unreached f = refused-paths s chart h (both-ways R W refl refl ∙ or-left _ _ f)
+
+  module _ (total : ℕ) (q : total ≡ length (barriers R)) where
+    pub stuck : lost backward R (barrierAt R (total - 1)) ≡ true → firstOf (admitRows s) ≡ some 10
+    stuck b = refused-paths s chart h (both-ways R W refl refl ∙ or-right (lost forward R (barrierAt R 0)) _ (rw q at b))
+
+    pub connects : lost forward R (barrierAt R 0) ≡ false → lost backward R (barrierAt R (total - 1)) ≡ false → firstOf (admitRows s) ≡ none
+    connects f b = admits s chart h (both-ways R W refl refl ∙ neither-or _ _ f (rw q at b))
+
+  -- the answer of the entrance
+
+  pub refuses : (number : ℕ) → firstOf (admitRows s) ≡ some number
+      → Refused (record { number = number }) ≡ entered (firstOf (admitRows s)) (countsOf s) (length (barriers R))
+  unfolding entered
+  refuses number e = rw e
+
+  pub marks : (total : ℕ) → total ≡ length (barriers R) → firstOf (admitRows s) ≡ none
+      → Marked chart total ≡ entered (firstOf (admitRows s)) (countsOf s) (length (barriers R))
+  unfolding entered checked
+  marks total q e = rw (e, ← q, passed-none _ (countsOf s) chart h .1)

@@ -1,0 +1,76 @@
+-- `search::starts` meets its contract: the search forward, and what its masks bring to the stops.
+-- Assumes nothing.
+use native.Mathlib.Omega.{arith}
+use borrow.Author.Needs.{needs}
+use Rattle.search.proofs.Finding.{sown-fits, marked-starts}
+use Rattle.search.proofs.starts.Statement.{statement}
+use Rattle.search.proofs.starts.Tie as tie
+
+-- where the function was called
+abbrev start : (c : tie.After-depart) → tie.Start
+start c = c .before .before .before
+
+-- where the sources' edges have been followed, and all edges
+abbrev left : (c : tie.After-proceed) → tie.After-depart
+left c = c .before .before .before .before
+
+abbrev gone : (c : tie.After-clear) → tie.After-proceed
+gone c = c .before .before .before
+
+depart-requires : tie.Need-depart-requires
+depart-requires c κs =
+    let ((few, ready), nodes) = c .before .before .pre in
+    ((few, (_, _, _, ready)), nodes)
+
+fewest-requires : tie.Need-fewest-requires
+fewest-requires c κs =
+    let ((few, ready), nodes) = start (c .before) .pre in
+    ((few, (_, _, _, ready)), nodes)
+
+proceed-requires : tie.Need-proceed-requires
+proceed-requires c κs =
+    let departed = c .before .before .before in
+    let ((few, ready), nodes) = start departed .pre in
+    let w = departed .depart .ensures _ _ _ _ _ (ready .split) (ready .begins) in
+    ((_, _, ready .split), (w .long, sown-fits few w))
+
+clear-requires : tie.Need-clear-requires
+clear-requires c κs =
+    let ((few, ready), nodes) = start (left (c .before .before)) .pre in
+    (few, nodes)
+
+index-1-feed : tie.Need-index-1-feed
+index-1-feed c = search needs
+
+index-1-feed-2 : tie.Need-index-1-feed-2
+index-1-feed-2 c = search needs
+
+feed-requires : tie.Need-feed-requires
+feed-requires c κs =
+    let p = gone (c .before .before .before .before) in
+    let ((few, ready), nodes) = start (left p) .pre in
+    let C = ready .split .come in
+    let w = left p .depart .ensures _ _ _ _ _ (ready .split) (ready .begins) in
+    ((omega arith, omega (arith, C .few, ready .split .few), p .proceed .ensures _ _ _ _ (ready .split) w .long), (C .node-s, C .node-t))
+
+returns : tie.Need-returns
+returns c = λ e stops T P S.
+    let cleared = c .before .before .before .before .before in
+    let p = gone cleared in
+    let w = left p .depart .ensures e stops _ _ _ T P in (
+      marked-starts T S (p .proceed .ensures e stops _ _ T w) (cleared .clear .ensures) (c .feed .ensures),
+      p .before .before .fewest .ensures e stops _ _ _ T P S,
+    )
+
+pub starts-spec : {M : Type 1} → statement M
+starts-spec =
+    tie.close
+    (tie.spec
+    depart-requires
+    fewest-requires
+    proceed-requires
+    clear-requires
+    index-1-feed
+    index-1-feed-2
+    feed-requires
+    returns)

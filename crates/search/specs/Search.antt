@@ -1,0 +1,39 @@
+-- What a search finds, and what it works on: a table of edges that are parted by stops, and places where the edges of each node begin.
+-- Assumes nothing.
+use mathlib.Core.Path.{_≡_}
+use mathlib.Core.List.{List}
+use Prim.Native.Nat.{ℕ, _≤_, _<_}
+use lib.ListN.{length, getD}
+use Rattle.lists.specs.Mask.{Mask}
+use Rattle.paths.specs.Graph.{Places}
+use Rattle.paths.specs.Found.{Clear, Reached, Found}
+use Rattle.splitting.specs.Parts.{row, Split}
+
+-- The table is that of some edges and stops.
+pub record Ready (edges : List (List ℕ)) (places : List ℕ) (ups low ins : ℕ) : Type 0 where
+  pub count : ℕ
+  pub stops : List ℕ
+  pub split : Split edges count stops ups low ins
+  pub begins : Places (row edges 0) count places
+
+-- The sources are the nodes on which stops stand.
+pub record Standing (stops sources : List ℕ) (total : ℕ) : Type 0 where
+  pub on : (b : ℕ) → b < total → Clear stops (getD sources b 0) → ⊥
+  pub number : (y : ℕ) → (Clear stops y → ⊥) → (b : ℕ) × (b < total) × (getD sources b 0 ≡ y)
+
+-- Masks of the sources that have an edge to each node.
+pub record Sown (E : ℕ → ℕ → Type 0) (sources : List ℕ) (total : ℕ) (masks : List ℕ) : Type 0 where
+  pub long : length masks ≡ 192
+  pub mask : (y : ℕ) → Mask (λ b. E (getD sources b 0) y) total (getD masks y 0)
+
+-- Masks of the sources from which a path leads to each node that may be passed, and an edge to each stop.
+pub record Spread (E : ℕ → ℕ → Type 0) (stops sources : List ℕ) (total : ℕ) (masks : List ℕ) : Type 0 where
+  pub long : length masks ≡ 192
+  pub clear : (y : ℕ) → y < 192 → Clear stops y → Mask (λ b. Reached E (Clear stops) sources b y) total (getD masks y 0)
+  pub stop : (y : ℕ) → y < 192 → (Clear stops y → ⊥) → Mask (λ b. E (getD sources b 0) y) total (getD masks y 0)
+
+-- `all` has for every node the sources from which a path leads there, past no stop; `masks` has the same, but nothing for stops.
+pub record Marked (E : ℕ → ℕ → Type 0) (stops sources : List ℕ) (total : ℕ) (masks all : List ℕ) : Type 0 where
+  pub every : Found E (Clear stops) sources total all
+  pub clear : (y : ℕ) → Clear stops y → Mask (λ b. Reached E (Clear stops) sources b y) total (getD masks y 0)
+  pub stop : (y : ℕ) → (Clear stops y → ⊥) → getD masks y 0 ≡ 0

@@ -1,0 +1,140 @@
+-- A row from sets of nodes: an entry by what of the sets have its node.
+-- Assumes nothing.
+use mathlib.Core.Path.{_≡_, refl, ap, subst, _∙_}
+use mathlib.Core.Bool.{Bool, true, false, _&&_, _||_, not, cond}
+use mathlib.Core.List.{List, []}
+use Prim.Native.Nat.{ℕ, _+_, _*_, _-_, _/_, _%_, _^_, _<_}
+use native.Mathlib.Omega.{arith}
+use native.Mathlib.Decide.{ℕ-discrete, decLt}
+use lib.Bits.{bitAnd}
+use lib.Dec.{eqb}
+use lib.ListN.{length, getD, set}
+use lib.Seq.{getD-set-same, getD-set-other}
+use Rattle.lists.specs.Truth.{same-truth}
+use Rattle.lists.specs.Bits.{has}
+use Rattle.lists.specs.Common.{and-both, both-and, common}
+use Rattle.profiles.specs.Marks.{startsIn, endsIn, heldIn}
+use Rattle.profiles.specs.declared.chains.Sets.{Sets}
+use Rattle.unions.specs.Unions.{Joined}
+use Rattle.unions.specs.declared.Words.{Words}
+use Rattle.nodesets.specs.Gathered.{Gathered}
+use Rattle.nodesets.specs.Shared.{common-of, shared}
+use Rattle.eights.specs.Eights.{covered, digit}
+use Rattle.eights.specs.declared.Planes.{Planes}
+use Rattle.pairs.specs.Rules.{profileAt, answerBy}
+use Rattle.pairs.specs.declared.rules.Profile.{Profile}
+use Rattle.sheets.specs.Sheet.{rowOf, byRules, InSets, SharedFrom, Sharing}
+use Rattle.sheets.proofs.Ranks.{has-and}
+
+-- three masks have a bit in common, whichever two are met first
+turned : (x m y : ℕ) → common (bitAnd x m) y ≡ true → common (bitAnd x y) m ≡ true
+turned x m y h =
+    let (b, (p, q)) = common-of (bitAnd x m) y .0 h in
+    let (r, s) = and-both x m b p in
+    common-of (bitAnd x y) m .1 (b, (both-and x y b r q, s))
+
+meets : (x m y : ℕ) → common (bitAnd x m) y ≡ common (bitAnd x y) m
+meets x m y = same-truth _ _ (turned x m y) (turned x y m)
+
+not-both : (a b : Bool) → not (a && b) ≡ (not a || not b)
+not-both true b = refl
+not-both false b = refl
+
+-- one entry, where the sets have no node that is closed
+module _ (closed : List ℕ) (marks : List (List ℕ)) (sets : Sets) (own : Profile) (x : ℕ) where
+  abbrev meet : Bool → ℕ → Bool
+  meet o kind = o && common (bitAnd (own .held) kind) (profileAt marks x .held)
+
+  row-entry : {s e m k d c : Bool} → let o = eqb (getD closed x 0) 0 in
+      s ≡ (o && common (own .starts) (profileAt marks x .starts)) → e ≡ (o && common (own .ends) (profileAt marks x .ends))
+      → m ≡ meet o (sets .masters) → k ≡ meet o (sets .singles) → d ≡ meet o (sets .dos) → c ≡ meet o (sets .sections)
+      → covered closed x (byRules (s && e) m k d c) ≡ rowOf closed sets marks own x
+  unfolding rowOf covered byRules answerBy
+  row-entry {s} {e} {m} {k} {d} {c} = go (eqb (getD closed x 0) 0)
+    where
+      ruled : s ≡ common (own .starts) (profileAt marks x .starts) → e ≡ common (own .ends) (profileAt marks x .ends)
+          → m ≡ meet true (sets .masters) → k ≡ meet true (sets .singles) → d ≡ meet true (sets .dos) → c ≡ meet true (sets .sections)
+          → byRules (s && e) m k d c ≡ answerBy sets own (profileAt marks x)
+      ruled S E M K D C =
+          let y = profileAt marks x .held in
+          rw (
+            S,
+            E,
+            M ∙ meets (own .held) (sets .masters) y,
+            K ∙ meets (own .held) (sets .singles) y,
+            D ∙ meets (own .held) (sets .dos) y,
+            C ∙ meets (own .held) (sets .sections) y,
+            not-both (common (own .starts) (profileAt marks x .starts)) (common (own .ends) (profileAt marks x .ends)),
+          )
+
+      go : (o : Bool) → s ≡ (o && common (own .starts) (profileAt marks x .starts)) → e ≡ (o && common (own .ends) (profileAt marks x .ends))
+          → m ≡ meet o (sets .masters) → k ≡ meet o (sets .singles) → d ≡ meet o (sets .dos) → c ≡ meet o (sets .sections)
+          → cond o (byRules (s && e) m k d c) 255 ≡ cond o (answerBy sets own (profileAt marks x)) 255
+      go true S E M K D C = ruled S E M K D C
+      go false S E M K D C = refl
+
+-- 64 entries
+word-row : (closed : List ℕ) (marks : List (List ℕ)) (sets : Sets) (own : Profile) (w : ℕ) (p : Planes) (s e m k d c : ℕ)
+    → SharedFrom closed (startsIn marks) (own .starts) (64 * w) s → SharedFrom closed (endsIn marks) (own .ends) (64 * w) e
+    → SharedFrom closed (heldIn marks) (bitAnd (own .held) (sets .masters)) (64 * w) m → SharedFrom closed (heldIn marks) (bitAnd (own .held) (sets .singles)) (64 * w) k
+    → SharedFrom closed (heldIn marks) (bitAnd (own .held) (sets .dos)) (64 * w) d → SharedFrom closed (heldIn marks) (bitAnd (own .held) (sets .sections)) (64 * w) c
+    → ((j : ℕ) → digit p j ≡ byRules (has (bitAnd s e) j) (has m j) (has k j) (has d j) (has c j))
+    → (j : ℕ) → j < 64 → covered closed (64 * w + j) (digit p j) ≡ rowOf closed sets marks own (64 * w + j)
+unfolding profileAt
+word-row closed marks sets own w p s e m k d c S E M K D C ranks j l =
+    ap (covered closed (64 * w + j)) (ranks j ∙ ap (λ (b : Bool). byRules b (has m j) (has k j) (has d j) (has c j)) (has-and s e j))
+    ∙ row-entry closed marks sets own (64 * w + j) (S j l) (E j l) (M j l) (K j l) (D j l) (C j l)
+
+module _ (closed : List ℕ) (marks : List (List ℕ)) (sets : Sets) (own : Profile) {s e m k d c : Words}
+    (S : Sharing closed (startsIn marks) (own .starts) s) (E : Sharing closed (endsIn marks) (own .ends) e)
+    (M : Sharing closed (heldIn marks) (bitAnd (own .held) (sets .masters)) m) (K : Sharing closed (heldIn marks) (bitAnd (own .held) (sets .singles)) k)
+    (D : Sharing closed (heldIn marks) (bitAnd (own .held) (sets .dos)) d) (C : Sharing closed (heldIn marks) (bitAnd (own .held) (sets .sections)) c)
+  where
+    pub low-row : (p : Planes) → ((j : ℕ) → digit p j ≡ byRules (has (bitAnd (s .low) (e .low)) j) (has (m .low) j) (has (k .low) j) (has (d .low) j) (has (c .low) j))
+        → (j : ℕ) → j < 64 → covered closed (64 * 0 + j) (digit p j) ≡ rowOf closed sets marks own (64 * 0 + j)
+    low-row p ranks = word-row closed marks sets own 0 p (s .low) (e .low) (m .low) (k .low) (d .low) (c .low) (S .low) (E .low) (M .low) (K .low) (D .low) (C .low) ranks
+
+    pub middle-row : (p : Planes) → ((j : ℕ) → digit p j ≡ byRules (has (bitAnd (s .middle) (e .middle)) j) (has (m .middle) j) (has (k .middle) j) (has (d .middle) j) (has (c .middle) j))
+        → (j : ℕ) → j < 64 → covered closed (64 * 1 + j) (digit p j) ≡ rowOf closed sets marks own (64 * 1 + j)
+    middle-row p ranks =
+        word-row closed marks sets own 1 p (s .middle) (e .middle) (m .middle) (k .middle) (d .middle) (c .middle) (S .middle) (E .middle) (M .middle) (K .middle) (D .middle) (C .middle) ranks
+
+    pub high-row : (p : Planes) → ((j : ℕ) → digit p j ≡ byRules (has (bitAnd (s .high) (e .high)) j) (has (m .high) j) (has (k .high) j) (has (d .high) j) (has (c .high) j))
+        → (j : ℕ) → j < 64 → covered closed (64 * 2 + j) (digit p j) ≡ rowOf closed sets marks own (64 * 2 + j)
+    high-row p ranks =
+        word-row closed marks sets own 2 p (s .high) (e .high) (m .high) (k .high) (d .high) (c .high) (S .high) (E .high) (M .high) (K .high) (D .high) (C .high) ranks
+
+-- the sets of a row of masks, joined
+pub sharing-by : (closed : List ℕ) (marks nodes : List (List ℕ)) (mask row : ℕ) (r : Words) → InSets closed marks nodes → row < 3 → mask < 2 ^ 64
+    → Joined mask (getD nodes (3 * row) []) (r .low) → Joined mask (getD nodes (3 * row + 1) []) (r .middle) → Joined mask (getD nodes (3 * row + 2) []) (r .high)
+    → Sharing closed (getD marks row []) mask r
+sharing-by closed marks nodes mask row r I l bound A B C = record {
+  low = shared (of 0 (3 * row) (omega arith) (omega arith)) A bound;
+  middle = shared (of 1 (3 * row + 1) (omega arith) (omega arith)) B bound;
+  high = shared (of 2 (3 * row + 2) (omega arith) (omega arith)) C bound;
+}
+  where
+    of : (w k : ℕ) → w < 3 → k ≡ 3 * row + w → Gathered closed (getD marks row []) (64 * w) (getD nodes k [])
+    of w k m q =
+        let in-row : k / 3 ≡ row = omega arith in
+        let in-word : k % 3 ≡ w = omega arith in
+        rw (in-row, in-word) at (I .sets k (omega arith))
+
+-- three times 64 entries
+pub three-words : (P : ℕ → Type 0) → ((j : ℕ) → j < 64 → P (64 * 0 + j)) → ((j : ℕ) → j < 64 → P (64 * 1 + j)) → ((j : ℕ) → j < 64 → P (64 * 2 + j))
+    → (j : ℕ) → j < 192 → P j
+three-words P low middle high j l = go (decLt j 64) (decLt j 128)
+  where
+    go : Dec (j < 64) → Dec (j < 128) → P j
+    go (yes h) d = let q : 64 * 0 + j ≡ j = omega arith in subst P q (low j h)
+    go (no h) (yes d) = let q : 64 * 1 + (j - 64) ≡ j = omega arith in subst P q (middle (j - 64) (omega arith))
+    go (no h) (no d) = let q : 64 * 2 + (j - 128) ≡ j = omega arith in subst P q (high (j - 128) (omega arith))
+
+-- the turn of a loop that stores a row once at each index
+pub stored-row : (P : ℕ → List ℕ → Type 0) (l : List (List ℕ)) (i : ℕ) (v : List ℕ) → i < length l → P i v → ((j : ℕ) → j < i → P j (getD l j []))
+    → (j : ℕ) → j < i + 1 → P j (getD (set l i v) j [])
+stored-row P l i v b p old j h = go (ℕ-discrete j i)
+  where
+    go : Dec (j ≡ i) → P j (getD (set l i v) j [])
+    go (yes e) = rw (e, getD-set-same l i v [] b) p
+    go (no d) = rw (getD-set-other l i j v [] d) (old j (omega arith))

@@ -1,0 +1,90 @@
+-- `sheets::rows::work_row` meets its contract.
+-- Assumes nothing.
+use mathlib.Core.Path.{_≡_, refl, ap, sym, _∙_}
+use Prim.Native.Nat.{ℕ, _+_, _*_}
+use native.Mathlib.Omega.{arith}
+use lib.ListN.{getD}
+use Rattle.sheets.specs.Sheet.{rowOf}
+use Rattle.sheets.proofs.RowSets.{low-row, middle-row, high-row, three-words}
+use Rattle.sheets.proofs.rows.work_row.Statement.{statement}
+use Rattle.sheets.proofs.rows.work_row.Tie as tie
+
+abbrev start : tie.After-sharing6 → tie.Start
+start c = c .before .before .before .before .before .before .before .before .before .before .before .before .before .before
+
+sharing-requires : tie.Need-sharing-requires
+sharing-requires c κs = omega arith
+
+sharing-requires-2 : tie.Need-sharing-requires-2
+sharing-requires-2 c κs = omega arith
+
+sharing-requires-3 : tie.Need-sharing-requires-3
+sharing-requires-3 c κs = omega arith
+
+sharing-requires-4 : tie.Need-sharing-requires-4
+sharing-requires-4 c κs = omega arith
+
+sharing-requires-5 : tie.Need-sharing-requires-5
+sharing-requires-5 c κs = omega arith
+
+sharing-requires-6 : tie.Need-sharing-requires-6
+sharing-requires-6 c κs = omega arith
+
+planes-requires : tie.Need-planes-requires
+planes-requires c κs = tt
+
+index-1-put-word : tie.Need-index-1-put-word
+index-1-put-word c = omega arith
+
+put-word-requires : tie.Need-put-word-requires
+put-word-requires c κs = let s = start (c .before .before .before .before .before) in (omega arith, s .pre .0, s .pre .1)
+
+planes-requires-2 : tie.Need-planes-requires-2
+planes-requires-2 c κs = tt
+
+index-1-put-word-2 : tie.Need-index-1-put-word-2
+index-1-put-word-2 c = omega arith
+
+put-word-requires-2 : tie.Need-put-word-requires-2
+put-word-requires-2 c κs = let w = c .before .before .before .before .before in (omega arith, start (w .before .before .before .before .before .before) .pre .0, w .put-word .ensures .0)
+
+planes-requires-3 : tie.Need-planes-requires-3
+planes-requires-3 c κs = tt
+
+index-1-put-word-3 : tie.Need-index-1-put-word-3
+index-1-put-word-3 c = omega arith
+
+put-word-requires-3 : tie.Need-put-word-requires-3
+put-word-requires-3 c κs = let w = c .before .before .before .before .before in (omega arith, start (w .before .before .before .before .before .before .before .before .before .before .before .before) .pre .0, w .put-word2 .ensures .0)
+
+returns : tie.Need-returns
+returns c =
+    let p₃ = c .before .before .before in
+    let w₂ = p₃ .before .before .before in
+    let p₂ = w₂ .before .before .before in
+    let w₁ = p₂ .before .before .before in
+    let p₁ = w₁ .before .before .before in
+    let six = p₁ .before .before .before in
+    let five = six .before .before .before in
+    let four = five .before .before .before in
+    let three = four .before .before .before in
+    let two = three .before .before .before in
+    let one = two .before in
+    let e = one .before .args in (
+      c .put-word3 .ensures .0,
+      λ closed marks I.
+          let S = one .sharing .ensures closed marks I in
+          let E = two .sharing2 .ensures closed marks I in
+          let M = three .sharing3 .ensures closed marks I in
+          let K = four .sharing4 .ensures closed marks I in
+          let D = five .sharing5 .ensures closed marks I in
+          let C = six .sharing6 .ensures closed marks I in
+          three-words (λ j. getD (c .put-word3 .last .1 .1 .1 .1 .0) j 0 ≡ rowOf closed (e .sets) marks (e .own) j)
+          (λ j l. c .put-word3 .ensures .2 (64 * 0 + j) (omega arith) ∙ w₂ .put-word2 .ensures .2 (64 * 0 + j) (omega arith) ∙ w₁ .put-word .ensures .1 closed (I .fence) j l
+          ∙ low-row closed marks (e .sets) (e .own) S E M K D C _ (p₁ .planes .ensures) j l)
+          (λ j l. c .put-word3 .ensures .2 (64 * 1 + j) (omega arith) ∙ w₂ .put-word2 .ensures .1 closed (I .fence) j l ∙ middle-row closed marks (e .sets) (e .own) S E M K D C _ (p₂ .planes2 .ensures) j l)
+          (λ j l. c .put-word3 .ensures .1 closed (I .fence) j l ∙ high-row closed marks (e .sets) (e .own) S E M K D C _ (p₃ .planes3 .ensures) j l),
+    )
+
+pub work-row-spec : {M : Type 1} → statement M
+work-row-spec = tie.close (tie.spec sharing-requires sharing-requires-2 sharing-requires-3 sharing-requires-4 sharing-requires-5 sharing-requires-6 planes-requires index-1-put-word put-word-requires planes-requires-2 index-1-put-word-2 put-word-requires-2 planes-requires-3 index-1-put-word-3 put-word-requires-3 returns)

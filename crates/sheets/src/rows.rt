@@ -1,0 +1,120 @@
+// The row of a node, from sets of nodes: for each bit of a mask the nodes that have it.
+ghost use mathlib.Core.Path.{_≡_};
+ghost use mathlib.Core.List.{List, []};
+ghost use Prim.Native.Nat.{ℕ, _<_};
+ghost use lib.ListN.{length, getD};
+ghost use Rattle.lists.specs.Bits.{has};
+ghost use Rattle.eights.specs.Eights.{Spread, digit};
+ghost use Rattle.sheets.specs.Sheet.{byRules, rowOf, InSets, Sharing};
+use chart::format::Chart;
+use eights::BYTES;
+use eights::Planes;
+use eights::WORDS;
+use eights::fill_fence;
+use eights::put_word;
+use nodesets::gather;
+use pairs::rules::Profile;
+use pairs::rules::same;
+use profiles::chains::Sets;
+use profiles::marks::ENDS;
+use profiles::marks::HELD;
+use profiles::marks::MaskTable;
+use profiles::marks::STARTS;
+use unions::Words;
+use unions::join;
+
+// For each row of the table of masks three sets by bit, of 64 nodes each; behind them the covers of closed nodes.
+pub type NodeSets = [[u64; WORDS]; SETS];
+
+pub const SETS: usize = 10;
+
+pub const FENCE: usize = 9;
+
+// Set k is of row k / 3 of the masks and of the 64 nodes from 64 * (k % 3) on.
+pub fn gather_all(marks: &MaskTable, closed: &[u8; Chart::NODES], nodes: &mut NodeSets)
+    requires { ⌜ length (now nodes) ≡ 10 ⌝ }
+    ensures { λ _. ⌜ InSets (now (closed .entry)) (now (marks .entry)) (now (nodes .exit)) ⌝ }
+{
+    let mut k = 0;
+    while k < 9 {
+        gather(&marks[k / 3], closed, 64 * (k % 3), &mut nodes[k]);
+        k += 1;
+    }
+    fill_fence(closed, &mut nodes[FENCE]);
+}
+
+// The first rule of 64 nodes: those with a common phase go from rule to rule.
+fn planes(both: u64, masters: u64, singles: u64, dos: u64, sections: u64) -> Planes
+    ensures { λ r. ⌜ ((j : ℕ) → digit r j ≡ byRules (has both j) (has masters j) (has singles j) (has dos j) (has sections j)) ⌝ }
+{
+    let two = both & masters;
+    let no_master = both ^ two;
+    let three = no_master & singles;
+    let no_single = no_master ^ three;
+    let four = no_single & dos;
+    let five = (no_single ^ four) & sections;
+    Planes {
+        both,
+        odd: three | five,
+        twos: two | three,
+        fours: four | five,
+    }
+}
+
+// The nodes that are not closed and share a bit with the mask, in this row of the table of masks.
+fn sharing(mask: u64, row: usize, nodes: &NodeSets) -> Words
+    requires { ⌜ row < 3 ⌝ }
+    ensures { λ r. ⌜ ((closed : List ℕ) (marks : List (List ℕ)) → InSets closed marks (now (nodes .entry)) → Sharing closed (getD marks row []) mask r) ⌝ }
+{
+    let k = 3 * row;
+    join(mask, &nodes[k], &nodes[k + 1], &nodes[k + 2])
+}
+
+// The row of a node that has these masks and that a claim may name.
+pub fn work_row(
+    own: Profile,
+    sets: Sets,
+    nodes: &NodeSets,
+    spread: &[u64; BYTES],
+    last: &mut [u8; Chart::NODES],
+)
+    requires { ⌜ Spread (now spread) × (length (now last) ≡ 192) ⌝ }
+    ensures { λ _. ⌜ (length (now (last .exit)) ≡ 192) × ((closed : List ℕ) (marks : List (List ℕ)) → InSets closed marks (now (nodes .entry)) → (j : ℕ) → j < 192 → getD (now (last .exit)) j 0 ≡ rowOf closed sets marks own j) ⌝ }
+{
+    let s = sharing(own.starts, STARTS, nodes);
+    let e = sharing(own.ends, ENDS, nodes);
+    let m = sharing(own.held & sets.masters, HELD, nodes);
+    let k = sharing(own.held & sets.singles, HELD, nodes);
+    let d = sharing(own.held & sets.dos, HELD, nodes);
+    let c = sharing(own.held & sets.sections, HELD, nodes);
+    let low = planes(s.low & e.low, m.low, k.low, d.low, c.low);
+    put_word(low, 0, &nodes[FENCE], spread, last);
+    let middle = planes(s.middle & e.middle, m.middle, k.middle, d.middle, c.middle);
+    put_word(middle, 1, &nodes[FENCE], spread, last);
+    let high = planes(s.high & e.high, m.high, k.high, d.high, c.high);
+    put_word(high, 2, &nodes[FENCE], spread, last);
+}
+
+// The scratch row is that of the masks `kept`, and becomes that of a node unless no claim may name it. Neighbours often have the same masks,
+// and then it is there already. Returns the masks whose row it is.
+pub fn keep_row(
+    own: Profile,
+    closed: u8,
+    kept: Profile,
+    sets: Sets,
+    nodes: &NodeSets,
+    spread: &[u64; BYTES],
+    last: &mut [u8; Chart::NODES],
+) -> Profile
+    requires { ⌜ Spread (now spread) × (length (now last) ≡ 192) ⌝ }
+    ensures { λ r. ⌜ (length (now (last .exit)) ≡ 192) × (closed ≡ 0 → r ≡ own) × ((shut : List ℕ) (marks : List (List ℕ)) → InSets shut marks (now (nodes .entry)) → ((j : ℕ) → j < 192 → getD (now (last .entry)) j 0 ≡ rowOf shut sets marks kept j) → (j : ℕ) → j < 192 → getD (now (last .exit)) j 0 ≡ rowOf shut sets marks r j) ⌝ }
+{
+    if closed != 0 {
+        return kept;
+    }
+    if same(own, kept) {
+        return kept;
+    }
+    work_row(own, sets, nodes, spread, last);
+    own
+}

@@ -1,0 +1,2 @@
+// Masks closed along edges that two lists give, by sweeps until one is quiet. The theory is in specs/.
+pub mod close;
