@@ -9,13 +9,14 @@ use native.Mathlib.Omega.{arith}
 use native.Mathlib.Decide.{ℕ-discrete, decLt}
 use lib.Dec.{eqb}
 use lib.ListN.{length, getD, set, replicate, length-set, length-append, length-replicate, List·getD-eq-default}
-use borrow.Author.Tests.{eqb-true, eq-eqb, ne-eqb}
+use borrow.Author.Tests.{eqb-true, lt-ltb, eq-eqb, ne-eqb}
 use Rattle.lists.specs.Truth.{and-both, both-and}
 use Rattle.lists.specs.Range.{count, first-passes, any-at, at-any}
-use Rattle.lists.specs.Counting.{count-hit, count-mono, count-up}
+use Rattle.lists.specs.Counting.{count-hit, count-mono, count-all, count-up}
+use Rattle.lists.specs.Recount.{count-same}
 use Rattle.lists.specs.Store.{at-set, zeros}
 use Rattle.lists.specs.Select.{select, select-hit, select-miss, select-length, select-passes, append-at, append-off}
-use Rattle.chart.specs.Format.{outside, Node, Edge, decode, nodeAt, edgeAt}
+use Rattle.chart.specs.Format.{outside, Node, Edge, Decoded, decode, nodeAt, edgeAt}
 use Rattle.chart.specs.Region.{plain, barrier, opens, closes, Region}
 use Rattle.chart.specs.Scope.{roleOf, roleAt}
 use Rattle.chart.specs.Reading.{region, edgeIn, frameOf}
@@ -24,11 +25,11 @@ use Rattle.chart.specs.declared.format.Chart.{Chart}
 use Rattle.chart.proofs.Records.{nodes-length, edges-length, constructs-length}
 use Rattle.chart.proofs.Facts.{FrameAt, OneFrame, isFrame, is-frame, frame-is, frame-construct}
 use Rattle.paths.specs.Decide.{noBarrier}
-use Rattle.paths.specs.Graph.{Listed, Places, Rising}
+use Rattle.paths.specs.Graph.{lower, Listed, Places, Rising}
 use Rattle.splitting.specs.Parts.{row, Beside, Split}
 use Rattle.phases.specs.Phases.{barriers}
 use Rattle.loading.proofs.Accepted.{tables}
-use Rattle.loading.specs.Tables.{Accepted, Stops, Barriers, Noted, skip, put, Framed, Columns, Blank, Arranged}
+use Rattle.loading.specs.Tables.{Accepted, Stops, Barriers, Noted, skip, put, Framed, Columns, firstEdge, FirstEdges, Blank, Arranged, Handed}
 
 -- past the last record an edge leads from 0 to 0
 pub edge-past : (edges : List Edge) (i : ℕ) → length edges ≤ i → (edgeAt edges i .from ≡ 0) × (edgeAt edges i .to ≡ 0)
@@ -290,6 +291,34 @@ module _ (s : List ℕ) (chart : Chart) (A : Accepted s chart) {froms tos : List
     listed-edge = rw (p, q) listed-edge;
     edge-listed = rw (p, q) edge-listed;
   }
+
+-- the places, as the chart has them and as the columns do
+
+lower-same : {D : Decoded} {froms tos : List ℕ} → Columns D froms tos → (x : ℕ) → count (length (D .edges)) (lower froms x) ≡ firstEdge D x
+unfolding firstEdge
+lower-same {D} C x = count-same (length (D .edges)) _ _ (λ i _. rw (C .from i))
+
+pub first-edges : {D : Decoded} {froms tos places : List ℕ} {e : ℕ} → Columns D froms tos → e ≡ length (D .edges) → Places froms e places → FirstEdges D places
+first-edges {froms = froms} C q P = record {
+  long = P .long;
+  at = λ x h. P .at x h ∙ ap (λ (n : ℕ). count n (lower froms x)) q ∙ lower-same C x;
+}
+
+pub places-first : {D : Decoded} {froms tos places : List ℕ} → Columns D froms tos → FirstEdges D places → Places froms (length (D .edges)) places
+places-first C F = record { long = F .long; at = λ x h. F .at x h ∙ sym (lower-same C x) }
+
+pub handed : (s : List ℕ) (chart : Chart) → Accepted s chart → {froms tos : List ℕ} {edges : List (List ℕ)} {places stops : List ℕ} {ups low ins : ℕ}
+    → Columns (decode s) froms tos → row edges 0 ≡ froms → row edges 1 ≡ tos → Split edges (chart .edges) stops ups low ins
+    → FirstEdges (decode s) places → Handed (decode s) edges places ups low ins
+unfolding firstEdge
+handed s chart A {stops = stops} C p q T F = record {
+  stops = stops;
+  split = rw (edges-length s chart (A .laid)) T;
+  columns = rw (p, q) C;
+  begins = F;
+  past = F .at (length (decode s .nodes)) (omega (arith, nodes-length s chart (A .laid), A .laid .nodes-most))
+      ∙ count-all (length (decode s .edges)) _ (λ i l. lt-ltb _ _ (tables s chart A .edges .alone i l .from-below));
+}
 
 -- a table whose first rows are written
 

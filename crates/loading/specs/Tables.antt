@@ -6,7 +6,9 @@ use mathlib.Core.Bool.{Bool, cond}
 use mathlib.Core.List.{List}
 use mathlib.Core.Option.{none}
 use Prim.Native.Nat.{ℕ, _+_, _≤_, _<_}
+use lib.Dec.{ltb}
 use lib.ListN.{length, getD, set}
+use Rattle.lists.specs.Range.{count}
 use Rattle.chart.specs.Format.{Decoded, decode, nodeAt, edgeAt}
 use Rattle.chart.specs.Region.{Region}
 use Rattle.chart.specs.Refusal.{firstOf, tableRows}
@@ -28,6 +30,15 @@ pub record Accepted (s : List ℕ) (chart : Chart) : Type 0 where
 pub record Columns (D : Decoded) (froms tos : List ℕ) : Type 0 where
   pub from : (i : ℕ) → getD froms i 0 ≡ edgeAt (D .edges) i .from
   pub to : (i : ℕ) → getD tos i 0 ≡ edgeAt (D .edges) i .to
+
+-- Where the edges of node x begin in the sorted edge table: the number of edges that leave lower nodes (02: Note 3).
+unfoldable pub firstEdge : Decoded → ℕ → ℕ
+firstEdge D x = count (length (D .edges)) (λ i. ltb (edgeAt (D .edges) i .from) x)
+
+-- The places of all nodes. Where a node's edges end, those of the next begin.
+pub record FirstEdges (D : Decoded) (places : List ℕ) : Type 0 where
+  pub long : length places ≡ 193
+  pub at : (x : ℕ) → x ≤ 192 → getD places x 0 ≡ firstEdge D x
 
 -- Besides, a table of edges has rows that are not written yet.
 pub record Blank (table : List (List ℕ)) : Type 0 where
@@ -51,6 +62,15 @@ pub record Arranged (R : Region) (edges : List (List ℕ)) (places stops : List 
   pub begins : Places (row edges 0) count places
   pub listed-edge : (x y : ℕ) → Listed (row edges 0) (row edges 1) count x y → Edge R x y
   pub edge-listed : (x y : ℕ) → Edge R x y → Listed (row edges 0) (row edges 1) count x y
+
+-- What the marking is handed: the edges of a chart, parted by some stops, and the places where the nodes' edges begin.
+pub record Handed (D : Decoded) (edges : List (List ℕ)) (places : List ℕ) (ups low ins : ℕ) : Type 0 where
+  pub stops : List ℕ
+  pub split : Split edges (length (D .edges)) stops ups low ins
+  pub columns : Columns D (row edges 0) (row edges 1)
+  pub begins : FirstEdges D places
+  -- past the last node stands the number of edges
+  pub past : getD places (length (D .nodes)) 0 ≡ length (D .edges)
 
 -- A stop stands on each barrier.
 pub record Stops (R : Region) (stops : List ℕ) : Type 0 where

@@ -3,9 +3,10 @@ ghost use mathlib.Core.Path.{_≡_};
 ghost use Prim.Native.Nat.{ℕ, _≤_, _<_};
 ghost use lib.ListN.{getD, length};
 ghost use Rattle.paths.specs.Graph.{Rising, Places};
-ghost use Rattle.splitting.specs.Parts.{row, Split};
+ghost use Rattle.splitting.specs.Parts.{row};
+ghost use Rattle.chart.specs.Format.{Decoded, decode};
 ghost use Rattle.chart.specs.Checked.{reading};
-ghost use Rattle.loading.specs.Tables.{Accepted, Arranged, Stops, Barriers};
+ghost use Rattle.loading.specs.Tables.{Accepted, Columns, FirstEdges, Arranged, Handed, Stops, Barriers};
 use crate::load::load;
 use chart::format::Chart;
 use sorting::places_rising;
@@ -13,20 +14,17 @@ use splitting::Extent;
 use splitting::Parts;
 use splitting::split;
 
-fn arrange(
-    table: &mut [[u8; Chart::EDGES]; Parts::ROWS],
+// The places of all nodes, before anything is marked.
+fn find_places(
+    table: &[[u8; Chart::EDGES]; Parts::ROWS],
     e: usize,
-    stops: &[u8; Chart::NODES],
     places: &mut [usize; Chart::PLACES],
-) -> Parts
-    requires { ⌜ (e ≤ 1024) × Rising (row (now table) 0) e × (length (now table) ≡ 6) ⌝ }
-    requires { ⌜ ((r j : ℕ) → getD (row (now table) r) j 0 < 192) ⌝ }
-    requires { ⌜ ((r : ℕ) → r < 6 → length (row (now table) r) ≡ 1024) ⌝ }
-    ensures { λ r. ⌜ Split (now (table .exit)) e (now (stops .entry)) (r .ups) (r .low) (r .ins) × Places (row (now (table .exit)) 0) e (now (places .exit)) ⌝ }
-    ensures { λ _. ⌜ (row (now (table .exit)) 0 ≡ row (now (table .entry)) 0) × (row (now (table .exit)) 1 ≡ row (now (table .entry)) 1) ⌝ }
+)
+    requires { ⌜ (e ≤ 1024) × Rising (row (now table) 0) e × (length (now table) ≡ 6) × ((j : ℕ) → getD (row (now table) 0) j 0 < 192) ⌝ }
+    ensures { λ _. ⌜ Places (row (now (table .entry)) 0) e (now (places .exit)) ⌝ }
+    ensures { λ _. ⌜ ((D : Decoded) → Columns D (row (now (table .entry)) 0) (row (now (table .entry)) 1) → e ≡ length (D .edges) → FirstEdges D (now (places .exit))) ⌝ }
 {
     places_rising(&table[Parts::FROM], e, places);
-    split(table, e, stops)
 }
 
 // What the searches work on: edges, places, stops and barriers.
@@ -40,10 +38,12 @@ pub fn load_tables(
 ) -> Extent
     requires { ⌜ Accepted (now s) chart ⌝ }
     ensures { λ r. ⌜ Arranged (reading (now (s .entry)) chart) (now (table .exit)) (now (places .exit)) (now (stops .exit)) (r .parts .ups) (r .parts .low) (r .parts .ins) ⌝ }
+    ensures { λ r. ⌜ Handed (decode (now (s .entry))) (now (table .exit)) (now (places .exit)) (r .parts .ups) (r .parts .low) (r .parts .ins) ⌝ }
     ensures { λ r. ⌜ Stops (reading (now (s .entry)) chart) (now (stops .exit)) × Barriers (reading (now (s .entry)) chart) (now (nodes .exit)) (r .barriers) × (r .nodes ≡ chart .nodes) ⌝ }
 {
     let barriers = load(s, chart, table, stops, nodes);
-    let parts = arrange(table, chart.edges, stops, places);
+    find_places(table, chart.edges, places);
+    let parts = split(table, chart.edges, stops);
     Extent {
         barriers,
         nodes: chart.nodes,

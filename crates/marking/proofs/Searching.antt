@@ -25,8 +25,8 @@ use Rattle.paths.specs.Found.{Clear, Reached, Found, Leveled}
 use Rattle.paths.specs.FoundLaws.{found-carry, leveled-carry}
 use Rattle.phases.specs.Phases.{Direction, forward, backward, leads, isBoundary, barriers, barrierAt, marked, marks, edgesFree, nearest, returning}
 use Rattle.phases.specs.PhasesLaws.{is-barrier, number-barrier, barrier-number, leads-free, free-leads}
-use Rattle.loading.specs.Tables.{Along, Arranged, Stops, Barriers, Framed}
-use Rattle.loading.proofs.Loading.{stop-byte}
+use Rattle.loading.specs.Tables.{Along, Arranged, Handed, Stops, Barriers, Framed}
+use Rattle.loading.proofs.Loading.{stop-byte, places-first}
 use Rattle.splitting.specs.Parts.{row}
 use Rattle.search.specs.Search.{Ready, Standing, Spread, Marked}
 
@@ -138,9 +138,8 @@ module _ {R : Region} {stops : List ℕ} (S : Stops R stops) where
 
 -- what a search asks of the tables
 
-pub ready : {R : Region} {edges : List (List ℕ)} {places stops : List ℕ} {ups low ins : ℕ} → Arranged R edges places stops ups low ins
-    → Ready edges places ups low ins
-ready {stops = stops} T = record { count = T .count; stops = stops; split = T .split; begins = T .begins }
+pub ready : {D : Decoded} {edges : List (List ℕ)} {places : List ℕ} {ups low ins : ℕ} → Handed D edges places ups low ins → Ready edges places ups low ins
+ready {D} H = record { count = length (D .edges); stops = H .stops; split = H .split; begins = places-first (H .columns) (H .begins) }
 
 -- the constructs that return: bit c of the mask of the begin of c, in a search from the ends
 

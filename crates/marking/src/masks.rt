@@ -1,13 +1,13 @@
-// The masks of the nodes in each direction, by one search from all barriers, past no barrier, and the fewest edges from a barrier; and
-// whether a node is cut off.
+// The marking: the masks of the nodes in each direction, by one search from all barriers, past no barrier, and the fewest edges from a
+// barrier; and whether a node is cut off. It is handed the places where the nodes' edges begin (02: Note 3) and looks none up.
 ghost use mathlib.Core.Path.{_≡_};
 ghost use Prim.Native.Nat.{ℕ, _-_, _≤_, _<_};
 ghost use lib.ListN.{getD};
 ghost use Rattle.chart.specs.Region.{Region};
 ghost use Rattle.chart.specs.WellFormed.{WellFormed};
-ghost use Rattle.search.specs.Search.{Ready};
+ghost use Rattle.chart.specs.Format.{Decoded};
 ghost use Rattle.phases.specs.Phases.{forward, backward, barrierAt};
-ghost use Rattle.loading.specs.Tables.{Arranged, Stops, Barriers, Masks, Levels};
+ghost use Rattle.loading.specs.Tables.{Arranged, Handed, Stops, Barriers, Masks, Levels};
 ghost use Rattle.joining.specs.Joined.{lost};
 use chart::format::Chart;
 use joining::cut_off;
@@ -26,7 +26,7 @@ pub fn fill_starts(
     masks: &mut [u64; Chart::NODES],
     levels: &mut [u8; Chart::NODES],
 ) -> bool
-    requires { ⌜ (extent .barriers ≤ 64) × (0 < extent .barriers) × (extent .nodes ≤ 192) × Ready (now edges) (now places) (extent .parts .ups) (extent .parts .low) (extent .parts .ins) ⌝ }
+    requires { ⌜ (extent .barriers ≤ 64) × (0 < extent .barriers) × (extent .nodes ≤ 192) × ((D : Decoded) × Handed D (now edges) (now places) (extent .parts .ups) (extent .parts .low) (extent .parts .ins)) ⌝ }
     requires { ⌜ ((b : ℕ) → getD (now nodes) b 0 < 192) ⌝ }
     ensures { λ r. ⌜ ((R : Region) → WellFormed R → Arranged R (now (edges .entry)) (now (places .entry)) (now (stops .entry)) (extent .parts .ups) (extent .parts .low) (extent .parts .ins) → Stops R (now (stops .entry)) → Barriers R (now (nodes .entry)) (extent .barriers) → extent .nodes ≡ R .nodes → r ≡ lost forward R (barrierAt R 0)) ⌝ }
     ensures { λ _. ⌜ ((R : Region) → WellFormed R → Arranged R (now (edges .entry)) (now (places .entry)) (now (stops .entry)) (extent .parts .ups) (extent .parts .low) (extent .parts .ins) → Stops R (now (stops .entry)) → Barriers R (now (nodes .entry)) (extent .barriers) → Masks forward R (now (masks .exit)) × Levels forward R (now (levels .exit))) ⌝ }
@@ -45,7 +45,7 @@ pub fn fill_ends(
     extent: Extent,
     masks: &mut [u64; Chart::NODES],
 ) -> bool
-    requires { ⌜ (extent .barriers ≤ 64) × (0 < extent .barriers) × (extent .nodes ≤ 192) × Ready (now edges) (now places) (extent .parts .ups) (extent .parts .low) (extent .parts .ins) ⌝ }
+    requires { ⌜ (extent .barriers ≤ 64) × (0 < extent .barriers) × (extent .nodes ≤ 192) × ((D : Decoded) × Handed D (now edges) (now places) (extent .parts .ups) (extent .parts .low) (extent .parts .ins)) ⌝ }
     requires { ⌜ ((b : ℕ) → getD (now nodes) b 0 < 192) ⌝ }
     ensures { λ r. ⌜ ((R : Region) → WellFormed R → Arranged R (now (edges .entry)) (now (places .entry)) (now (stops .entry)) (extent .parts .ups) (extent .parts .low) (extent .parts .ins) → Stops R (now (stops .entry)) → Barriers R (now (nodes .entry)) (extent .barriers) → extent .nodes ≡ R .nodes → r ≡ lost backward R (barrierAt R (extent .barriers - 1))) ⌝ }
     ensures { λ _. ⌜ ((R : Region) → WellFormed R → Arranged R (now (edges .entry)) (now (places .entry)) (now (stops .entry)) (extent .parts .ups) (extent .parts .low) (extent .parts .ins) → Stops R (now (stops .entry)) → Barriers R (now (nodes .entry)) (extent .barriers) → Masks backward R (now (masks .exit))) ⌝ }

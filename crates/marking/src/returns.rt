@@ -6,9 +6,10 @@ ghost use lib.Bits.{bitOr};
 ghost use lib.ListN.{getD};
 ghost use Rattle.lists.specs.Mask.{maskOf};
 ghost use Rattle.lists.specs.Bits.{has as Bits·has};
+ghost use Rattle.chart.specs.Format.{decode};
 ghost use Rattle.chart.specs.Checked.{reading};
 ghost use Rattle.phases.specs.Phases.{returning};
-ghost use Rattle.loading.specs.Tables.{Accepted, Arranged, Stops};
+ghost use Rattle.loading.specs.Tables.{Accepted, Arranged, Handed, Stops};
 use bits::has;
 use chart::cursor::wide;
 use chart::format::Chart;
@@ -51,7 +52,7 @@ pub fn returns(
     parts: Parts,
     stops: &[u8; Chart::NODES],
 ) -> u64
-    requires { ⌜ Accepted (now s) chart × Arranged (reading (now s) chart) (now edges) (now places) (now stops) (parts .ups) (parts .low) (parts .ins) × Stops (reading (now s) chart) (now stops) ⌝ }
+    requires { ⌜ Accepted (now s) chart × Arranged (reading (now s) chart) (now edges) (now places) (now stops) (parts .ups) (parts .low) (parts .ins) × Stops (reading (now s) chart) (now stops) × Handed (decode (now s)) (now edges) (now places) (parts .ups) (parts .low) (parts .ins) ⌝ }
     ensures { λ r. ⌜ r ≡ returning (reading (now (s .entry)) chart) ⌝ }
 {
     let n = chart.constructs;

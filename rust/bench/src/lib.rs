@@ -4,6 +4,7 @@
 #[cfg(feature = "before")]
 pub mod before;
 pub mod calls;
+pub mod first_edges;
 pub mod subject;
 pub mod table;
 mod timing;

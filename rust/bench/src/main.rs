@@ -1,8 +1,9 @@
 //! Prints, for each chart of the benchmark and each call, the library's time by those of the best Rust
-//! known for the same job, with the fewest edges to every node worked out in each call and without.
+//! known for the same job, with the fewest edges to every node worked out in each call and without; then
+//! the time of a search with first edges found ahead by that with first edges looked up.
 
 use bench::calls::{LIBRARY, WITHOUT_LEVELS, WITH_LEVELS};
-use bench::table;
+use bench::{first_edges, table};
 
 fn main() {
     table::print([
@@ -10,4 +11,5 @@ fn main() {
         ("Rust with levels", WITH_LEVELS),
         ("Rust without", WITHOUT_LEVELS),
     ]);
+    first_edges::print();
 }

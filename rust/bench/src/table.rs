@@ -2,10 +2,7 @@
 
 use crate::calls::Calls;
 use crate::subject::{Call, Subject};
-
-/// All is measured so many times over, so that what disturbs the machine for a while spoils one time
-/// only.
-const ROUNDS: usize = 3;
+use crate::timing::{lower, ROUNDS};
 
 /// Implementations by their names; the first is the one that is measured.
 pub type By<const N: usize> = [(&'static str, Calls); N];
@@ -38,7 +35,7 @@ pub fn print<const N: usize>(by: By<N>) {
 fn measure<const N: usize>(subject: &Subject, by: &By<N>, times: &mut Times<N>) {
     for (call, times) in Call::ALL.into_iter().zip(times) {
         let taken = subject.times(call, by.each_ref().map(|(_, calls)| calls));
-        *times = std::array::from_fn(|index| times[index].min(taken[index]));
+        lower(times, taken);
     }
 }
 

@@ -3,6 +3,9 @@
 use std::hint::black_box;
 use std::time::Instant;
 
+/// All is measured so many times over, so that what disturbs the machine for a while spoils one time
+/// only.
+pub const ROUNDS: usize = 3;
 const TURNS: usize = 256;
 /// A turn repeats a call for about so many nanoseconds.
 const TURN: f64 = 200_000.0;
@@ -24,6 +27,11 @@ pub fn least<const N: usize>(mut call: impl FnMut(usize) -> i64) -> [f64; N] {
         }
     }
     times
+}
+
+/// Lowers times to those of one round.
+pub fn lower<const N: usize>(times: &mut [f64; N], taken: [f64; N]) {
+    *times = std::array::from_fn(|index| times[index].min(taken[index]));
 }
 
 fn turn(call: &mut impl FnMut(usize) -> i64, index: usize, repeats: usize) -> f64 {

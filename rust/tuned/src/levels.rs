@@ -1,6 +1,6 @@
 //! The fewest edges on a barrier-free path from any start, by sweeps or by one search.
 
-use crate::by_node::ByNode;
+use crate::by_node::{ByNode, FoundAhead};
 use crate::edges::{ends_of, Edge, Edges};
 use crate::nodes::Nodes;
 use crate::sweeps::{FEW, MOST};
@@ -83,15 +83,20 @@ impl Queue {
     }
 }
 
-/// One search from all barriers, breadth first. Barriers get level 0.
+/// The search as the calls make it: with all first edges found ahead.
 #[inline(always)]
 pub fn search(t: &Tables, nodes: &Nodes, levels: &mut Levels) {
-    let by_node = ByNode::of(t);
+    let by_node = FoundAhead::of(t);
+    search_by(&by_node, t, &nodes.barrier[..nodes.barriers], levels);
+}
+
+/// One search from all barriers, breadth first. Barriers get level 0.
+#[inline(always)]
+pub fn search_by<'a>(by_node: &impl ByNode<'a>, t: &Tables, barriers: &[u8], levels: &mut Levels) {
     let mut queue = Queue {
         nodes: [0; 256],
-        tail: nodes.barriers,
+        tail: barriers.len(),
     };
-    let barriers = &nodes.barrier[..nodes.barriers];
     for (place, &barrier) in queue.nodes.iter_mut().zip(barriers) {
         *place = barrier;
         levels[usize::from(barrier)] = 0;

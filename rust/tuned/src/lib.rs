@@ -16,6 +16,7 @@ mod bits;
 mod by_node;
 mod constructs;
 mod edges;
+pub mod first_edges;
 mod levels;
 mod loops;
 mod marks;

@@ -3,7 +3,7 @@
 //! chart. The search is Pearce's, with the path of the depth-first search kept by hand.
 
 use crate::bits::Masks;
-use crate::by_node::ByNode;
+use crate::by_node::{ByNode, FoundAhead};
 use crate::edges::Edge;
 use crate::sweeps::sweep_long;
 use crate::tables::{Tables, MOST_EDGES};
@@ -21,7 +21,7 @@ pub struct Loops {
 
 impl Loops {
     pub fn of(t: &Tables, barriers: &[u8]) -> Loops {
-        let table = ByNode::of(t);
+        let table = FoundAhead::of(t);
         let mut search = Search::new(&table, barriers);
         for node in 0..t.nodes.len() as u8 {
             search.from(node);
@@ -62,7 +62,7 @@ impl Loops {
 /// the nodes known to be on a loop with it. Indices in use and slots given are together no more than the
 /// nodes, so that they are told apart.
 struct Search<'t, 'a> {
-    table: &'t ByNode<'a>,
+    table: &'t FoundAhead<'a>,
     slot: [u8; 256],
     /// The nodes that are no barriers, each behind those it leads to outside its loop.
     sequence: [u8; 256],
@@ -81,7 +81,7 @@ struct Search<'t, 'a> {
 }
 
 impl<'t, 'a> Search<'t, 'a> {
-    fn new(table: &'t ByNode<'a>, barriers: &[u8]) -> Search<'t, 'a> {
+    fn new(table: &'t FoundAhead<'a>, barriers: &[u8]) -> Search<'t, 'a> {
         let mut slot = [0; 256];
         // No index is as high, so that a barrier is on no loop.
         for &barrier in barriers {

@@ -7,7 +7,7 @@ use crate::tables::{Tables, MOST_BARRIERS, MOST_NODES};
 use std::ops::Range;
 
 const PLAIN: u8 = 0;
-const BARRIER: u8 = 1;
+pub const BARRIER: u8 = 1;
 const BEGIN: u8 = 2;
 const END: u8 = 3;
 

@@ -10,7 +10,6 @@ use Rattle.chart.specs.Reading.{region}
 use Rattle.chart.proofs.Records.{nodes-length}
 use Rattle.loading.specs.Tables.{Accepted}
 use Rattle.loading.proofs.Accepted.{accepted, well-formed}
-use Rattle.marking.proofs.Searching.{ready}
 use Rattle.entrance.specs.Entered.{Entry}
 use Rattle.entrance.proofs.Entering.{marked-same, few, not-none, nodes-below, unreached, stuck, connects, refuses, marks}
 use Rattle.entrance.proofs.enter_chart.Statement.{statement}
@@ -37,15 +36,15 @@ fill-starts-requires : tie.Need-fill-starts-requires
 fill-starts-requires c κs =
     let l = c .before .before .before .before .before .before in
     let A = is-accepted l in
-    let (T, (S, N, Q)) = l .load-tables .ensures in
-    ((few A N, not-none A N, omega (arith, Q, A .laid .nodes-most), ready T), nodes-below A N)
+    let (T, (H, (S, N, Q))) = l .load-tables .ensures in
+    ((few A N, not-none A N, omega (arith, Q, A .laid .nodes-most), (_, H)), nodes-below A N)
 
 returns : tie.Need-returns
 returns c =
     let l = loaded (c .before) in
     let e = start l in
     let A = is-accepted l in
-    let (T, (S, N, Q)) = l .load-tables .ensures in
+    let (T, (H, (S, N, Q))) = l .load-tables .ensures in
     let lost = c .before .fill-starts .ensures .0 _ (well-formed _ _ A) T S N (Q ∙ sym (nodes-length _ _ (A .laid))) in
     (refuses _ _ (e .pre) 10 (unreached _ _ (e .pre) (sym lost ∙ c .if1 .taken)), λ chart total q. absurd (bad (cc)))
 
@@ -53,15 +52,15 @@ fill-ends-requires : tie.Need-fill-ends-requires
 fill-ends-requires c κs =
     let l = loaded (c .before .before .before .before .before .before) in
     let A = is-accepted l in
-    let (T, (S, N, Q)) = l .load-tables .ensures in
-    ((few A N, not-none A N, omega (arith, Q, A .laid .nodes-most), ready T), nodes-below A N)
+    let (T, (H, (S, N, Q))) = l .load-tables .ensures in
+    ((few A N, not-none A N, omega (arith, Q, A .laid .nodes-most), (_, H)), nodes-below A N)
 
 returns-2 : tie.Need-returns-2
 returns-2 c =
     let l = loaded (forth (c .before) .before) in
     let e = start l in
     let A = is-accepted l in
-    let (T, (S, N, Q)) = l .load-tables .ensures in
+    let (T, (H, (S, N, Q))) = l .load-tables .ensures in
     let lost = c .before .fill-ends .ensures .0 _ (well-formed _ _ A) T S N (Q ∙ sym (nodes-length _ _ (A .laid))) in
     (refuses _ _ (e .pre) 10 (stuck _ _ (e .pre) _ (N .count) (sym lost ∙ c .if2 .taken)), λ chart total q. absurd (bad (cc)))
 
@@ -72,7 +71,7 @@ returns-3 c =
     let e = start l in
     let A = is-accepted l in
     let W = well-formed _ _ A in
-    let (T, (S, N, Q)) = l .load-tables .ensures in
+    let (T, (H, (S, N, Q))) = l .load-tables .ensures in
     let n = Q ∙ sym (nodes-length _ _ (A .laid)) in
     let (lost, starts) = left .before .fill-starts .ensures in
     let (lost′, ends) = c .before .fill-ends .ensures in

@@ -10,7 +10,6 @@ use Rattle.chart.proofs.Records.{nodes-length}
 use Rattle.refusals.proofs.Outcome.{passed-none}
 use Rattle.loading.specs.Tables.{Accepted}
 use Rattle.loading.proofs.Accepted.{accepted, well-formed}
-use Rattle.marking.proofs.Searching.{ready}
 use Rattle.entrance.proofs.Entering.{few, not-none, nodes-below, unreached, stuck, connects}
 use Rattle.survey.specs.Surveyed.{checkedOf}
 use Rattle.profiles.proofs.Nodes.{all-marks}
@@ -41,8 +40,8 @@ fill-starts-requires : tie.Need-fill-starts-requires
 fill-starts-requires c κs =
     let l = c .before .before .before .before .before .before in
     let A = is-accepted l in
-    let (T, (S, N, Q)) = l .load-tables .ensures in
-    ((few A N, not-none A N, omega (arith, Q, A .laid .nodes-most), ready T), nodes-below A N)
+    let (T, (H, (S, N, Q))) = l .load-tables .ensures in
+    ((few A N, not-none A N, omega (arith, Q, A .laid .nodes-most), (_, H)), nodes-below A N)
 
 returns : tie.Need-returns
 unfolding checkedOf answer
@@ -50,7 +49,7 @@ returns c =
     let l = loaded (c .before) in
     let h = start l .pre .0 in
     let A = is-accepted l in
-    let (T, (S, N, Q)) = l .load-tables .ensures in
+    let (T, (H, (S, N, Q))) = l .load-tables .ensures in
     let lost = c .before .fill-starts .ensures .0 _ (well-formed _ _ A) T S N (Q ∙ sym (nodes-length _ _ (A .laid))) in
     (rw (unreached _ _ h (sym lost ∙ c .if1 .taken)), λ chart sets q. absurd (bad (cc)))
 
@@ -61,8 +60,8 @@ fill-ends-requires : tie.Need-fill-ends-requires
 fill-ends-requires c κs =
     let l = loaded (c .before .before .before .before .before .before) in
     let A = is-accepted l in
-    let (T, (S, N, Q)) = l .load-tables .ensures in
-    ((few A N, not-none A N, omega (arith, Q, A .laid .nodes-most), ready T), nodes-below A N)
+    let (T, (H, (S, N, Q))) = l .load-tables .ensures in
+    ((few A N, not-none A N, omega (arith, Q, A .laid .nodes-most), (_, H)), nodes-below A N)
 
 returns-2 : tie.Need-returns-2
 unfolding checkedOf answer
@@ -70,15 +69,15 @@ returns-2 c =
     let l = loaded (forth (c .before) .before) in
     let h = start l .pre .0 in
     let A = is-accepted l in
-    let (T, (S, N, Q)) = l .load-tables .ensures in
+    let (T, (H, (S, N, Q))) = l .load-tables .ensures in
     let lost = c .before .fill-ends .ensures .0 _ (well-formed _ _ A) T S N (Q ∙ sym (nodes-length _ _ (A .laid))) in
     (rw (stuck _ _ h _ (N .count) (sym lost ∙ c .if2 .taken)), λ chart sets q. absurd (bad (cc)))
 
 returns-requires : tie.Need-returns-requires
 returns-requires c κs =
     let l = loaded (forth (c .before .before .before .before) .before) in
-    let (T, (S, N, Q)) = l .load-tables .ensures in
-    (is-accepted l, T, S)
+    let (T, (H, (S, N, Q))) = l .load-tables .ensures in
+    (is-accepted l, T, S, H)
 
 index-1-fill-held : tie.Need-index-1-fill-held
 index-1-fill-held c = search needs
@@ -98,7 +97,7 @@ returns-3 c =
     let e = start l in
     let A = is-accepted l in
     let W = well-formed _ _ A in
-    let (T, (S, N, Q)) = l .load-tables .ensures in
+    let (T, (H, (S, N, Q))) = l .load-tables .ensures in
     let n = Q ∙ sym (nodes-length _ _ (A .laid)) in
     let (lost, starts) = left′ .before .fill-starts .ensures in
     let (lost′, ends) = back .fill-ends .ensures in

@@ -1,28 +1,46 @@
--- `loading::tables::load_tables` meets its contract: what is loaded and arranged is the region's.
+-- `loading::tables::load_tables` meets its contract: what is loaded, found and parted is the chart's.
 -- Assumes nothing.
-use mathlib.Core.Path.{refl}
+use mathlib.Core.Path.{refl, sym}
 use borrow.Author.Needs.{needs}
-use Rattle.loading.proofs.Loading.{rising, arranged, nodes-fit}
+use Rattle.chart.proofs.Records.{edges-length}
+use Rattle.loading.proofs.Loading.{rising, arranged, handed, ends-below, nodes-fit}
 use Rattle.loading.proofs.tables.load_tables.Statement.{statement}
 use Rattle.loading.proofs.tables.load_tables.Tie as tie
+
+-- where the function was called
+abbrev start : (c : tie.After-load) → tie.Start
+start c = c .before .before .before .before .before
+
+-- where the edges are loaded
+abbrev loaded : (c : tie.After-find-places) → tie.After-load
+loaded c = c .before .before .before
 
 load-requires : tie.Need-load-requires
 load-requires c κs = search needs
 
-arrange-requires : tie.Need-arrange-requires
-arrange-requires c κs =
-    let ld = c .before .before .before in
-    let A = ld .before .before .before .before .before .pre in
+find-places-requires : tie.Need-find-places-requires
+find-places-requires c κs =
+    let ld = c .before .before in
+    let A = start ld .pre in
+    let ((C, B), (S, N)) = ld .load .ensures in
+    (A .laid .edges-most, rising _ _ A C, B .six, λ j. ends-below _ _ A C j .0)
+
+split-requires : tie.Need-split-requires
+split-requires c κs =
+    let ld = loaded (c .before .before) in
+    let A = start ld .pre in
     let ((C, B), (S, N)) = ld .load .ensures in
     ((A .laid .edges-most, rising _ _ A C, B .six), (nodes-fit _ _ A C B, B .long))
 
 returns : tie.Need-returns
 returns c =
-    let ld = c .before .before .before .before in
-    let A = ld .before .before .before .before .before .pre in
+    let found = c .before .before .before in
+    let ld = loaded found in
+    let A = start ld .pre in
     let ((C, B), (S, N)) = ld .load .ensures in
-    let ((T, P), (p, q)) = c .arrange .ensures in
-    (arranged _ _ A C p q T P, (S, N, refl))
+    let (P, first) = found .find-places .ensures in
+    let (T, (p, q)) = c .split .ensures in
+    (arranged _ _ A C p q T (rw p P), (handed _ _ A C p q T (first _ C (sym (edges-length _ _ (A .laid)))), (S, N, refl)))
 
 pub load-tables-spec : {M : Type 1} → statement M
-load-tables-spec = tie.close (tie.spec load-requires arrange-requires returns)
+load-tables-spec = tie.close (tie.spec load-requires find-places-requires split-requires returns)

@@ -3,21 +3,21 @@
 use native.Mathlib.Omega.{arith}
 use Rattle.paths.specs.FoundLaws.{listed-turned}
 use Rattle.phases.specs.Phases.{backward}
-use Rattle.marking.proofs.Searching.{standing, found-along, all-masks}
+use Rattle.marking.proofs.Searching.{ready, standing, found-along, all-masks}
 use Rattle.marking.proofs.masks.fill_ends.Statement.{statement}
 use Rattle.marking.proofs.masks.fill_ends.Tie as tie
 
 ends-requires : tie.Need-ends-requires
 ends-requires c κs =
-    let ((few, some, nodes, ready), below) = c .before .before .pre in
-    ((few, ready), below)
+    let ((few, some, nodes, (D, handed)), below) = c .before .before .pre in
+    ((few, ready handed), below)
 
 sub-cut-off : tie.Need-sub-cut-off
 sub-cut-off c = omega (arith, c .before .before .before .before .before .pre .0 .1)
 
 cut-off-requires : tie.Need-cut-off-requires
 cut-off-requires c κs =
-    let ((few, some, nodes, ready), below) = c .before .before .before .before .before .pre in
+    let ((few, some, nodes, (D, handed)), below) = c .before .before .before .before .before .pre in
     ((few, omega arith, nodes), below)
 
 returns : tie.Need-returns

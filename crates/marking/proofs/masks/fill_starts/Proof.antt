@@ -1,18 +1,18 @@
 -- `marking::masks::fill_starts` meets its contract.
 -- Assumes nothing.
 use Rattle.phases.specs.Phases.{forward}
-use Rattle.marking.proofs.Searching.{standing, found-along, all-masks, all-levels}
+use Rattle.marking.proofs.Searching.{ready, standing, found-along, all-masks, all-levels}
 use Rattle.marking.proofs.masks.fill_starts.Statement.{statement}
 use Rattle.marking.proofs.masks.fill_starts.Tie as tie
 
 starts-requires : tie.Need-starts-requires
 starts-requires c κs =
-    let ((few, some, nodes, ready), below) = c .before .before .before .pre in
-    ((few, ready), below)
+    let ((few, some, nodes, (D, handed)), below) = c .before .before .before .pre in
+    ((few, ready handed), below)
 
 cut-off-requires : tie.Need-cut-off-requires
 cut-off-requires c κs =
-    let ((few, some, nodes, ready), below) = c .before .before .before .before .before .pre in
+    let ((few, some, nodes, (D, handed)), below) = c .before .before .before .before .before .pre in
     ((few, some, nodes), below)
 
 returns : tie.Need-returns

@@ -27,8 +27,8 @@ ahead-requires : tie.Need-ahead-requires
 ahead-requires c κs =
     let framed = c .before .before in
     let start = framed .before .before .before .before .before in
-    let (A, F, S) = start .pre in
-    ((omega (arith, A .laid .constructs-most), ready F), framed .frames .ensures .1 .node)
+    let (A, F, S, H) = start .pre in
+    ((omega (arith, A .laid .constructs-most), ready H), framed .frames .ensures .1 .node)
 
 diagonal-requires : tie.Need-diagonal-requires
 diagonal-requires c κs = search needs
@@ -39,7 +39,7 @@ returns-2 c =
     let framed = found .before .before .before in
     let start = framed .before .before .before .before .before in
     let s = start .args .s .now in
-    let (A, F, S) = start .pre in
+    let (A, F, S, H) = start .pre in
     c .diagonal .ensures
     ∙ ends-reach (decode s) (well-formed _ _ A) _ (sym (constructs-length s _ (A .laid))) F S (framed .frames .ensures .0) (framed .frames .ensures .1) (found .ahead .ensures _ _ (F .split) (F .begins))
 
