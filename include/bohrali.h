@@ -25,7 +25,9 @@ extern "C" {
 
 /* The chart: node records, edge records, construct records and the trailer, one after the other.
  * Fields of two bytes are unsigned and little-endian. Nodes and constructs are numbered from 0 in
- * the order of their records. With n nodes, e edges and c constructs:
+ * the order of their records. There are two editions: in edition 2 a construct record has two bytes
+ * more, its filter. With n nodes, e edges, and c constructs of w bytes, 4 in edition 1 and 6 in
+ * edition 2:
  *
  *     at 0               n nodes, 4 bytes each
  *         0  kind            BOHRALI_NODE_..
@@ -35,22 +37,29 @@ extern "C" {
  *     at 4n              e edges, 2 bytes each
  *         0  from            a node
  *         1  to              a node
- *     at 4n + 2e         c constructs, 4 bytes each
+ *     at 4n + 2e         c constructs, w bytes each
  *         0  kind            BOHRALI_CONSTRUCT_..
  *         1  parent          the innermost construct around it, of a lower number, or none
  *         2  name            2 bytes: of a critical the number of its name, 0 if unnamed; of other
  *                            kinds 0
- *     at 4n + 2e + 4c    the trailer, 16 bytes: 8 fields of 2 bytes
- *         0  edition         BOHRALI_TRAILER_EDITION
+ *         4  filter          edition 2 alone, 2 bytes: of a master, there called masked, the number
+ *                            of the thread that goes in, any from 0 to 65535; of other kinds 0
+ *     at 4n + 2e + wc    the trailer, 16 bytes: 8 fields of 2 bytes
+ *         0  edition         1 or 2: BOHRALI_TRAILER_EDITION or BOHRALI_TRAILER_EDITION_2
  *         2  nodes           n
  *         4  edges           e
  *         6  constructs      c
- *         8  to nodes        from the chart's end back to the first node: 4n + 2e + 4c + 16
- *        10  to edges        from the chart's end back to the first edge: 2e + 4c + 16
- *        12  to constructs   from the chart's end back to the first construct: 4c + 16
+ *         8  to nodes        from the chart's end back to the first node: 4n + 2e + wc + 16
+ *        10  to edges        from the chart's end back to the first edge: 2e + wc + 16
+ *        12  to constructs   from the chart's end back to the first construct: wc + 16
  *        14  closing         BOHRALI_TRAILER_CLOSING, which is the bytes 4F 43 (hexadecimal)
  *
- * The length is 4n + 2e + 4c + 16. "None" is BOHRALI_CONSTRUCT_NONE.
+ * The length is 4n + 2e + wc + 16: in edition 1 4n + 2e + 4c + 16, in edition 2 4n + 2e + 6c + 16.
+ * "None" is BOHRALI_CONSTRUCT_NONE. Both editions have all kinds.
+ *
+ * Masked. The threads of a team are numbered from 0. Into a masked construct goes the thread whose
+ * number is its filter, and no other: any other goes straight from its begin to its end, and in a
+ * team without that number all do. A master of edition 1 is one of filter 0.
  *
  * Nodes. Node 0 is Start and node n - 1 is Finish; both are barriers. Barriers, these two among
  * them, are numbered from 0 by rising node number. Each construct has exactly one begin and one
@@ -70,16 +79,18 @@ extern "C" {
  * to each section's begin, and one from each section's end to its end.
  *
  * Nesting. Above a construct are its parent, that one's parent, and so on. Above a single, a do or
- * a sections: nothing. Above a master: criticals only. Above an ordered: a do only, and that is its
- * parent. Above a section: a sections only, and that is its parent. Above a critical: any kind, but
- * no critical of the same name; unnamed ones have the same name. Directly in a sections lie only
- * the begins and ends of its sections: a plain node or a critical lies in one of these.
+ * a sections: nothing. Above a master or masked: criticals only. Above an ordered: a do only, and
+ * that is its parent. Above a section: a sections only, and that is its parent. Above a critical:
+ * any kind, but no critical of the same name; unnamed ones have the same name. Directly in a
+ * sections lie only the begins and ends of its sections: a plain node or a critical lies in one of
+ * these.
  *
  * Edges are for a thread that enters. None is needed for threads that go straight from the begin of
- * a master, a single, a do or a sections to its end, from a do's end to the next iteration, or from
- * the end of a sections to a section that is left to take; a path of edges from a construct's end
- * to its begin brings threads to the whole construct again. A barrier that OpenMP implies, as after
- * a single, a do or a sections without NOWAIT, is a barrier node like any other. */
+ * a master or masked, a single, a do or a sections to its end, from a do's end to the next
+ * iteration, or from the end of a sections to a section that is left to take; a path of edges from
+ * a construct's end to its begin brings threads to the whole construct again. A barrier that OpenMP
+ * implies, as after a single, a do or a sections without NOWAIT, is a barrier node like any other.
+ */
 
 /* Limits of a chart. Barriers are never fewer than 2: Start and Finish. */
 #define BOHRALI_LEAST_NODES 2
@@ -89,18 +100,21 @@ extern "C" {
 #define BOHRALI_MOST_CONSTRUCTS 48
 #define BOHRALI_MOST_BARRIERS 64
 
-/* The length of the longest chart. */
-#define BOHRALI_MOST_CHART_BYTES 3024
+/* The length of the longest chart, which is one of edition 2. */
+#define BOHRALI_MOST_CHART_BYTES 3120
 
-/* Sizes of the records, and of what bohrali_phases writes for each node. */
+/* Sizes of the records, CONSTRUCT_2 that of a construct in edition 2, and of what bohrali_phases
+ * writes for each node. */
 #define BOHRALI_BYTES_NODE 4
 #define BOHRALI_BYTES_EDGE 2
 #define BOHRALI_BYTES_CONSTRUCT 4
+#define BOHRALI_BYTES_CONSTRUCT_2 6
 #define BOHRALI_BYTES_TRAILER 16
 #define BOHRALI_BYTES_PHASES 16
 
 /* Fields of the trailer. */
 #define BOHRALI_TRAILER_EDITION 1
+#define BOHRALI_TRAILER_EDITION_2 2
 #define BOHRALI_TRAILER_CLOSING 0x434F
 
 /* Kinds of nodes. */
@@ -114,7 +128,7 @@ enum bohrali_node_kind {
 /* Kinds of constructs. */
 enum bohrali_construct_kind {
     BOHRALI_CONSTRUCT_SINGLE = 1,
-    BOHRALI_CONSTRUCT_MASTER = 2,
+    BOHRALI_CONSTRUCT_MASTER = 2,   /* in edition 2 masked, with a filter */
     BOHRALI_CONSTRUCT_CRITICAL = 3,
     BOHRALI_CONSTRUCT_DO = 4,
     BOHRALI_CONSTRUCT_ORDERED = 5,
@@ -138,7 +152,8 @@ enum bohrali_construct_kind {
 enum bohrali_answer {
     BOHRALI_ANSWER_CONCURRENT = 0,      /* they can */
     BOHRALI_ANSWER_NO_COMMON_PHASE = 1, /* never: no common start, or no common end */
-    BOHRALI_ANSWER_MASTER = 2,          /* never: each is inside some master */
+    BOHRALI_ANSWER_MASTER = 2,          /* never: both inside masked constructs of the same filter;
+                                           in edition 1: each is inside some master */
     BOHRALI_ANSWER_SINGLE = 3,          /* never: both inside one single, which does not return */
     BOHRALI_ANSWER_ORDERED = 4,         /* never: both inside ordereds of one do, which does not
                                            return */
@@ -153,12 +168,14 @@ enum bohrali_answer {
  * checked over the whole chart, or the whole list of claims, before the next. */
 enum bohrali_refusal {
     BOHRALI_REFUSED_SHORT = 1,     /* fewer than 16 bytes */
-    BOHRALI_REFUSED_MARKS = 2,     /* edition or closing bytes differ */
+    BOHRALI_REFUSED_MARKS = 2,     /* edition neither 1 nor 2, or closing bytes differ */
     BOHRALI_REFUSED_COUNTS = 3,    /* node, edge or construct count outside its limits */
-    BOHRALI_REFUSED_LENGTHS = 4,   /* length or a distance of the trailer differs */
+    BOHRALI_REFUSED_LENGTHS = 4,   /* length or a distance of the trailer differs from what the
+                                      edition asks */
     BOHRALI_REFUSED_NODE = 5,      /* a node's kind or construct number */
-    BOHRALI_REFUSED_CONSTRUCT = 6, /* a construct's kind, parent or name, the nesting, or a node or
-                                      construct wrongly in a sections */
+    BOHRALI_REFUSED_CONSTRUCT = 6, /* a construct's kind, parent or name, a filter on a kind that is
+                                      not masked, the nesting, or a node or construct wrongly in a
+                                      sections */
     BOHRALI_REFUSED_FRAME = 7,     /* not exactly one begin and one end for each construct */
     BOHRALI_REFUSED_BARRIER = 8,   /* first or last node no barrier, or over 64 barriers */
     BOHRALI_REFUSED_EDGE = 9,      /* an edge names no node, is out of order or is not allowed */

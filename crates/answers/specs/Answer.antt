@@ -37,7 +37,8 @@ noCommon d R a b = not (any (R .nodes) (λ s. isBoundary d R a s && isBoundary d
 unfoldable pub noCommonPhase : Region → ℕ → ℕ → Bool
 noCommonPhase R a b = noCommon forward R a b || noCommon backward R a b
 
--- Rule 2: each is inside some master, the two of the same thread number. In 01 all have thread 0, so that any two masters will do.
+-- Rule 2: each is inside some master, the two for the same thread (02: masked constructs of the same filter). In edition 1 all are for
+-- thread 0, so that any two will do (01).
 unfoldable pub bothInMasters : Region → ℕ → ℕ → Bool
 bothInMasters R a b =
     any (R .constructs) (λ c. any (R .constructs) (λ d. (isIn R master a c && isIn R master b d) && eqb (R .thread c) (R .thread d)))

@@ -19,6 +19,7 @@ use Rattle.chart.specs.Reading.{region}
 use Rattle.chart.specs.InOrdered.{InOrdered}
 use Rattle.chart.specs.InSection.{InSection}
 use Rattle.chart.specs.WellFormed.{WellFormed}
+use Rattle.chart.proofs.Records.{no-filter}
 use Rattle.chart.proofs.Sections.{section-below}
 use Rattle.phases.specs.Phases.{Direction, forward, backward, Boundary, isBoundary}
 use Rattle.phases.specs.PhasesLaws.{boundary-means, returns-means}
@@ -240,7 +241,7 @@ answer-most R a b =
     (cond-most (bothInSingle R a b) 3 _ (omega arith) (cond-most (bothInOrdereds R a b) 4 _ (omega arith)
     (cond-most (bothInSection R a b) 5 0 (omega arith) (omega arith)))))
 
--- Rule 2 where all masters have one thread number, as in a chart of edition 1: each node is inside some master.
+-- Rule 2 where all masters have one thread number: each node is inside some master.
 pub any-masters : (R : Region) → ((c : ℕ) → R .thread c ≡ 0) → (a b : ℕ)
     → Excludes R a b by-master ↔ (((c : ℕ) × In R master a c) × ((d : ℕ) × In R master b d))
 any-masters R z a b = (
@@ -248,6 +249,7 @@ any-masters R z a b = (
   λ ((c, x), (d, y)). (c, (d, ((x, y), z c ∙ sym (z d)))),
 )
 
-pub chart-masters : (s : List ℕ) (a b : ℕ) → let R = region (decode s) in
+-- so it is in a chart of edition 1: rule 2 in 01's words
+pub chart-masters : (s : List ℕ) → decode s .trailer .edition ≡ 1 → (a b : ℕ) → let R = region (decode s) in
     Excludes R a b by-master ↔ (((c : ℕ) × In R master a c) × ((d : ℕ) × In R master b d))
-chart-masters s = any-masters (region (decode s)) (λ c. refl)
+chart-masters s e = any-masters (region (decode s)) (no-filter s (λ q. omega arith))

@@ -8,11 +8,11 @@ use lib.ListN.{length}
 use Rattle.lists.specs.Truth.{is}
 use Rattle.lists.specs.Range.{any, count, first}
 use Rattle.lists.specs.Tab.{tab}
-use Rattle.chart.specs.Format.{outside, size, field, nodeOf, edgeOf, constructOf, trailerOf, records, lastTrailer, decode, nodeAt, edgeAt, constructAt}
+use Rattle.chart.specs.Format.{outside, field, nodeOf, edgeOf, constructOf, constructWidth, constructBytes, trailerOf, records, lastTrailer, decode, nodeAt, edgeAt, constructAt}
 use Rattle.chart.specs.Scope.{singleByte, masterByte, criticalByte, loopByte, orderedByte, roleOf, kindOf, liesIn, scope, encloses, parentOf, roleAt, liesAt, scopeAt}
 use Rattle.chart.specs.Nesting.{mayEnclose, sameCritical, excluded, wronglyAbove, misplaced, misnested}
 use Rattle.chart.specs.Reading.{edgeIn, insideAt, frameOf, region}
-use Rattle.chart.specs.Refusal.{badMarks, badCounts, badLengths, badNode, badNodeAt, badNodes, badConstruct, badAlone, strayNode, badConstructs, framesIn, badFrame, badFrames, isBarrier, badBarriers, badEdge, rises, badEdgeAt, framesSection, joinsSections, badEdges, firstOf, trailerRows, tableRows, chartRows}
+use Rattle.chart.specs.Refusal.{badEdition, badMarks, badCounts, badLengths, badNode, badNodeAt, badNodes, foreignNumber, badConstruct, badAlone, strayNode, badConstructs, framesIn, badFrame, badFrames, isBarrier, badBarriers, badEdge, rises, badEdgeAt, framesSection, joinsSections, badEdges, firstOf, trailerRows, tableRows, chartRows}
 use Rattle.paths.specs.Reach.{marks?, marks, reaches}
 use Rattle.paths.specs.Decide.{reachesFree, reachesAny, returns}
 use Rattle.paths.specs.Admission.{cutOff, badPaths, admitRows}
@@ -38,9 +38,9 @@ edge from to = from ∷ to ∷ []
 abbrev construct : ℕ → ℕ → List ℕ
 construct kind parent = kind ∷ parent ∷ 0 ∷ 0 ∷ []
 
--- The trailer of a chart of fewer than 256 bytes, and such a chart.
+-- The trailer of a chart of edition 1 and of fewer than 256 bytes, and such a chart.
 abbrev trailer : ℕ → ℕ → ℕ → List ℕ
-trailer n e c = 1 ∷ 0 ∷ n ∷ 0 ∷ e ∷ 0 ∷ c ∷ 0 ∷ size n e c ∷ 0 ∷ (2 * e + 4 * c + 16) ∷ 0 ∷ (4 * c + 16) ∷ 0 ∷ 0x4F ∷ 0x43 ∷ []
+trailer n e c = 1 ∷ 0 ∷ n ∷ 0 ∷ e ∷ 0 ∷ c ∷ 0 ∷ (4 * n + 2 * e + 4 * c + 16) ∷ 0 ∷ (2 * e + 4 * c + 16) ∷ 0 ∷ (4 * c + 16) ∷ 0 ∷ 0x4F ∷ 0x43 ∷ []
 
 abbrev joined : List (List ℕ) → List ℕ
 joined [] = []
@@ -111,7 +111,7 @@ computed e = (firstOf (admitRows (e .bytes)), answer (region (decode (e .bytes))
 pub starred-answers : map computed starred ≡ map (λ e. (none, e .gives)) starred
 unfolding starred computed answer bothInSection bothInOrdereds bothInSingle bothInMasters noCommonPhase noCommon inOrderedOf inSection isIn returns isBoundary
     admitRows badPaths cutOff reachesAny reachesFree reaches marks marks? chartRows tableRows trailerRows firstOf badEdges joinsSections framesSection badEdgeAt rises badEdge badBarriers
-    isBarrier badFrames badFrame framesIn badConstructs strayNode badAlone badConstruct badNodes badNodeAt badNode badLengths badCounts badMarks
+    isBarrier badFrames badFrame framesIn badConstructs strayNode badAlone badConstruct foreignNumber badNodes badNodeAt badNode badLengths badCounts badMarks badEdition
     misnested misplaced wronglyAbove excluded sameCritical mayEnclose edgeIn insideAt frameOf scopeAt liesAt roleAt parentOf encloses scope liesIn kindOf
-    roleOf constructAt edgeAt nodeAt decode lastTrailer records trailerOf constructOf edgeOf nodeOf field tab any count first is
+    roleOf constructAt edgeAt nodeAt decode lastTrailer records trailerOf constructOf constructWidth constructBytes edgeOf nodeOf field tab any count first is
 starred-answers = refl

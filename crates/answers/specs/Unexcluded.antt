@@ -56,7 +56,7 @@ Answers R a b k = First (Excludes R a b) k
 pub record Unexcluded (R : Region) (a b : ℕ) : Type 0 where
   -- rule 1: a common start (forward) and a common end (backward)
   pub common : (d : Direction) → Common (Boundary d R) a b
-  -- rule 2: masters that enclose a and b are of different threads. With one thread number for all, as in 01, not both are in a master.
+  -- rule 2: masters that enclose a and b are for different threads. With one thread for all, as in edition 1, not both are in a master.
   pub masters : (c d : ℕ) → R .kind c ≡ master → R .kind d ≡ master → R .inside a c ≡ true → R .inside b d ≡ true → R .thread c ≢ R .thread d
   -- rule 3: a single that encloses both returns
   pub singles : (c : ℕ) → R .kind c ≡ single → R .inside a c ≡ true → R .inside b c ≡ true → Returns R c

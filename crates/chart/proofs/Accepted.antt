@@ -32,8 +32,10 @@ laid s h =
     let nodes = or-neither (ltb (t .nodes) 2) (ltb 192 (t .nodes)) (counts .0) in
     let rest = or-neither (ltb (t .edges) 1 || ltb 1024 (t .edges)) (ltb 48 (t .constructs)) (counts .1) in
     let edges = or-neither (ltb (t .edges) 1) (ltb 1024 (t .edges)) (rest .0) in
-    let whole = or-neither (not (eqb (length s) (size (t .nodes) (t .edges) (t .constructs)))) _ (rows .1 .1 .1 .0) in
+    let bytes = size (t .edition) (t .nodes) (t .edges) (t .constructs) in
+    let whole = or-neither (not (eqb (length s) bytes)) _ (rows .1 .1 .1 .0) in
     record {
+      same-edition = refl;
       node-count = refl;
       edge-count = refl;
       construct-count = refl;
@@ -42,7 +44,7 @@ laid s h =
       one-edge = ltb-false (t .edges) 1 (edges .0);
       edges-most = ltb-false 1024 (t .edges) (edges .1);
       constructs-most = ltb-false 48 (t .constructs) (rest .1);
-      whole = not-eqb (length s) (size (t .nodes) (t .edges) (t .constructs)) (whole .0);
+      whole = not-eqb (length s) bytes (whole .0);
     }
 
 pub fit-tables : (D : Decoded) → TablesFit D → firstOf (tableRows D) ≡ none

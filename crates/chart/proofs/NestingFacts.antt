@@ -13,9 +13,9 @@ use borrow.Author.Tests.{ltb-true, ltb-false, eqb-true, eqb-false, not-true, not
 use Rattle.lists.specs.Truth.{truth, clash, same-truth, beq-equal, true-not, and-false, or-neither, neither-or, and-fails, fails-and, not-eqb, eq-not-eqb}
 use Rattle.lists.specs.Range.{any, none-passes, any-none}
 use Rattle.chart.specs.Format.{outside, Construct, Decoded, nodeAt, constructAt}
-use Rattle.chart.specs.Scope.{beginNode, criticalByte, loopByte, orderedByte, sectionsByte, sectionByte, kindOf, encloses, Encloses, parentOf}
+use Rattle.chart.specs.Scope.{beginNode, masterByte, criticalByte, loopByte, orderedByte, sectionsByte, sectionByte, kindOf, encloses, Encloses, parentOf}
 use Rattle.chart.specs.Nesting.{kinds, mayEnclose, sameCritical, excluded, wronglyAbove, misplaced, misnested}
-use Rattle.chart.specs.Refusal.{badConstruct, badAlone, strayNode, badConstructs}
+use Rattle.chart.specs.Refusal.{foreignNumber, badConstruct, badAlone, strayNode, badConstructs}
 use Rattle.chart.proofs.Tree.{Below, below-more, computed, computes, lower}
 
 -- a number that is neither below a bound nor outside
@@ -30,11 +30,12 @@ fit-below bound p (inl q) = rw (eq-eqb p outside q) (and-false (not (ltb p bound
 fit-below bound p (inr l) = rw (lt-ltb p bound l)
 
 -- Row 6, of a construct by itself.
-pub record ConstructFits (c kind parent name : ℕ) : Type 0 where
+pub record ConstructFits (c kind parent name filter : ℕ) : Type 0 where
   pub least : 1 ≤ kind
   pub most : kind ≤ kinds
   pub parent-lower : Below c parent
   pub unnamed : kind ≢ criticalByte → name ≡ 0
+  pub unfiltered : kind ≢ masterByte → filter ≡ 0
 
 -- A construct of this kind and name may stand below one of the kind `above`.
 pub record MayStand (kind name above aboveName : ℕ) : Type 0 where
@@ -56,7 +57,7 @@ pub record Nests (constructs : List Construct) (c : ℕ) : Type 0 where
 abbrev pub Alone : List Construct → Type 0
 Alone constructs =
     (c : ℕ) → c < length constructs
-    → ConstructFits c (constructAt constructs c .kind) (constructAt constructs c .parent) (constructAt constructs c .name)
+    → let k = constructAt constructs c in ConstructFits c (k .kind) (k .parent) (k .name) (k .filter)
 
 pub record ConstructsFit (D : Decoded) : Type 0 where
   pub alone : Alone (D .constructs)
@@ -64,25 +65,36 @@ pub record ConstructsFit (D : Decoded) : Type 0 where
   -- only begins and ends lie directly in a sections
   pub bare : (x : ℕ) → x < length (D .nodes) → nodeAt (D .nodes) x .kind < beginNode → constructAt (D .constructs) (nodeAt (D .nodes) x .number) .kind ≢ sectionsByte
 
-pub construct-fits : (c kind parent name : ℕ) → badConstruct c kind parent name ≡ false → ConstructFits c kind parent name
+-- a number that only one kind has
+only-fits : (only kind number : ℕ) → foreignNumber only kind number ≡ false → kind ≢ only → number ≡ 0
+unfolding foreignNumber
+only-fits only kind number h n = not-eqb number 0 (and-fails (not (eqb kind only)) (not (eqb number 0)) h (rw (ne-eqb kind only n)))
+
+fit-only : (only kind number : ℕ) → (kind ≢ only → number ≡ 0) → foreignNumber only kind number ≡ false
+unfolding foreignNumber
+fit-only only kind number h =
+    fails-and (not (eqb kind only)) (not (eqb number 0)) (λ k. eq-not-eqb number 0 (h (eqb-false kind only (not-true (eqb kind only) k))))
+
+pub construct-fits : (c kind parent name filter : ℕ) → badConstruct c kind parent name filter ≡ false → ConstructFits c kind parent name filter
 unfolding badConstruct
-construct-fits c kind parent name h =
+construct-fits c kind parent name filter h =
     let a = or-neither (ltb kind 1 || ltb kinds kind) _ h in
     let b = or-neither (ltb kind 1) (ltb kinds kind) (a .0) in
     let d = or-neither (not (ltb parent c) && not (eqb parent outside)) _ (a .1) in
+    let f = or-neither (foreignNumber criticalByte kind name) (foreignNumber masterByte kind filter) (d .1) in
     record {
       least = ltb-false kind 1 (b .0);
       most = ltb-false kinds kind (b .1);
       parent-lower = below-fits c parent (d .0);
-      unnamed = λ k. not-eqb name 0 (and-fails (not (eqb kind criticalByte)) (not (eqb name 0)) (d .1) (rw (ne-eqb kind criticalByte k)));
+      unnamed = only-fits criticalByte kind name (f .0);
+      unfiltered = only-fits masterByte kind filter (f .1);
     }
 
-pub fit-construct : (c kind parent name : ℕ) → ConstructFits c kind parent name → badConstruct c kind parent name ≡ false
+pub fit-construct : (c kind parent name filter : ℕ) → ConstructFits c kind parent name filter → badConstruct c kind parent name filter ≡ false
 unfolding badConstruct
-fit-construct c kind parent name F =
+fit-construct c kind parent name filter F =
     neither-or _ _ (neither-or _ _ (le-ltb kind 1 (F .least)) (le-ltb kinds kind (F .most))) (neither-or _ _ (fit-below c parent (F .parent-lower))
-    (fails-and (not (eqb kind criticalByte)) (not (eqb name 0))
-    (λ k. eq-not-eqb name 0 (F .unnamed (eqb-false kind criticalByte (not-true (eqb kind criticalByte) k))))))
+    (neither-or _ _ (fit-only criticalByte kind name (F .unnamed)) (fit-only masterByte kind filter (F .unfiltered))))
 
 stand-fits : (kind name above aboveName : ℕ) → excluded kind name above aboveName ≡ false → MayStand kind name above aboveName
 unfolding excluded sameCritical
@@ -163,7 +175,7 @@ constructs-fit D h =
     let size = length (D .constructs) in
     let a = or-neither (any size (badAlone (D .constructs))) _ h in
     let b = or-neither (any size (misnested (D .constructs))) (any (length (D .nodes)) (strayNode D)) (a .1) in
-    let alone : Alone (D .constructs) = λ c l. construct-fits _ _ _ _ (none-passes size (badAlone (D .constructs)) (a .0) c l) in
+    let alone : Alone (D .constructs) = λ c l. construct-fits _ _ _ _ _ (none-passes size (badAlone (D .constructs)) (a .0) c l) in
     record {
       alone = alone;
       nested = λ c l. nesting-fits (D .constructs) alone c l (none-passes size (misnested (D .constructs)) (b .0) c l);
@@ -175,7 +187,7 @@ pub fit-constructs : (D : Decoded) → ConstructsFit D → badConstructs D ≡ f
 unfolding badConstructs badAlone strayNode
 fit-constructs D F =
     let size = length (D .constructs) in
-    neither-or _ _ (any-none size (badAlone (D .constructs)) (λ c l. fit-construct _ _ _ _ (F .alone c l)))
+    neither-or _ _ (any-none size (badAlone (D .constructs)) (λ c l. fit-construct _ _ _ _ _ (F .alone c l)))
     (neither-or _ _ (any-none size (misnested (D .constructs)) (λ c l. fit-nesting (D .constructs) c (F .nested c l)))
     (any-none (length (D .nodes)) (strayNode D)
     (λ x l. fails-and (ltb (nodeAt (D .nodes) x .kind) beginNode) _ (λ k. ne-eqb _ sectionsByte (F .bare x l (ltb-true _ beginNode k))))))

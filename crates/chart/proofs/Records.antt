@@ -1,13 +1,18 @@
 -- Where the records of a laid-out chart stand in its bytes.
 -- Assumes nothing.
 use mathlib.Core.Path.{_≡_, refl, ap, ap₂, sym, _∙_, subst}
+use mathlib.Core.Logic.{_≢_}
+use mathlib.Core.Bool.{Bool, true, false, cond}
 use mathlib.Core.List.{List}
-use Prim.Native.Nat.{ℕ, zero, suc, _+_, _*_, _-_, _<_}
+use Prim.Native.Nat.{ℕ, zero, suc, _+_, _*_, _-_, _≤_, _<_}
 use native.Mathlib.Omega.{arith}
+use native.Mathlib.Decide.{decLt}
 use native.Mathlib.Nat.{mul-suc}
-use lib.ListN.{length, getD, drop}
+use lib.Dec.{eqb}
+use lib.ListN.{length, getD, drop, List·getD-eq-default}
 use lib.Seq.{getD-drop, drop-drop}
-use Rattle.chart.specs.Format.{field, Node, Edge, Construct, nodeOf, edgeOf, constructOf, records, lastTrailer, decode, noNode, noEdge, noConstruct, nodeAt, edgeAt, constructAt}
+use borrow.Author.Tests.{ne-eqb}
+use Rattle.chart.specs.Format.{field, Node, Edge, Construct, nodeOf, edgeOf, constructOf, constructWidth, constructBytes, records, lastTrailer, decode, noNode, noEdge, noConstruct, nodeAt, edgeAt, constructAt}
 use Rattle.chart.specs.Checked.{Laid}
 use Rattle.chart.specs.declared.format.Chart.{Chart}
 
@@ -37,6 +42,23 @@ field-drop : (s : List ℕ) (at k : ℕ) → field (drop at s) k ≡ field s (at
 unfolding field
 field-drop s at k = let q : at + (k + 1) ≡ at + k + 1 = omega arith in rw (getD-drop at s k 0, getD-drop at s (k + 1) 0, q)
 
+-- Records of one width stand one after the other.
+bytes-width : (edition c : ℕ) → constructBytes edition c ≡ constructWidth edition * c
+unfolding constructBytes constructWidth
+bytes-width edition c = go (eqb edition 2)
+  where
+    go : (b : Bool) → cond b (6 * c) (4 * c) ≡ cond b 6 4 * c
+    go true = refl
+    go false = refl
+
+pub bytes-rise : (edition c k : ℕ) → c ≤ k → constructBytes edition c ≤ constructBytes edition k
+unfolding constructBytes
+bytes-rise edition c k l = go (eqb edition 2)
+  where
+    go : (b : Bool) → cond b (6 * c) (4 * c) ≤ cond b (6 * k) (4 * k)
+    go true = omega arith
+    go false = omega arith
+
 -- The fields of a record, by the place where the record stands.
 module _ (s : List ℕ) (chart : Chart) (laid : Laid s chart) where
   pub node-fields : (x at : ℕ) → x < chart .nodes → at ≡ 4 * x
@@ -57,17 +79,20 @@ module _ (s : List ℕ) (chart : Chart) (laid : Laid s chart) where
       let here = record-from edgeOf 2 (lastTrailer s .edges) (4 * lastTrailer s .nodes) s i at noEdge low place in
       (sym (ap (λ (n : Edge). n .from) here ∙ getD-drop at s 0 0), sym (ap (λ (n : Edge). n .to) here ∙ getD-drop at s 1 0))
 
-  pub construct-fields : (c at : ℕ) → c < chart .constructs → at ≡ 4 * chart .nodes + 2 * chart .edges + 4 * c
+  pub construct-fields : (c at : ℕ) → c < chart .constructs → at ≡ 4 * chart .nodes + 2 * chart .edges + constructBytes (chart .edition) c
       → (getD s (at + 0) 0 ≡ constructAt (decode s .constructs) c .kind) × (getD s (at + 1) 0 ≡ constructAt (decode s .constructs) c .parent)
       × (field s (at + 2) ≡ constructAt (decode s .constructs) c .name)
+      × (cond (eqb (chart .edition) 2) (field s (at + 4)) 0 ≡ constructAt (decode s .constructs) c .filter)
   unfolding constructAt decode constructOf
   construct-fields c at l e =
       let low = subst (λ (n : ℕ). c < n) (laid .construct-count) l in
-      let place = e ∙ ap₂ (λ (n m : ℕ). 4 * n + 2 * m + 4 * c) (laid .node-count) (laid .edge-count) in
-      let here = record-from constructOf 4 (lastTrailer s .constructs) (4 * lastTrailer s .nodes + 2 * lastTrailer s .edges) s c at noConstruct low place in (
+      let t = lastTrailer s in
+      let place : at ≡ 4 * t .nodes + 2 * t .edges + constructWidth (t .edition) * c = rw (← laid .node-count, ← laid .edge-count, ← laid .same-edition, ← bytes-width (chart .edition) c) e in
+      let here = record-from (constructOf (t .edition)) (constructWidth (t .edition)) (t .constructs) (4 * t .nodes + 2 * t .edges) s c at noConstruct low place in (
         sym (ap (λ (n : Construct). n .kind) here ∙ getD-drop at s 0 0),
         sym (ap (λ (n : Construct). n .parent) here ∙ getD-drop at s 1 0),
         sym (ap (λ (n : Construct). n .name) here ∙ field-drop s at 2),
+        sym (ap (λ (n : Construct). n .filter) here ∙ rw (field-drop s at 4, laid .same-edition) refl),
       )
 
   -- the tables have as many records as the counts say
@@ -82,8 +107,23 @@ module _ (s : List ℕ) (chart : Chart) (laid : Laid s chart) where
   pub constructs-length : length (decode s .constructs) ≡ chart .constructs
   unfolding decode
   constructs-length =
-      length-records constructOf 4 (lastTrailer s .constructs) (drop (4 * lastTrailer s .nodes + 2 * lastTrailer s .edges) s)
+      let t = lastTrailer s in
+      length-records (constructOf (t .edition)) (constructWidth (t .edition)) (t .constructs) (drop (4 * t .nodes + 2 * t .edges) s)
       ∙ sym (laid .construct-count)
+
+-- without filters in the records every filter is 0
+pub no-filter : (s : List ℕ) → decode s .trailer .edition ≢ 2 → (c : ℕ) → constructAt (decode s .constructs) c .filter ≡ 0
+unfolding constructAt decode constructOf
+no-filter s n c =
+    let t = lastTrailer s in
+    let read = constructOf (t .edition) in
+    let rest = drop (4 * t .nodes + 2 * t .edges) s in
+    elim (decLt c (t .constructs)) [
+      | yes l ↦ ap (λ (k : Construct). k .filter) (record-at read (constructWidth (t .edition)) (t .constructs) rest c noConstruct l) ∙ rw (ne-eqb (t .edition) 2 n)
+      | no l ↦ ap (λ (k : Construct). k .filter)
+          (List·getD-eq-default (records read (constructWidth (t .edition)) (t .constructs) rest) noConstruct
+          (omega (arith, length-records read (constructWidth (t .edition)) (t .constructs) rest)))
+    ]
 
 -- a field of the trailer, by its place
 pub trailer-field : (s : List ℕ) (at k : ℕ) → at ≡ length s - 16 → field s (at + k) ≡ field (drop (length s - 16) s) k

@@ -13,9 +13,14 @@ use Rattle.chart.specs.declared.format.Chart.{Chart}
 use Rattle.chart.specs.declared.format.Checked.{Checked}
 use Rattle.chart.specs.declared.format.Checked.the-variants.{Passed, Refused}
 
--- The counts that a trailer gives.
+-- The edition and the counts that a trailer gives.
 unfoldable pub countsOf : List ℕ → Chart
-countsOf s = record { nodes = decode s .trailer .nodes; edges = decode s .trailer .edges; constructs = decode s .trailer .constructs }
+countsOf s = record {
+  edition = decode s .trailer .edition;
+  nodes = decode s .trailer .nodes;
+  edges = decode s .trailer .edges;
+  constructs = decode s .trailer .constructs;
+}
 
 unfoldable pub answer : Option ℕ → Chart → Checked
 answer none chart = Passed chart
@@ -25,12 +30,13 @@ answer (some number) chart = Refused (record { number = number })
 unfoldable pub checked : List ℕ → Checked
 checked s = answer (firstOf (chartRows s)) (countsOf s)
 
--- The region that the bytes of a chart are read as, by its counts.
+-- The region that the bytes of a chart are read as.
 abbrev pub reading : List ℕ → Chart → Region
 reading s chart = region (decode s)
 
--- Bytes that rows 1 to 4 let pass, with their counts. Each count has its own equation: a chart may carry more than its counts.
+-- Bytes that rows 1 to 4 let pass, with their edition and counts, an equation for each.
 pub record Laid (s : List ℕ) (chart : Chart) : Type 0 where
+  pub same-edition : chart .edition ≡ decode s .trailer .edition
   pub node-count : chart .nodes ≡ decode s .trailer .nodes
   pub edge-count : chart .edges ≡ decode s .trailer .edges
   pub construct-count : chart .constructs ≡ decode s .trailer .constructs
@@ -39,4 +45,4 @@ pub record Laid (s : List ℕ) (chart : Chart) : Type 0 where
   pub one-edge : 1 ≤ chart .edges
   pub edges-most : chart .edges ≤ 1024
   pub constructs-most : chart .constructs ≤ 48
-  pub whole : length s ≡ size (chart .nodes) (chart .edges) (chart .constructs)
+  pub whole : length s ≡ size (chart .edition) (chart .nodes) (chart .edges) (chart .constructs)

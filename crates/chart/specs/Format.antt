@@ -1,8 +1,10 @@
 -- The bytes of a chart (01: "Bytes of a chart") and their decoding to one record. The decoding is total: it reads any bytes, and
 -- whether they make a chart is for the refusals to say.
 -- Assumes nothing.
+use mathlib.Core.Bool.{cond}
 use mathlib.Core.List.{List, [], _∷_}
 use Prim.Native.Nat.{ℕ, zero, suc, _+_, _*_, _-_}
+use lib.Dec.{eqb}
 use lib.ListN.{length, getD, drop}
 
 -- A field of two bytes, little-endian.
@@ -24,10 +26,12 @@ pub record Edge : Type 0 where
   pub from : ℕ
   pub to : ℕ
 
+-- The filter is the number of the thread that goes into a construct of kind 2 (02, Note 5).
 pub record Construct : Type 0 where
   pub kind : ℕ
   pub parent : ℕ
   pub name : ℕ
+  pub filter : ℕ
 
 -- The distances are from the chart's end back to the first node, the first edge and the first construct.
 pub record Trailer : Type 0 where
@@ -53,8 +57,16 @@ nodeOf s = record { kind = getD s 0 0; number = getD s 1 0; tag = field s 2 }
 unfoldable pub edgeOf : List ℕ → Edge
 edgeOf s = record { from = getD s 0 0; to = getD s 1 0 }
 
-unfoldable pub constructOf : List ℕ → Construct
-constructOf s = record { kind = getD s 0 0; parent = getD s 1 0; name = field s 2 }
+-- In edition 2 the filter stands last; in edition 1 there is none, and it is 0.
+unfoldable pub constructOf : ℕ → List ℕ → Construct
+constructOf edition s = record { kind = getD s 0 0; parent = getD s 1 0; name = field s 2; filter = cond (eqb edition 2) (field s 4) 0 }
+
+-- The bytes of a construct's record, and of c such records.
+unfoldable pub constructWidth : ℕ → ℕ
+constructWidth edition = cond (eqb edition 2) 6 4
+
+unfoldable pub constructBytes : ℕ → ℕ → ℕ
+constructBytes edition c = cond (eqb edition 2) (6 * c) (4 * c)
 
 unfoldable pub trailerOf : List ℕ → Trailer
 trailerOf s = record {
@@ -77,9 +89,9 @@ records read width (suc n) s = read s ∷ records read width n (drop width s)
 abbrev pub trailerSize : ℕ
 trailerSize = 16
 
--- The bytes of a chart with n nodes, e edges and c constructs.
-abbrev pub size : ℕ → ℕ → ℕ → ℕ
-size n e c = 4 * n + 2 * e + 4 * c + trailerSize
+-- The bytes of a chart of an edition with n nodes, e edges and c constructs.
+abbrev pub size : ℕ → ℕ → ℕ → ℕ → ℕ
+size edition n e c = 4 * n + 2 * e + constructBytes edition c + trailerSize
 
 unfoldable pub lastTrailer : List ℕ → Trailer
 lastTrailer s = trailerOf (drop (length s - trailerSize) s)
@@ -91,7 +103,7 @@ decode s =
     record {
       nodes = records nodeOf 4 (t .nodes) s;
       edges = records edgeOf 2 (t .edges) (drop (4 * t .nodes) s);
-      constructs = records constructOf 4 (t .constructs) (drop (4 * t .nodes + 2 * t .edges) s);
+      constructs = records (constructOf (t .edition)) (constructWidth (t .edition)) (t .constructs) (drop (4 * t .nodes + 2 * t .edges) s);
       trailer = t;
     }
 
@@ -103,7 +115,7 @@ abbrev pub noEdge : Edge
 noEdge = record { from = 0; to = 0 }
 
 abbrev pub noConstruct : Construct
-noConstruct = record { kind = 0; parent = outside; name = 0 }
+noConstruct = record { kind = 0; parent = outside; name = 0; filter = 0 }
 
 -- Look-ups by number, total.
 unfoldable pub nodeAt : List Node → ℕ → Node

@@ -1,5 +1,5 @@
--- A chart read as a region. In the base the region is the whole chart, from its first node (01: Start) to its last (01: Finish), and a
--- master's thread is 0.
+-- A chart read as a region: the whole chart, from its first node (01: Start) to its last (01: Finish). The thread that goes into a construct
+-- of kind 2 (01: master, 02: masked) is its filter.
 -- Assumes nothing.
 use mathlib.Core.Bool.{Bool, _&&_}
 use mathlib.Core.List.{List}
@@ -33,7 +33,7 @@ region D = record {
   inside = insideAt (D .nodes) (D .constructs);
   kind = λ c. kindOf (constructAt (D .constructs) c .kind);
   parent = parentOf (D .constructs);
-  thread = λ c. 0;
+  thread = λ c. constructAt (D .constructs) c .filter;
   begin = frameOf (D .nodes) beginNode;
   end = frameOf (D .nodes) endNode;
   start = 0;

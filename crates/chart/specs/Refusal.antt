@@ -8,13 +8,16 @@ use Prim.Native.Nat.{ℕ, _+_, _*_, _-_}
 use lib.Dec.{eqb, ltb, leb}
 use lib.ListN.{length}
 use Rattle.lists.specs.Range.{any, count}
-use Rattle.chart.specs.Format.{outside, Node, Construct, Trailer, Decoded, decode, nodeAt, edgeAt, constructAt, size, trailerSize}
-use Rattle.chart.specs.Scope.{barrierNode, beginNode, endNode, criticalByte, sectionsByte, sectionByte, leavingAt, arrivingAt}
+use Rattle.chart.specs.Format.{outside, Node, Construct, Trailer, Decoded, decode, nodeAt, edgeAt, constructAt, constructBytes, size, trailerSize}
+use Rattle.chart.specs.Scope.{barrierNode, beginNode, endNode, masterByte, criticalByte, sectionsByte, sectionByte, leavingAt, arrivingAt}
 use Rattle.chart.specs.Nesting.{kinds, misnested}
 
--- Row 2: edition or closing bytes differ. The bytes 4F 43, read as a field, are 0x434F.
+-- Row 2: edition neither 1 nor 2, or closing bytes differ. The bytes 4F 43, read as a field, are 0x434F.
+unfoldable pub badEdition : ℕ → Bool
+badEdition edition = not (eqb edition 1) && not (eqb edition 2)
+
 unfoldable pub badMarks : Trailer → Bool
-badMarks t = not (eqb (t .edition) 1) || not (eqb (t .closing) 0x434F)
+badMarks t = badEdition (t .edition) || not (eqb (t .closing) 0x434F)
 
 -- Row 3: n, e or c outside its limits.
 unfoldable pub badCounts : ℕ → ℕ → ℕ → Bool
@@ -23,10 +26,10 @@ badCounts n e c = (ltb n 2 || ltb 192 n) || ((ltb e 1 || ltb 1024 e) || ltb 48 c
 -- Row 4: length or a distance differs.
 unfoldable pub badLengths : ℕ → Trailer → Bool
 badLengths len t =
-    not (eqb len (size (t .nodes) (t .edges) (t .constructs)))
+    not (eqb len (size (t .edition) (t .nodes) (t .edges) (t .constructs)))
     || (not (eqb (t .to-nodes) len)
-    || (not (eqb (t .to-edges) (2 * t .edges + 4 * t .constructs + trailerSize))
-    || not (eqb (t .to-constructs) (4 * t .constructs + trailerSize))))
+    || (not (eqb (t .to-edges) (2 * t .edges + constructBytes (t .edition) (t .constructs) + trailerSize))
+    || not (eqb (t .to-constructs) (constructBytes (t .edition) (t .constructs) + trailerSize))))
 
 -- Row 5, of one node: kind over 3; construct number neither below c nor 255; barrier not 255; begin or end with 255.
 unfoldable pub badNode : ℕ → ℕ → ℕ → Bool
@@ -42,15 +45,22 @@ badNodeAt D x = badNode (length (D .constructs)) (nodeAt (D .nodes) x .kind) (no
 unfoldable pub badNodes : Decoded → Bool
 badNodes D = any (length (D .nodes)) (badNodeAt D)
 
--- Row 6, of construct c by itself: kind not 1 to 7; parent not lower and not 255; name not 0 on a non-critical.
-unfoldable pub badConstruct : ℕ → ℕ → ℕ → ℕ → Bool
-badConstruct c kind parent name =
+-- A number that only constructs of one kind have, not 0 on another kind.
+unfoldable pub foreignNumber : ℕ → ℕ → ℕ → Bool
+foreignNumber only kind number = not (eqb kind only) && not (eqb number 0)
+
+-- Row 6, of construct c by itself: kind not 1 to 7; parent not lower and not 255; name not 0 on a non-critical; filter not 0 on a kind other
+-- than 2 (02, Note 5).
+unfoldable pub badConstruct : ℕ → ℕ → ℕ → ℕ → ℕ → Bool
+badConstruct c kind parent name filter =
     (ltb kind 1 || ltb kinds kind)
     || ((not (ltb parent c) && not (eqb parent outside))
-    || (not (eqb kind criticalByte) && not (eqb name 0)))
+    || (foreignNumber criticalByte kind name || foreignNumber masterByte kind filter))
 
 unfoldable pub badAlone : List Construct → ℕ → Bool
-badAlone constructs c = badConstruct c (constructAt constructs c .kind) (constructAt constructs c .parent) (constructAt constructs c .name)
+badAlone constructs c =
+    let k = constructAt constructs c in
+    badConstruct c (k .kind) (k .parent) (k .name) (k .filter)
 
 -- Some construct is of this kind.
 unfoldable pub anyOf : List Construct → ℕ → Bool

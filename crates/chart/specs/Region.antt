@@ -9,7 +9,8 @@ pub data Role : Type 0 where
   plain barrier : Role
   opens closes : ℕ → Role
 
--- The kinds of constructs; `loop` is 01's do. A `section` stands in a `sections` (02, Note 1).
+-- The kinds of constructs; `loop` is 01's do. A `section` stands in a `sections` (02, Note 1). A `master` is 01's, for thread 0, and the masked
+-- that replaces it, for any one thread (02, Note 5).
 pub data Kind : Type 0 where
   single master critical loop ordered sections section : Kind
   deriving Discrete as Kind-discrete

@@ -1,8 +1,10 @@
 // A reading position in the bytes of a chart, and the records that stand there.
 ghost use mathlib.Core.Path.{_≡_};
+ghost use mathlib.Core.Bool.{cond};
 ghost use Prim.Native.Nat.{_+_, _*_, _-_, _≤_, _<_};
+ghost use lib.Dec.{eqb};
 ghost use lib.ListN.{getD, length};
-ghost use Rattle.chart.specs.Format.{field, decode, nodeAt, edgeAt, constructAt};
+ghost use Rattle.chart.specs.Format.{field, constructBytes, decode, nodeAt, edgeAt, constructAt};
 ghost use Rattle.chart.specs.Refusal.{anyOf};
 ghost use Rattle.chart.specs.Checked.{Laid, countsOf};
 use crate::format::Chart;
@@ -44,10 +46,12 @@ impl Cursor {
 
     pub fn construct(chart: Chart, c: usize) -> Self
         requires { ⌜ (chart .nodes ≤ 192) × (chart .edges ≤ 1024) × (c < 48) ⌝ }
-        ensures { λ r. ⌜ r .at ≡ 4 * chart .nodes + 2 * chart .edges + 4 * c ⌝ }
+        ensures { λ r. ⌜ r .at ≡ 4 * chart .nodes + 2 * chart .edges + constructBytes (chart .edition) c ⌝ }
     {
         Cursor {
-            at: Node::BYTES * chart.nodes + Edge::BYTES * chart.edges + Construct::BYTES * c,
+            at: Node::BYTES * chart.nodes
+                + Edge::BYTES * chart.edges
+                + construct_bytes(chart.edition, c),
         }
     }
 
@@ -70,6 +74,28 @@ impl Cursor {
         let high = wide(s[at + 1]);
         low + 256 * high
     }
+
+    // The filter of the construct at the cursor.
+    pub fn filter(self, s: &[u8], edition: usize) -> usize
+        requires { ⌜ self .at + 5 < length (now s) ⌝ }
+        ensures { λ r. ⌜ r ≡ cond (eqb edition 2) (field (now (s .entry)) (self .at + 4)) 0 ⌝ }
+    {
+        if edition != Chart::EDITION_2 {
+            return 0;
+        }
+        self.field(s, 4)
+    }
+}
+
+// The bytes of c construct records.
+pub fn construct_bytes(edition: usize, c: usize) -> usize
+    requires { ⌜ c < 65536 ⌝ }
+    ensures { λ r. ⌜ (r ≡ constructBytes edition c) × (r ≤ 6 * c) ⌝ }
+{
+    if edition == Chart::EDITION_2 {
+        return Construct::BYTES_2 * c;
+    }
+    Construct::BYTES_1 * c
 }
 
 // A byte as an index.
@@ -80,7 +106,7 @@ pub fn wide(byte: u8) -> usize
 }
 
 impl Chart {
-    // The counts that the trailer gives.
+    // The edition and the counts that the trailer gives.
     pub fn read(s: &[u8]) -> Chart
         requires { ⌜ 16 ≤ length (now s) ⌝ }
         ensures { λ r. ⌜ r ≡ countsOf (now (s .entry)) ⌝ }
@@ -88,6 +114,7 @@ impl Chart {
     {
         let cursor = Cursor::trailer(s);
         Chart {
+            edition: cursor.field(s, 0),
             nodes: cursor.field(s, 2),
             edges: cursor.field(s, 4),
             constructs: cursor.field(s, 6),
@@ -129,13 +156,14 @@ impl Construct {
         requires { ⌜ Laid (now s) chart × (c < chart .constructs) ⌝ }
         ensures { λ r.
             let k = constructAt (decode (now (s .entry)) .constructs) c in
-            ⌜ (r .kind ≡ k .kind) × (r .parent ≡ k .parent) × (r .name ≡ k .name) ⌝ }
+            ⌜ (r .kind ≡ k .kind) × (r .parent ≡ k .parent) × (r .name ≡ k .name) × (r .filter ≡ k .filter) ⌝ }
     {
         let cursor = Cursor::construct(chart, c);
         Construct {
             kind: cursor.byte(s, 0),
             parent: cursor.byte(s, 1),
             name: cursor.field(s, 2),
+            filter: cursor.filter(s, chart.edition),
         }
     }
 

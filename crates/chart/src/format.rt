@@ -1,7 +1,8 @@
 // The numbers of the format and the types that they describe.
 
-// A chart whose trailer has been read, by its counts; its limits; and the marks of its trailer.
+// A chart whose trailer has been read, by its edition and counts; its limits; and the marks of its trailer.
 pub struct Chart {
+    pub edition: usize,
     pub nodes: usize,
     pub edges: usize,
     pub constructs: usize,
@@ -22,15 +23,17 @@ impl Chart {
     // A place for each node where its edges begin, and one where the last one's end.
     pub const PLACES: usize = Chart::NODES + 1;
 
-    pub const EDITION: usize = 1;
+    pub const EDITION_1: usize = 1;
+    // With a filter in each construct's record.
+    pub const EDITION_2: usize = 2;
     // The bytes 4F 43, read as a field.
     pub const CLOSING: usize = 0x434f;
 
     pub const TRAILER_BYTES: usize = 16;
-    // The length of a chart at all limits.
+    // The length of a chart of edition 2 at all limits.
     pub const MOST_BYTES: usize = Node::BYTES * Chart::NODES
         + Edge::BYTES * Chart::EDGES
-        + Construct::BYTES * Chart::CONSTRUCTS
+        + Construct::BYTES_2 * Chart::CONSTRUCTS
         + Chart::TRAILER_BYTES;
     // A row for each kind of construct, a column for each kind above it: single, master, critical, do, ordered, sections, section.
     pub const NESTING: [[bool; Construct::KINDS]; Construct::KINDS] = [
@@ -71,17 +74,22 @@ impl Edge {
     pub const BYTES: usize = 2;
 }
 
+// The filter is 0 in edition 1, whose records have none.
 pub struct Construct {
     pub kind: u8,
     pub parent: u8,
     pub name: usize,
+    pub filter: usize,
 }
 
 impl Construct {
-    pub const BYTES: usize = 4;
+    // A record's bytes, by edition.
+    pub const BYTES_1: usize = 4;
+
+    pub const BYTES_2: usize = 6;
 
     pub const SINGLE: u8 = 1;
-
+    // Masked in edition 2, which gives it a filter.
     pub const MASTER: u8 = 2;
 
     pub const CRITICAL: u8 = 3;

@@ -4,7 +4,7 @@
 use mathlib.Core.Path.{_≡_}
 use mathlib.Core.Logic.{_↔_}
 use mathlib.Core.List.{List}
-use Prim.Native.Nat.{ℕ, _≤_}
+use Prim.Native.Nat.{ℕ, _≤_, _<_}
 use native.Mathlib.Omega.{arith}
 use Rattle.chart.specs.Format.{decode}
 use Rattle.chart.specs.Region.{Region}
@@ -14,6 +14,7 @@ use Rattle.paths.specs.Path.{Open}
 use Rattle.paths.specs.Connected.{Connected}
 use Rattle.paths.specs.Admission.{Admitted}
 use Rattle.paths.specs.AdmissionLaws.{admitted-well-formed, admitted-connected}
+use Rattle.chart.proofs.Records.{no-filter}
 use Rattle.team.specs.Run.{ConcurrentIn, Concurrent}
 use Rattle.answers.specs.Answer.{answer}
 use Rattle.answers.specs.AnswerLaws.{answer-unexcluded}
@@ -33,7 +34,9 @@ module _ (s : List ℕ) (admitted : Admitted s) {a b : ℕ} (oa : Open (region (
   pub chart-exact : (answer (region (decode s)) a b ≡ 0) ↔ Concurrent (region (decode s)) a b
   chart-exact = answer-exact (admitted-well-formed s admitted) (admitted-connected s admitted) oa ob
 
-  -- every master's thread is 0, so that every team fits
-  pub chart-exact-in : (m : ℕ) → 2 ≤ m → (answer (region (decode s)) a b ≡ 0) ↔ ConcurrentIn (region (decode s)) m a b
-  chart-exact-in m two =
-      answer-exact-in (admitted-well-formed s admitted) (admitted-connected s admitted) oa ob m two (λ c k i. omega arith) (λ c k i. omega arith)
+  pub chart-exact-in : (m : ℕ) → 2 ≤ m → Fits (region (decode s)) m a → Fits (region (decode s)) m b → (answer (region (decode s)) a b ≡ 0) ↔ ConcurrentIn (region (decode s)) m a b
+  chart-exact-in = answer-exact-in (admitted-well-formed s admitted) (admitted-connected s admitted) oa ob
+
+-- In edition 1 every master's thread is 0, so that every team fits.
+pub chart-fits : (s : List ℕ) → decode s .trailer .edition ≡ 1 → (m x : ℕ) → 1 ≤ m → Fits (region (decode s)) m x
+chart-fits s first m x one c k i = omega (arith, no-filter s (λ q. omega arith) c)

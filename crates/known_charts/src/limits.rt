@@ -4,18 +4,21 @@ use crate::spelling::put;
 use crate::spelling::put_field;
 use crate::trailer::Ends;
 use crate::trailer::put_trailer;
+use chart::format::Chart;
 use chart::format::Construct;
 use chart::format::Node;
 
-// What is written again and again: a plain node, a barrier, the begin and the end of construct k, a critical, the edge from k to k + 1, or
-// edge k of all those from the first 32 nodes to nodes 1 to 32.
+// What is written again and again: a plain node, a barrier, the begin and the end of construct k, a critical, a masked of edition 2 for thread
+// k, the edge from k to k + 1, edge k of all those from the first 32 nodes to nodes 1 to 32, or edge k of the longest chart.
 enum Pattern {
     Plain,
     Barrier,
     Frame,
     Critical,
+    Masked,
     Step,
     Grid,
+    Longest,
 }
 
 fn put_edge(out: &mut [u8], at: usize, from: u32, to: u32) -> usize {
@@ -35,6 +38,19 @@ fn put_frame(out: &mut [u8], at: usize, number: u8) -> usize {
     put_record(out, next, Node::END, number)
 }
 
+fn put_masked(out: &mut [u8], at: usize, thread: u16) -> usize {
+    let filter = put_record(out, at, Construct::MASTER, Construct::NONE);
+    put_field(out, filter, thread as usize)
+}
+
+// The grid as far as node 26, and from node 27 on a row.
+fn put_longest(out: &mut [u8], at: usize, k: u32) -> usize {
+    if k < 860 {
+        return put_edge(out, at, k / 32, k % 32 + 1);
+    }
+    put_edge(out, at, k - 833, k - 832)
+}
+
 fn put_pattern(out: &mut [u8], at: usize, pattern: Pattern, k: u16) -> usize {
     let number = k as u32;
     match pattern {
@@ -42,8 +58,10 @@ fn put_pattern(out: &mut [u8], at: usize, pattern: Pattern, k: u16) -> usize {
         Pattern::Barrier => put_record(out, at, Node::BARRIER, Construct::NONE),
         Pattern::Frame => put_frame(out, at, (k % 256) as u8),
         Pattern::Critical => put_record(out, at, Construct::CRITICAL, Construct::NONE),
+        Pattern::Masked => put_masked(out, at, k),
         Pattern::Step => put_edge(out, at, number, number + 1),
         Pattern::Grid => put_edge(out, at, number / 32, number % 32 + 1),
+        Pattern::Longest => put_longest(out, at, number),
     }
 }
 
@@ -64,6 +82,13 @@ fn put_nodes(out: &mut [u8], pattern: Pattern, times: u16) -> usize {
     repeat(out, middle, Pattern::Barrier, 1)
 }
 
+// Writes the trailer of a chart, and a line for it.
+fn finish(name: &[u8], buffer: &mut [u8], ends: Ends) {
+    let end = put_trailer(buffer, ends);
+    io::write_all(1, name);
+    report_before(buffer, end);
+}
+
 // A line for the chart with these nodes between Start and Finish, these edges and so many criticals.
 fn generate(name: &[u8], nodes: Pattern, n: u16, edges: Pattern, e: u16, c: u16) {
     let mut buffer = io::buffer();
@@ -71,13 +96,30 @@ fn generate(name: &[u8], nodes: Pattern, n: u16, edges: Pattern, e: u16, c: u16)
     let edges_end = repeat(&mut buffer, nodes_end, edges, e);
     let constructs_end = repeat(&mut buffer, edges_end, Pattern::Critical, c);
     let ends = Ends {
+        edition: Chart::EDITION_1,
         nodes: nodes_end,
         edges: edges_end,
         constructs: constructs_end,
     };
-    let end = put_trailer(&mut buffer, ends);
-    io::write_all(1, name);
-    report_before(&buffer, end);
+    finish(name, &mut buffer, ends);
+}
+
+// A line for a chart of edition 2 at all limits: 94 plain nodes and 48 masked constructs, each with its begin and its end.
+fn generate_longest(name: &[u8]) {
+    let mut buffer = io::buffer();
+    let start_end = repeat(&mut buffer, 0, Pattern::Barrier, 1);
+    let plain_end = repeat(&mut buffer, start_end, Pattern::Plain, 94);
+    let frames_end = repeat(&mut buffer, plain_end, Pattern::Frame, 48);
+    let nodes_end = repeat(&mut buffer, frames_end, Pattern::Barrier, 1);
+    let edges_end = repeat(&mut buffer, nodes_end, Pattern::Longest, 1024);
+    let constructs_end = repeat(&mut buffer, edges_end, Pattern::Masked, 48);
+    let ends = Ends {
+        edition: Chart::EDITION_2,
+        nodes: nodes_end,
+        edges: edges_end,
+        constructs: constructs_end,
+    };
+    finish(name, &mut buffer, ends);
 }
 
 pub fn limits() {
@@ -89,4 +131,5 @@ pub fn limits() {
     generate(b"constructs-49", Pattern::Frame, 49, Pattern::Step, 99, 49);
     generate(b"barriers-64", Pattern::Barrier, 62, Pattern::Step, 63, 0);
     generate(b"barriers-65", Pattern::Barrier, 63, Pattern::Step, 64, 0);
+    generate_longest(b"bytes-3120");
 }

@@ -1,21 +1,23 @@
 // Spelt charts, one on each line: name, nodes, edges and constructs, with a / between them. After one more / comes the trailer in
-// hexadecimal; where it is left out it follows from the parts. A line with a ? in front has pairs of nodes of the chart above it, and one
-// with a # in front is a comment.
+// hexadecimal; where it is left out it follows from the parts. A | before the constructs, in place of a /, is for edition 2. A line with a ?
+// in front has pairs of nodes of the chart above it, and one with a # in front is a comment.
 use crate::report::report_before;
 use crate::report::report_pair_before;
 use crate::spelling::put;
 use crate::spelling::value;
 use crate::trailer::Ends;
 use crate::trailer::put_trailer;
+use chart::format::Chart;
 
 // How far a line has been read: the part, the place for its next byte, where the nodes and the edges end, and the first half of a byte of
-// the trailer or of a pair; and how long the chart above it is.
+// the trailer or of a pair; its edition; and how long the chart above it is.
 struct Line {
     part: u8,
     at: usize,
     nodes: usize,
     edges: usize,
     half: u8,
+    edition: usize,
     above: usize,
 }
 
@@ -43,6 +45,7 @@ impl Line {
             nodes: 0,
             edges: 0,
             half: Line::WHOLE,
+            edition: Chart::EDITION_1,
             above: above,
         }
     }
@@ -59,6 +62,12 @@ impl Line {
             self.part += 1;
         }
         self
+    }
+
+    // The line at the | before its constructs.
+    fn filtered(mut self) -> Line {
+        self.edition = Chart::EDITION_2;
+        self.next()
     }
 
     fn byte(mut self, out: &mut [u8], byte: u8) -> Line {
@@ -112,6 +121,7 @@ impl Line {
             return self.above;
         }
         let ends = Ends {
+            edition: self.edition,
             nodes: self.nodes,
             edges: self.edges,
             constructs: self.at,
@@ -127,6 +137,7 @@ impl Line {
             b'#' => Line::new(Line::COMMENT, self.above),
             b'?' => Line::new(Line::PAIRS, self.above),
             b'/' => self.next(),
+            b'|' => self.filtered(),
             b' ' => self,
             _ => self.letter(out, letter),
         }

@@ -1,12 +1,13 @@
-// The trailer that follows from where the parts of a chart end.
+// The trailer that follows from the edition of a chart and from where its parts end.
 use crate::spelling::put_field;
 use chart::format::Chart;
 use chart::format::Construct;
 use chart::format::Edge;
 use chart::format::Node;
 
-// Where the nodes, the edges and the constructs end.
+// The edition, and where the nodes, the edges and the constructs end.
 pub struct Ends {
+    pub edition: usize,
     pub nodes: usize,
     pub edges: usize,
     pub constructs: usize,
@@ -31,15 +32,23 @@ fn after_trailer(out: &[u8], at: usize) -> usize {
     at + Chart::TRAILER_BYTES
 }
 
+// How many construct records so many bytes hold.
+fn construct_count(edition: usize, bytes: usize) -> usize {
+    if edition == Chart::EDITION_2 {
+        return bytes / Construct::BYTES_2;
+    }
+    bytes / Construct::BYTES_1
+}
+
 // Writes the edition and the counts and answers the place after them.
 fn put_counts(out: &mut [u8], ends: Ends) -> usize {
-    let edition = put_field(out, ends.constructs, Chart::EDITION);
+    let edition = put_field(out, ends.constructs, ends.edition);
     let nodes = put_field(out, edition, ends.nodes / Node::BYTES);
     let edges = put_field(out, nodes, span(ends.nodes, ends.edges) / Edge::BYTES);
     put_field(
         out,
         edges,
-        span(ends.edges, ends.constructs) / Construct::BYTES,
+        construct_count(ends.edition, span(ends.edges, ends.constructs)),
     )
 }
 

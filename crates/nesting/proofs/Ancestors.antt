@@ -20,9 +20,9 @@ use Rattle.chart.proofs.NestingFacts.{ConstructFits, construct-fits}
 
 -- what the first m constructs have that are in order by themselves
 module _ (cs : List Construct) (m : ℕ) (alone : any m (badAlone cs) ≡ false) where
-  pub fits : (k : ℕ) → k < m → ConstructFits k (constructAt cs k .kind) (constructAt cs k .parent) (constructAt cs k .name)
+  pub fits : (k : ℕ) → k < m → let d = constructAt cs k in ConstructFits k (d .kind) (d .parent) (d .name) (d .filter)
   unfolding badAlone
-  fits k l = construct-fits k (constructAt cs k .kind) (constructAt cs k .parent) (constructAt cs k .name) (none-passes m (badAlone cs) alone k l)
+  fits k l = construct-fits k _ _ _ _ (none-passes m (badAlone cs) alone k l)
 
   pub parents : (k : ℕ) → k < m → Below k (parentOf cs k)
   unfolding parentOf

@@ -6,9 +6,8 @@ ghost use lib.Dec.{eqb, ltb};
 ghost use lib.ListN.{length};
 ghost use Rattle.lists.specs.Range.{any};
 ghost use Rattle.chart.specs.Format.{outside, decode, constructAt};
-ghost use Rattle.chart.specs.Scope.{criticalByte};
 ghost use Rattle.chart.specs.Nesting.{kinds, excluded, wronglyAbove, misplaced, misnested, NestingTable};
-ghost use Rattle.chart.specs.Refusal.{badConstruct, badAlone, strayNode, badConstructs};
+ghost use Rattle.chart.specs.Refusal.{foreignNumber, badConstruct, badAlone, strayNode, badConstructs};
 ghost use Rattle.chart.specs.Checked.{Laid};
 use chart::cursor::wide;
 use chart::format::Chart;
@@ -25,19 +24,19 @@ fn bad_parent(parent: u8, c: usize) -> bool
     parent != Construct::NONE
 }
 
-// A name on a construct that is no critical.
-fn bad_name(kind: u8, name: usize) -> bool
-    ensures { λ r. ⌜ r ≡ (not (eqb kind criticalByte) && not (eqb name 0)) ⌝ }
+// A number that only constructs of one kind have, not 0 on another kind.
+fn foreign_number(only: u8, kind: u8, number: usize) -> bool
+    ensures { λ r. ⌜ r ≡ foreignNumber only kind number ⌝ }
 {
-    if kind == Construct::CRITICAL {
+    if kind == only {
         return false;
     }
-    name != 0
+    number != 0
 }
 
 // Row 6, of construct c by itself.
 fn bad_construct(construct: Construct, c: usize) -> bool
-    ensures { λ r. ⌜ r ≡ badConstruct c (construct .kind) (construct .parent) (construct .name) ⌝ }
+    ensures { λ r. ⌜ r ≡ badConstruct c (construct .kind) (construct .parent) (construct .name) (construct .filter) ⌝ }
 {
     let kind = construct.kind;
     if kind < Construct::SINGLE {
@@ -49,7 +48,10 @@ fn bad_construct(construct: Construct, c: usize) -> bool
     if bad_parent(construct.parent, c) {
         return true;
     }
-    bad_name(kind, construct.name)
+    if foreign_number(Construct::CRITICAL, kind, construct.name) {
+        return true;
+    }
+    foreign_number(Construct::MASTER, kind, construct.filter)
 }
 
 // Whether `outer` may not stand above `inner`, by the table and the names.

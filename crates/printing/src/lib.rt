@@ -41,7 +41,7 @@ fn print(s: &[u8]) {
 
 // Standard input is read to one byte past the longest chart; what is longer is refused by its length.
 pub fn run() {
-    let mut buffer = [0u8; 3025];
+    let mut buffer = [0u8; Chart::MOST_BYTES + 1];
     let n = io::read_full(0, &mut buffer);
     if Chart::MOST_BYTES < n {
         print_refusal(Refusal::LENGTHS);

@@ -3,7 +3,7 @@
 -- Assumes nothing.
 use mathlib.Core.Path.{_≡_, refl, ap, sym, _∙_, subst}
 use mathlib.Core.Logic.{_⊎_, inl, inr, _≢_, _↔_}
-use mathlib.Core.Bool.{true, false, cond}
+use mathlib.Core.Bool.{Bool, true, false, cond}
 use mathlib.Core.List.{List}
 use Prim.Native.Nat.{ℕ, zero, suc, _+_, _^_, _≤_, _<_}
 use native.Mathlib.Omega.{arith}
@@ -87,11 +87,9 @@ back (suc (suc (suc (suc (suc (suc zero)))))) l m = refl
 back (suc (suc (suc (suc (suc (suc (suc zero))))))) l m = refl
 back (suc (suc (suc (suc (suc (suc (suc (suc b)))))))) l m = absurd (omega arith)
 
--- one construct more, whose kind was read
-pub of-next : (constructs : List Construct) (kind c : ℕ) {k m n : ℕ} → k ≡ constructAt constructs c .kind → m ≡ maskOf (isOf constructs kind) c
-    → n ≡ cond (eqb k kind) (bitOr (2 ^ c) m) m → n ≡ maskOf (isOf constructs kind) (c + 1)
-unfolding isOf
-of-next constructs kind c q e h = rw (mask-next _ c, ← e, ← q) h
+-- one construct more, of which the test was made
+pub test-next : (f : ℕ → Bool) (c : ℕ) {b : Bool} {m n : ℕ} → b ≡ f c → m ≡ maskOf f c → n ≡ cond b (bitOr (2 ^ c) m) m → n ≡ maskOf f (c + 1)
+test-next f c q e h = rw (mask-next f c, ← e, ← q) h
 
 module _ (s : List ℕ) (chart : Chart) (A : Accepted s chart) where
   abbrev R : Region
@@ -135,7 +133,7 @@ module _ (s : List ℕ) (chart : Chart) (A : Accepted s chart) where
       go (inr h) = rw h (mask-carry (λ d m q. (q, λ r. clash (means .1 (subst (λ (e : ℕ). Returns R (of e)) q r)) h)) (λ d m p. p .0) (mask-one l))
 
   -- what a construct gives
-  module _ (c : ℕ) (l : c < R .constructs) (masters : ℕ) (M : OfKind R master masters) where
+  module _ (c : ℕ) (l : c < R .constructs) (masters : ℕ) (M : byte c ≡ masterByte → Mask (λ d. Gives R c d master) (R .constructs) masters) where
     abbrev Own : ℕ → Type 0
     Own d = Counts (decode s) c × Gives R c d (R .kind c)
 
@@ -163,7 +161,7 @@ module _ (s : List ℕ) (chart : Chart) (A : Accepted s chart) where
 
         go : Dec (byte c ≡ masterByte) → Dec (byte c ≡ singleByte) → Dec (byte c ≡ orderedByte) → Dec (byte c ≡ sectionByte)
             → Mask Own (R .constructs) (ownMask (byte c) (R .parent c) c (returning R) masters)
-        go (yes a) b o t = rw (eq-eqb (byte c) masterByte a) (given {kind = master} (rw a) (mask-carry (λ d m k. (k, refl)) (λ d m g. g .0) M))
+        go (yes a) b o t = rw (eq-eqb (byte c) masterByte a) (given {kind = master} (rw a) (M a))
         go (no a) (yes b) o t = rw (ne-eqb (byte c) masterByte a, eq-eqb (byte c) singleByte b) (given {kind = single} (rw b) (lasting-one (λ d. d) c l l))
         go (no a) (no b) (yes o) t =
             let p = reading s chart A .counts-below (do-counts c l o) in
@@ -187,13 +185,15 @@ module _ (s : List ℕ) (chart : Chart) (A : Accepted s chart) where
               (next-held R (Counts (decode s)) c (λ q. omega arith) (held-at K (omega arith) (R .parent c) (parent-lower c l)) own-given) (K .is-held);
         }
 
+  -- the byte of a kind
+  pub kind-byte : (kind c : ℕ) → 1 ≤ kind → kind ≤ 7 → c < R .constructs → R .kind c ≡ kindOf kind → byte c ≡ kind
+  kind-byte kind c h k l t = let T = tables s chart A .constructs .alone c l in sym (back (byte c) (T .least) (T .most)) ∙ ap byteOf t ∙ back kind h k
+
   -- the constructs of a kind
   of-kind : (kind : ℕ) → 1 ≤ kind → kind ≤ 7 → OfKind R (kindOf kind) (maskOf (isOf (decode s .constructs) kind) (R .constructs))
   unfolding isOf
   of-kind kind h k =
-      let T = tables s chart A .constructs .alone in
-      mask-carry (λ c l t. ap kindOf (eqb-true (byte c) kind t))
-      (λ c l t. eq-eqb (byte c) kind (sym (back (byte c) (T c l .least) (T c l .most)) ∙ ap byteOf t ∙ back kind h k))
+      mask-carry (λ c l t. ap kindOf (eqb-true (byte c) kind t)) (λ c l t. eq-eqb (byte c) kind (kind-byte kind c h k l t))
       (mask-of (isOf (decode s .constructs) kind) (R .constructs))
 
   pub kinds : Kinds R (record {

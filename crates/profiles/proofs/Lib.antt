@@ -1,3 +1,4 @@
 pub mod Constructs
+pub mod Masters
 pub mod Facts
 pub mod Nodes

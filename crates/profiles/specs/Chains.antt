@@ -1,7 +1,7 @@
 -- What is computed of the constructs on the way to the masks of nodes: what a node in each construct holds, and the constructs of one kind.
 -- Assumes nothing.
 use mathlib.Core.Path.{_≡_}
-use mathlib.Core.Bool.{Bool, cond}
+use mathlib.Core.Bool.{Bool, _&&_, cond}
 use mathlib.Core.List.{List}
 use Prim.Native.Nat.{ℕ, _^_, _<_}
 use lib.Dec.{eqb}
@@ -40,7 +40,7 @@ maskAt masks p = cond (eqb p outside) 0 (getD masks p 0)
 unfoldable pub lastingBit : ℕ → ℕ → ℕ → ℕ
 lastingBit returning d c = cond (has returning d) 0 (2 ^ c)
 
--- What construct c gives, by its kind and parent, the masters, and the constructs that return.
+-- What construct c gives, by its kind and parent, the masters for its thread, and the constructs that return.
 unfoldable pub ownMask : ℕ → ℕ → ℕ → ℕ → ℕ → ℕ
 ownMask kind parent c returning masters =
     cond (eqb kind masterByte) masters
@@ -50,3 +50,9 @@ ownMask kind parent c returning masters =
 -- Construct c is of this kind.
 unfoldable pub isOf : List Construct → ℕ → ℕ → Bool
 isOf constructs kind c = eqb (constructAt constructs c .kind) kind
+
+-- Construct d is of this kind, with this name and this filter.
+unfoldable pub isLike : List Construct → ℕ → ℕ → ℕ → ℕ → Bool
+isLike constructs kind name filter d =
+    let k = constructAt constructs d in
+    eqb (k .kind) kind && (eqb (k .name) name && eqb (k .filter) filter)

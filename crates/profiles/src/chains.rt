@@ -1,9 +1,6 @@
 // Masks of constructs: what a node in each of them holds, and the constructs of each kind.
 ghost use mathlib.Core.Path.{_≡_};
-ghost use mathlib.Core.Bool.{cond};
-ghost use Prim.Native.Nat.{_+_, _^_, _<_};
-ghost use lib.Bits.{bitOr};
-ghost use lib.Dec.{eqb};
+ghost use Prim.Native.Nat.{_+_, _<_};
 ghost use lib.ListN.{length};
 ghost use Rattle.chart.specs.Format.{outside, decode};
 ghost use Rattle.chart.specs.Region.{master};
@@ -14,6 +11,8 @@ ghost use Rattle.phases.specs.Phases.{returning as returningMask};
 ghost use Rattle.loading.specs.Tables.{Accepted};
 ghost use Rattle.profiles.specs.Chains.{Chains, maskAt, lastingBit, ownMask};
 ghost use Rattle.profiles.specs.Marks.{OfKind, Kinds};
+use crate::peers::add_if;
+use crate::peers::masters_like;
 use bits::bit;
 use bits::has;
 use chart::cursor::wide;
@@ -44,7 +43,7 @@ fn lasting(c: usize, d: usize, returning: u64) -> u64
 }
 
 // What a node holds for being inside construct c: a single and, for an ordered, its do, where they do not return; a section where its parent
-// does not; for a master all masters, since one thread goes into all of them.
+// does not; for a master the masters for its thread, since that one goes into all of them.
 fn own(construct: Construct, c: usize, returning: u64, masters: u64) -> u64
     requires { ⌜ (c < 48) × (construct .kind ≡ orderedByte → construct .parent < 48) × (construct .kind ≡ sectionByte → construct .parent < 48) ⌝ }
     ensures { λ r. ⌜ r ≡ ownMask (construct .kind) (construct .parent) c returning masters ⌝ }
@@ -78,7 +77,8 @@ fn add_construct(
     ensures { λ _. ⌜ Chains (reading (now (s .entry)) chart) (Counts (decode (now (s .entry)))) (c + 1) (now (held .exit)) ⌝ }
 {
     let construct = Construct::read(s, chart, c);
-    held[c] = mask_at(held, construct.parent) | own(construct, c, returning, masters);
+    let like = masters_like(s, chart, c, masters);
+    held[c] = mask_at(held, construct.parent) | own(construct, c, returning, like);
 }
 
 // For each construct what a node that lies in it holds, given the constructs that return and the masters.
@@ -100,17 +100,6 @@ pub fn fill_chains(
     }
 }
 
-// The mask with bit c, where construct c is of this kind.
-fn add_kind(construct: Construct, kind: u8, c: usize, mask: u64) -> u64
-    requires { ⌜ c < 64 ⌝ }
-    ensures { λ r. ⌜ r ≡ cond (eqb (construct .kind) kind) (bitOr (2 ^ c) mask) mask ⌝ }
-{
-    if construct.kind != kind {
-        return mask;
-    }
-    bit(c) | mask
-}
-
 // The constructs of the kinds that the rules speak of; `sections` are those of kind section.
 pub struct Sets {
     pub masters: u64,
@@ -130,11 +119,11 @@ pub fn sets_of(s: &[u8], chart: Chart) -> Sets
     let mut sections = 0;
     let mut c = 0;
     while c < n {
-        let construct = Construct::read(s, chart, c);
-        masters = add_kind(construct, Construct::MASTER, c, masters);
-        singles = add_kind(construct, Construct::SINGLE, c, singles);
-        dos = add_kind(construct, Construct::DO, c, dos);
-        sections = add_kind(construct, Construct::SECTION, c, sections);
+        let kind = Construct::read(s, chart, c).kind;
+        masters = add_if(kind == Construct::MASTER, c, masters);
+        singles = add_if(kind == Construct::SINGLE, c, singles);
+        dos = add_if(kind == Construct::DO, c, dos);
+        sections = add_if(kind == Construct::SECTION, c, sections);
         c += 1;
     }
     Sets {

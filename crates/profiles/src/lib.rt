@@ -1,4 +1,5 @@
 // What the pair rules read of a node, as masks: its starts and ends, which the searches find, and the constructs that it holds, made in one
-// pass over the constructs (`chains`) and one over the nodes (`marks`).
+// pass over the constructs (`chains`, with `peers`) and one over the nodes (`marks`).
 pub mod chains;
 pub mod marks;
+pub mod peers;

@@ -3,15 +3,24 @@ ghost use mathlib.Core.Path.{_≡_};
 ghost use Prim.Native.Nat.{_+_, _*_, _≤_, _<_};
 ghost use lib.ListN.{length};
 ghost use Rattle.chart.specs.Format.{decode};
-ghost use Rattle.chart.specs.Refusal.{badMarks, badCounts, badLengths, firstOf, trailerRows};
+ghost use Rattle.chart.specs.Refusal.{badEdition, badMarks, badCounts, badLengths, firstOf, trailerRows};
 ghost use Rattle.chart.specs.Checked.{countsOf, answer};
 use chart::cursor::Cursor;
+use chart::cursor::construct_bytes;
 use chart::format::Chart;
 use chart::format::Checked;
-use chart::format::Construct;
 use chart::format::Edge;
 use chart::format::Node;
 use chart::format::Refusal;
+
+fn bad_edition(edition: usize) -> bool
+    ensures { λ r. ⌜ r ≡ badEdition edition ⌝ }
+{
+    if edition == Chart::EDITION_1 {
+        return false;
+    }
+    edition != Chart::EDITION_2
+}
 
 // Row 2.
 fn bad_marks(s: &[u8]) -> bool
@@ -19,7 +28,7 @@ fn bad_marks(s: &[u8]) -> bool
     ensures { λ r. ⌜ r ≡ badMarks (decode (now (s .entry)) .trailer) ⌝ }
 {
     let cursor = Cursor::trailer(s);
-    if cursor.field(s, 0) != Chart::EDITION {
+    if bad_edition(cursor.field(s, 0)) {
         return true;
     }
     cursor.field(s, 14) != Chart::CLOSING
@@ -55,17 +64,17 @@ fn bad_lengths(s: &[u8], chart: Chart) -> bool
     let all = s.len();
     let n = chart.nodes;
     let e = chart.edges;
-    let c = chart.constructs;
-    if all != Node::BYTES * n + Edge::BYTES * e + Construct::BYTES * c + Chart::TRAILER_BYTES {
+    let constructs = construct_bytes(chart.edition, chart.constructs);
+    if all != Node::BYTES * n + Edge::BYTES * e + constructs + Chart::TRAILER_BYTES {
         return true;
     }
     if cursor.field(s, 8) != all {
         return true;
     }
-    if cursor.field(s, 10) != Edge::BYTES * e + Construct::BYTES * c + Chart::TRAILER_BYTES {
+    if cursor.field(s, 10) != Edge::BYTES * e + constructs + Chart::TRAILER_BYTES {
         return true;
     }
-    cursor.field(s, 12) != Construct::BYTES * c + Chart::TRAILER_BYTES
+    cursor.field(s, 12) != constructs + Chart::TRAILER_BYTES
 }
 
 // Rows 1 to 4: the counts, or the refusal.

@@ -36,8 +36,8 @@ Untaken m σ c k x = (t : ℕ) → t < m → (σ .encounters t c ≤ k) × (σ .
 abbrev pub AllTaken : Region → ℕ → State → ℕ → ℕ → Type 0
 AllTaken R m σ c k = (x : ℕ) → SectionOf R c x → Taken m σ c k x
 
--- What lets thread t, at the begin of c, take an edge, by the kind of c (01: single begin, master begin, do begin, ordered begin). The begin
--- of a sections construct is left by `take` and `pass` alone.
+-- What lets thread t, at the begin of c, take an edge, by the kind of c (01: single begin, master begin, do begin, ordered begin). Into a
+-- master goes the thread of its number alone (02: the filter of a masked). The begin of a sections construct is left by `take` and `pass` alone.
 abbrev pub MayEnter : Region → ℕ → State → ℕ → ℕ → Kind → Type 0
 MayEnter R m σ t c single = First m σ t c
 MayEnter R m σ t c master = t ≡ R .thread c

@@ -10,7 +10,7 @@ pub enum Answer {
     Concurrent = 0,
     /// Never: no common start, or no common end.
     NoCommonPhase = 1,
-    /// Never: each is inside some master.
+    /// Never: both inside masked constructs of the same filter; in edition 1, each inside some master.
     Master = 2,
     /// Never: both inside one single, which does not return.
     Single = 3,

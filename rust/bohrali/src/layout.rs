@@ -21,6 +21,7 @@ pub enum NodeKind {
 #[repr(u8)]
 pub enum ConstructKind {
     Single = 1,
+    /// In edition 2 masked, with a filter: the number of the one thread that goes in.
     Master = 2,
     Critical = 3,
     Do = 4,
@@ -36,7 +37,10 @@ pub const CONSTRUCT_NONE: u8 = 255;
 
 pub const BYTES_NODE: usize = 4;
 pub const BYTES_EDGE: usize = 2;
+/// In edition 1.
 pub const BYTES_CONSTRUCT: usize = 4;
+/// In edition 2: two bytes more, the filter.
+pub const BYTES_CONSTRUCT_2: usize = 6;
 pub const BYTES_TRAILER: usize = 16;
 
 /// What `phases` writes for each node.
@@ -44,6 +48,8 @@ pub const BYTES_PHASES: usize = 16;
 
 /// The first field of the trailer.
 pub const TRAILER_EDITION: u16 = 1;
+/// The same, of charts with filters.
+pub const TRAILER_EDITION_2: u16 = 2;
 
 /// The last field of the trailer: the bytes 4F 43, little-endian.
 pub const TRAILER_CLOSING: u16 = 0x434F;

@@ -10,15 +10,16 @@ use std::fmt;
 pub enum Refusal {
     /// Fewer than 16 bytes.
     Short = 1,
-    /// Edition or closing bytes differ.
+    /// Edition neither 1 nor 2, or closing bytes differ.
     Marks = 2,
     /// Node, edge or construct count outside its limits.
     Counts = 3,
-    /// Length or a distance of the trailer differs.
+    /// Length or a distance of the trailer differs from what the edition asks.
     Lengths = 4,
     /// A node's kind or construct number.
     Node = 5,
-    /// A construct's kind, parent or name, the nesting, or a node or construct wrongly in a sections.
+    /// A construct's kind, parent or name, a filter on a kind that is not masked, the nesting, or a node
+    /// or construct wrongly in a sections.
     Construct = 6,
     /// Not exactly one begin and one end for each construct.
     Frame = 7,
@@ -67,7 +68,7 @@ impl Refusal {
             Refusal::Lengths => "length or a distance differs",
             Refusal::Node => "a node's kind or construct number is wrong",
             Refusal::Construct => {
-                "a construct's kind, parent or name, the nesting or what is in a sections is wrong"
+                "a construct's kind, parent, name or filter, the nesting or what is in a sections is wrong"
             }
             Refusal::Frame => "a construct has not exactly one begin and one end",
             Refusal::Barrier => "the first or last node is no barrier, or there are over 64",

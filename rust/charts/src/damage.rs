@@ -4,6 +4,7 @@
 use crate::random::Random;
 use reference::builder::ChartBuilder;
 use reference::chart::{Construct, Edge, Node, Trailer};
+use reference::masked;
 
 /// The rows of the table that can be aimed at.
 pub const ROWS: std::ops::RangeInclusive<u8> = 1..=10;
@@ -13,8 +14,9 @@ pub fn aimed_at(random: &mut Random, valid: &ChartBuilder, row: u8) -> Vec<u8> {
     let mut chart = valid.clone();
     match row {
         1 => truncated(random, chart.bytes()),
-        2 => with_field(random, chart.bytes(), &[0, 7], &[0, 2, 257, 0x4F43]),
+        2 => with_field(random, chart.bytes(), &[0, 7], &[0, 3, 257, 258, 0x4F43]),
         3 => outside_limits(random, chart.bytes()),
+        4 if random.percent(20) => other_edition(chart.bytes()),
         4 => wrong_distance(random, chart.bytes()),
         5 => wrong_node(random, &mut chart),
         6 => wrong_construct(random, &mut chart),
@@ -42,10 +44,10 @@ pub fn scattered(random: &mut Random, mut bytes: Vec<u8>) -> Vec<u8> {
 /// Random bytes, often behind a trailer that passes rows 1 to 4.
 pub fn noise(random: &mut Random) -> Vec<u8> {
     if random.percent(50) {
-        let length = random.between(0, 3100);
+        let length = random.between(0, 3200);
         return (0..length).map(|_| random.byte()).collect();
     }
-    let mut chart = ChartBuilder::new();
+    let mut chart = ChartBuilder::of_edition(random.between(1, 2) as u16);
     for _ in 0..random.between(2, 12) {
         chart.node(random.below(4) as u8, random.pick(&[0, 1, 255, 255]));
     }
@@ -53,7 +55,12 @@ pub fn noise(random: &mut Random) -> Vec<u8> {
         chart.edge(random.below(12), random.below(12));
     }
     for _ in 0..random.between(0, 3) {
-        chart.construct(random.between(1, 7) as u8, random.pick(&[0, 255]), 0);
+        chart.add(Construct {
+            kind: random.between(1, 7) as u8,
+            parent: random.pick(&[0, 255]),
+            name: 0,
+            filter: random.pick(&[0, 0, 1]),
+        });
     }
     chart.bytes()
 }
@@ -94,6 +101,14 @@ fn wrong_distance(random: &mut Random, mut bytes: Vec<u8>) -> Vec<u8> {
     bytes
 }
 
+/// The number of the other edition: the construct records, where there are some, have the wrong length
+/// then.
+pub fn other_edition(mut bytes: Vec<u8>) -> Vec<u8> {
+    let at = bytes.len() - Trailer::BYTES;
+    bytes[at] ^= (Trailer::EDITION ^ masked::EDITION) as u8;
+    bytes
+}
+
 fn wrong_node(random: &mut Random, chart: &mut ChartBuilder) -> Vec<u8> {
     let beyond = chart.constructs.len() + random.below(255 - chart.constructs.len());
     let count = chart.nodes.len();
@@ -113,6 +128,9 @@ fn wrong_construct(random: &mut Random, chart: &mut ChartBuilder) -> Vec<u8> {
     if chart.constructs.is_empty() {
         chart.construct(random.between(1, 7) as u8, Construct::NONE, 0);
     }
+    if chart.edition == masked::EDITION && random.percent(30) {
+        return wrong_filter(random, chart);
+    }
     let number = random.below(chart.constructs.len());
     let own = &mut chart.constructs[number];
     match random.below(5) {
@@ -122,6 +140,21 @@ fn wrong_construct(random: &mut Random, chart: &mut ChartBuilder) -> Vec<u8> {
         3 => own.kind = random.between(1, 7) as u8,
         _ => own.parent = random.below(number + 1) as u8,
     }
+    chart.bytes()
+}
+
+/// A filter on a construct that is not masked, which is added where there is none. It breaks row 7 at
+/// most, which comes later.
+pub fn wrong_filter(random: &mut Random, chart: &mut ChartBuilder) -> Vec<u8> {
+    let is_other = |&number: &usize| chart.constructs[number].kind != Construct::MASTER;
+    let others: Vec<usize> = (0..chart.constructs.len()).filter(is_other).collect();
+    let number = match others[..] {
+        [] => chart
+            .construct(Construct::SINGLE, Construct::NONE, 0)
+            .into(),
+        _ => random.pick(&others),
+    };
+    chart.constructs[number].filter = random.pick(&[1, 255, 256, 65_535]);
     chart.bytes()
 }
 

@@ -5,6 +5,7 @@
 use crate::random::Random;
 use reference::builder::ChartBuilder;
 use reference::chart::{Construct, Node};
+use reference::masked;
 use reference::scopes::may_enclose;
 
 /// How large a chart is to be, and how its edges are drawn.
@@ -22,6 +23,9 @@ pub struct Shape {
     pub returning: usize,
     /// The kinds that constructs are drawn from, likelier ones more often.
     pub kinds: &'static [u8],
+    /// The filters that masked constructs are drawn with, likelier ones more often; none make the chart
+    /// one of edition 1.
+    pub filters: &'static [u16],
 }
 
 /// Without sections. The benchmark's charts are drawn from these: with another list they are others.
@@ -30,11 +34,23 @@ pub const PLAIN_KINDS: &[u8] = &[1, 1, 1, 2, 2, 3, 3, 5, 5, 5, 5];
 const ALL_KINDS: &[u8] = &[1, 1, 1, 1, 2, 2, 2, 3, 3, 5, 5, 5, 5, 5, 5, 7, 7];
 /// Mostly sections, with what may stand in them and beside them.
 const DEALT_KINDS: &[u8] = &[1, 2, 3, 3, 3, 5, 6, 7, 7, 7, 7, 7, 7, 7];
+/// Mostly masked constructs, with what may stand above, below and beside them.
+const MASKED_KINDS: &[u8] = &[1, 2, 2, 2, 2, 2, 2, 2, 3, 3, 5, 5, 7];
+
+pub const EDITION_1: &[u16] = &[];
+/// Threads of small teams.
+pub const NEAR_FILTERS: &[u16] = &[0, 1, 1, 2];
+/// Some differ in one byte alone.
+pub const FAR_FILTERS: &[u16] = &[0, 1, 255, 256, 257, 65_280, 65_535];
 
 impl Shape {
     /// A chart for the exploration of team states: up to 12 nodes and 5 constructs.
     pub fn small(random: &mut Random) -> Shape {
-        let dealt = random.percent(30);
+        if random.percent(25) {
+            let filters = random.pick(&[NEAR_FILTERS, FAR_FILTERS, FAR_FILTERS]);
+            return Shape::masked(random, filters);
+        }
+        let dealt = random.percent(40);
         let least = if dealt { 8 } else { 0 };
         let inner = random.between(least, 10).max(random.between(0, 10));
         let wanted = match dealt {
@@ -51,6 +67,24 @@ impl Shape {
             window: 10,
             returning: 35,
             kinds: if dealt { DEALT_KINDS } else { ALL_KINDS },
+            filters: random.pick(&[EDITION_1, EDITION_1, EDITION_1, FAR_FILTERS]),
+        }
+    }
+
+    /// Such a chart of edition 2, mostly with masked constructs, of some filters.
+    pub fn masked(random: &mut Random, filters: &'static [u16]) -> Shape {
+        let constructs = random.between(1, 4);
+        let inner = random.between(2 * constructs + 2, 10);
+        let barriers = random.below(2);
+        Shape {
+            constructs,
+            plain: inner - 2 * constructs - barriers,
+            barriers,
+            further_edges: random.between(0, 3),
+            window: 10,
+            returning: 20,
+            kinds: MASKED_KINDS,
+            filters,
         }
     }
 
@@ -75,7 +109,8 @@ impl Shape {
             further_edges: up_to(random, 900),
             window: random.pick(&[1, 3, 20, 192]),
             returning: random.pick(&[0, 20, 100]),
-            kinds: random.pick(&[ALL_KINDS, ALL_KINDS, DEALT_KINDS]),
+            kinds: random.pick(&[ALL_KINDS, ALL_KINDS, DEALT_KINDS, MASKED_KINDS]),
+            filters: random.pick(&[EDITION_1, EDITION_1, NEAR_FILTERS, FAR_FILTERS]),
         }
     }
 }
@@ -96,8 +131,11 @@ const MOST_EDGES: usize = 1024;
 /// A random chart of a shape.
 pub fn valid(random: &mut Random, shape: &Shape) -> ChartBuilder {
     let mut chart = ChartBuilder::new();
+    if !shape.filters.is_empty() {
+        chart.edition = masked::EDITION;
+    }
     for _ in 0..shape.constructs {
-        add_construct(random, &mut chart, shape.kinds);
+        add_construct(random, &mut chart, shape);
     }
     let scopes = add_nodes(random, &mut chart, shape);
     for scope in &scopes {
@@ -121,10 +159,10 @@ pub fn valid(random: &mut Random, shape: &Shape) -> ChartBuilder {
     chart
 }
 
-/// Adds a construct of one of some kinds at a random place where it may stand.
-fn add_construct(random: &mut Random, chart: &mut ChartBuilder, kinds: &[u8]) {
+/// Adds a construct of one of the shape's kinds at a random place where it may stand.
+fn add_construct(random: &mut Random, chart: &mut ChartBuilder, shape: &Shape) {
     loop {
-        let (kind, parent) = match random.pick(kinds) {
+        let (kind, parent) = match random.pick(shape.kinds) {
             Construct::ORDERED => below(random, chart, Construct::ORDERED, Construct::DO),
             Construct::SECTION => below(random, chart, Construct::SECTION, Construct::SECTIONS),
             kind @ (Construct::MASTER | Construct::CRITICAL) => (kind, any_scope(random, chart)),
@@ -134,8 +172,18 @@ fn add_construct(random: &mut Random, chart: &mut ChartBuilder, kinds: &[u8]) {
             Construct::CRITICAL => random.pick(&[0, 1, 2, 256, 65_535]),
             _ => 0,
         };
-        if may_add(chart, Construct { kind, parent, name }) {
-            chart.construct(kind, parent, name);
+        let filter = match (kind, shape.filters) {
+            (Construct::MASTER, [_, ..]) => random.pick(shape.filters),
+            _ => 0,
+        };
+        let own = Construct {
+            kind,
+            parent,
+            name,
+            filter,
+        };
+        if may_add(chart, own) {
+            chart.add(own);
             return;
         }
     }

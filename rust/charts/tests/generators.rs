@@ -77,6 +77,87 @@ fn small_charts_have_sections_of_every_form() {
     }
 }
 
+/// Pairs of masked constructs of a chart, by their filters.
+fn filter_pairs(chart: &Chart) -> Vec<(u16, u16)> {
+    let masked = chart.constructs.iter().enumerate();
+    let masked = masked.filter(|(_, x)| x.kind == Construct::MASTER);
+    let others = |first: usize| masked.clone().filter(move |(number, _)| *number > first);
+    masked
+        .clone()
+        .flat_map(|(first, x)| others(first).map(|(_, y)| (x.filter, y.filter)))
+        .collect()
+}
+
+#[test]
+fn charts_have_both_editions_and_filters_of_every_form() {
+    for (name, draws) in [
+        (
+            "small",
+            (0..2_000)
+                .map(|seed| small(&mut Random::new(seed)))
+                .collect::<Vec<_>>(),
+        ),
+        (
+            "large",
+            (0..400).map(|seed| large(&mut Random::new(seed))).collect(),
+        ),
+    ] {
+        let charts: Vec<Chart> = draws.iter().map(|x| decode_checked(x).unwrap()).collect();
+        let least = charts.len() / 50;
+        for edition in [1, 2] {
+            assert!(
+                share(&charts, |x| x.edition == edition) > charts.len() / 3,
+                "{name}"
+            );
+        }
+        for filter in [0, 1, 255, 256, 65_535] {
+            let has = |x: &Chart| {
+                x.edition == 2
+                    && x.constructs
+                        .iter()
+                        .any(|c| c.kind == 2 && c.filter == filter)
+            };
+            assert!(share(&charts, has) > least, "{name}, filter {filter}");
+        }
+        let equal = |x: &Chart| filter_pairs(x).iter().any(|(f, g)| f == g && *f != 0);
+        assert!(share(&charts, equal) > least, "{name}, equal filters");
+        let different = |x: &Chart| filter_pairs(x).iter().any(|(f, g)| f != g);
+        assert!(
+            share(&charts, different) > least,
+            "{name}, different filters"
+        );
+        let low_bytes = |x: &Chart| {
+            filter_pairs(x)
+                .iter()
+                .any(|(f, g)| f != g && f % 256 == g % 256)
+        };
+        assert!(
+            share(&charts, low_bytes) > least / 2,
+            "{name}, equal low bytes"
+        );
+    }
+}
+
+#[test]
+fn damaged_editions_and_filters_are_refused() {
+    let mut unlike = 0;
+    for seed in 0..1_000 {
+        let mut random = Random::new(seed);
+        let shape = valid::Shape::small(&mut random);
+        let mut chart = valid::valid(&mut random, &shape);
+        let other = decode_checked(&damage::other_edition(chart.bytes()));
+        match chart.constructs.is_empty() {
+            true => assert!(other.is_ok(), "seed {seed}"),
+            false => assert_eq!(other, Err(4), "seed {seed}"),
+        }
+        unlike += usize::from(!chart.constructs.is_empty());
+        chart.edition = 2;
+        let bytes = damage::wrong_filter(&mut random, &mut chart);
+        assert_eq!(decode_checked(&bytes), Err(6), "seed {seed}");
+    }
+    assert!(unlike > 500, "{unlike}");
+}
+
 #[test]
 fn damage_hits_the_row_it_is_aimed_at() {
     for row in damage::ROWS {
@@ -213,4 +294,20 @@ fn charts_in_turn_are_admitted_or_refused_by_each_row() {
     assert!(share(&admitted, |x| x.barriers().len() > 10) >= 8);
     let different: std::collections::BTreeSet<&Vec<u8>> = charts.iter().collect();
     assert_eq!(different.len(), 64);
+}
+
+/// FNV-1a over the bytes of some charts.
+fn digest<'a>(charts: impl IntoIterator<Item = &'a Vec<u8>>) -> u64 {
+    let bytes = charts.into_iter().flatten();
+    bytes.fold(0xCBF2_9CE4_8422_2325, |digest, &byte| {
+        (digest ^ u64::from(byte)).wrapping_mul(0x0100_0000_01B3)
+    })
+}
+
+/// Figures of the benchmark can be compared only while its charts are the same.
+#[test]
+fn benchmark_charts_stay_what_they_are() {
+    let repeated = benchmark::all().map(|(_, chart)| chart);
+    let digests = [digest(&repeated), digest(&benchmark::in_turn())];
+    assert_eq!(digests, [0x13ED_3A24_1488_B394, 0x65CD_BCFC_5735_F67C]);
 }

@@ -1,6 +1,7 @@
 //! The archive's calls, through the safe wrapper, as the numbers that C gets. All bytes that are lent
 //! to them stand between pages that may not be touched. And the proved programs, run as they are.
 
+mod agreement;
 mod guarded;
 pub mod programs;
 

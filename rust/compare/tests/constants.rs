@@ -5,6 +5,7 @@ use bohrali::{limits, Answer};
 use reference::answers::Rules;
 use reference::calls::PHASE_BYTES;
 use reference::chart::{Chart, Construct, Edge, Node, Trailer};
+use reference::{masked, printing};
 
 #[test]
 fn limits_of_a_chart() {
@@ -14,9 +15,10 @@ fn limits_of_a_chart() {
     assert_eq!(limits::MOST_BARRIERS, Chart::MOST_BARRIERS);
     let longest = layout::BYTES_NODE * limits::MOST_NODES
         + layout::BYTES_EDGE * limits::MOST_EDGES
-        + layout::BYTES_CONSTRUCT * limits::MOST_CONSTRUCTS
+        + layout::BYTES_CONSTRUCT_2 * limits::MOST_CONSTRUCTS
         + layout::BYTES_TRAILER;
     assert_eq!(limits::MOST_CHART_BYTES, longest);
+    assert_eq!(limits::MOST_CHART_BYTES, printing::MOST_BYTES);
 }
 
 #[test]
@@ -24,9 +26,11 @@ fn records() {
     assert_eq!(layout::BYTES_NODE, Node::BYTES);
     assert_eq!(layout::BYTES_EDGE, Edge::BYTES);
     assert_eq!(layout::BYTES_CONSTRUCT, Construct::BYTES);
+    assert_eq!(layout::BYTES_CONSTRUCT_2, masked::CONSTRUCT_BYTES);
     assert_eq!(layout::BYTES_TRAILER, Trailer::BYTES);
     assert_eq!(layout::BYTES_PHASES, PHASE_BYTES);
     assert_eq!(layout::TRAILER_EDITION, Trailer::EDITION);
+    assert_eq!(layout::TRAILER_EDITION_2, masked::EDITION);
     assert_eq!(layout::TRAILER_CLOSING.to_le_bytes(), Trailer::CLOSING);
     assert_eq!(layout::CONSTRUCT_NONE, Construct::NONE);
 }

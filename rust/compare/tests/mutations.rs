@@ -18,6 +18,7 @@ fn mutated_charts_and_claims() {
         known::chart_d(&[(5, 1)]),
         known::chart_x(&[]),
         known::chart_x(&[(7, 1)]),
+        known::chart_y([1, 2], &[]),
         known::figure_2b(),
     ];
     let mut admitted = 0;

@@ -3,6 +3,7 @@
 
 use charts::random::Random;
 use compare::programs::printed;
+use reference::known::longest;
 use reference::printing::{text, MOST_BYTES};
 
 const CHARTS: usize = 400;
@@ -32,6 +33,16 @@ fn benchmark_charts() {
     for (_, chart) in charts::benchmark::all() {
         agree(&chart);
     }
+}
+
+/// The longest chart is read whole; behind one byte more, nothing of it.
+#[test]
+fn longest_chart() {
+    let chart = longest();
+    assert_eq!(chart.len(), MOST_BYTES);
+    assert!(text(&chart).starts_with("chart 192 nodes"));
+    agree(&chart);
+    agree(&[&[0], &chart[..]].concat());
 }
 
 /// Past the longest chart the length alone decides: the same bytes, one fewer, are refused by their

@@ -7,7 +7,8 @@ const STACK: usize = 64 * 1024;
 
 #[test]
 fn calls_fit_a_small_stack() {
-    for (name, chart) in charts::benchmark::all() {
+    let longest = ("the longest chart", reference::known::longest());
+    for (name, chart) in charts::benchmark::all().into_iter().chain([longest]) {
         let mut out = vec![0; MOST_NODES * MOST_NODES];
         let calls = move || {
             bohrali::admit(&chart).expect(name);

@@ -1,5 +1,6 @@
-//! The comparison: for every pair of non-barrier nodes of a chart, the answer is 0 exactly when the
-//! exploration finds the pair met.
+//! The comparison: for every pair of non-barrier nodes of a chart, the exploration finds the pair met
+//! exactly when the answer is 0 and the team has two threads, and among them one for each node; a large
+//! enough team has all that.
 
 use crate::fault::Fault;
 use crate::search::{met, Met};
@@ -9,8 +10,9 @@ use reference::chart::Chart;
 
 /// How far an exploration goes.
 #[derive(Clone, Copy, Debug)]
-pub struct Bounds {
-    pub threads: usize,
+pub struct Bounds<'a> {
+    /// The numbers of the threads; a whole team has all from 0 on.
+    pub threads: &'a [u16],
     /// The first bound on counts; it is raised up to `most_encounters` while a pair that should be
     /// met is not.
     pub first_encounters: u8,
@@ -25,6 +27,8 @@ pub struct Tally {
     pub charts: usize,
     /// Pairs by their answer.
     pub answers: [usize; 6],
+    /// Of those answered 0, the pairs for which the team lacks a thread.
+    pub lacking: usize,
     /// Explorations given up for their number of states.
     pub skipped: usize,
 }
@@ -35,7 +39,6 @@ pub struct Mismatch {
     pub a: usize,
     pub b: usize,
     pub answer: u8,
-    pub threads: usize,
     pub encounters: u8,
 }
 
@@ -51,12 +54,12 @@ pub fn compare(
         fault.plant(&mut rules);
     }
     for encounters in bounds.first_encounters..=bounds.most_encounters {
-        let team = Team::new(chart, bounds.threads, encounters).with_fault(fault);
+        let team = Team::of_numbers(chart, bounds.threads, encounters).with_fault(fault);
         let Some(met) = met(&team, bounds.most_states) else {
             tally.skipped += 1;
             return Ok(());
         };
-        let unlike = |answered_zero: bool| first_unlike(&rules, &met, answered_zero);
+        let unlike = |expected: bool| first_unlike(&rules, &team, &met, expected);
         let missed = unlike(true);
         let raise = missed.is_some() && encounters < bounds.most_encounters;
         if let Some((a, b)) = unlike(false).or(missed.filter(|_| !raise)) {
@@ -64,24 +67,24 @@ pub fn compare(
                 a,
                 b,
                 answer: rules.answer(a, b),
-                threads: bounds.threads,
                 encounters,
             });
         }
         if !raise {
+            tally.add(&rules, &team);
             break;
         }
     }
-    tally.add(&rules);
     Ok(())
 }
 
-/// The first pair answered 0 and not met, or the first one answered otherwise and met.
-fn first_unlike(rules: &Rules, met: &Met, answered_zero: bool) -> Option<(usize, usize)> {
+/// The first pair expected and not met, or the first one not expected and met.
+fn first_unlike(rules: &Rules, team: &Team, met: &Met, expected: bool) -> Option<(usize, usize)> {
     pairs(&rules.chart).find(|&(a, b)| {
         let is_met = met[a] >> b & 1 == 1;
         let zero = rules.answer(a, b) == Rules::CONCURRENT;
-        zero == answered_zero && is_met != zero
+        let due = zero && team.suffices_for(a, b);
+        due == expected && is_met != due
     })
 }
 
@@ -93,10 +96,13 @@ fn pairs(chart: &Chart) -> impl Iterator<Item = (usize, usize)> + '_ {
 }
 
 impl Tally {
-    fn add(&mut self, rules: &Rules) {
+    fn add(&mut self, rules: &Rules, team: &Team) {
         self.charts += 1;
         for (a, b) in pairs(&rules.chart) {
-            self.answers[usize::from(rules.answer(a, b))] += 1;
+            let answer = rules.answer(a, b);
+            self.answers[usize::from(answer)] += 1;
+            let lacking = answer == Rules::CONCURRENT && !team.suffices_for(a, b);
+            self.lacking += usize::from(lacking);
         }
     }
 }

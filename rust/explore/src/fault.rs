@@ -26,11 +26,19 @@ pub enum Fault {
     SectionsLeftEarly,
     /// In a meeting that some thread is past, its sections are not taken for that.
     PastForgotten,
+    /// Rule 2 without the filters: both inside masked constructs.
+    FilterIgnored,
+    /// Rule 2 by the filters' low bytes.
+    FilterLowByte,
+    /// Any thread may go into a masked construct.
+    AnyThreadEnters,
+    /// The thread of the filter's number may go past it.
+    MaskedSkipped,
 }
 
 impl Fault {
     /// Those that change an answer or a pair met.
-    pub const COMPARED: [Fault; 8] = [
+    pub const COMPARED: [Fault; 11] = [
         Fault::SingleReturnDropped,
         Fault::OrderedReturnDropped,
         Fault::CommonEndsDropped,
@@ -39,9 +47,16 @@ impl Fault {
         Fault::SectionFrameLeftOut,
         Fault::SectionReturnDropped,
         Fault::OthersTakenForgotten,
+        Fault::FilterIgnored,
+        Fault::FilterLowByte,
+        Fault::AnyThreadEnters,
     ];
     /// Those that allow further runs, in which no further pair is met.
-    pub const TRACED: [Fault; 2] = [Fault::SectionsLeftEarly, Fault::PastForgotten];
+    pub const TRACED: [Fault; 3] = [
+        Fault::SectionsLeftEarly,
+        Fault::PastForgotten,
+        Fault::MaskedSkipped,
+    ];
 
     /// Puts a fault of the pair rules into what they look at; team faults change nothing here.
     pub fn plant(self, rules: &mut Rules) {
@@ -51,6 +66,8 @@ impl Fault {
             Fault::CommonEndsDropped => rules.phases.ends.fill(u64::MAX),
             Fault::SectionFrameLeftOut => leave_frames_out(rules),
             Fault::SectionReturnDropped => drop_returns(rules, Construct::SECTIONS),
+            Fault::FilterIgnored => change_filters(rules, |_| 0),
+            Fault::FilterLowByte => change_filters(rules, |filter| filter % 256),
             _ => {}
         }
     }
@@ -61,6 +78,13 @@ fn leave_frames_out(rules: &mut Rules) {
     for (node, sections) in rules.in_section.iter_mut().enumerate() {
         let around = rules.chart.enclosing(node);
         sections.retain(|section| around.contains(section));
+    }
+}
+
+/// Lets the rules believe in other filters.
+fn change_filters(rules: &mut Rules, change: fn(u16) -> u16) {
+    for construct in &mut rules.chart.constructs {
+        construct.filter = change(construct.filter);
     }
 }
 

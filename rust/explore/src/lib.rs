@@ -3,6 +3,7 @@
 
 pub mod compare;
 pub mod fault;
+pub mod masked;
 pub mod search;
 mod sections;
 pub mod team;

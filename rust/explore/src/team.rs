@@ -1,13 +1,16 @@
 //! The team rules of 01 and 02 and nothing else: the states of a team and the steps from each; those
-//! of sections are in `sections`. No phase, mask or answer is known here.
+//! of sections are in `sections`, those of masked constructs in `masked`. No phase, mask or answer is
+//! known here.
 
 use crate::fault::Fault;
 use reference::chart::{Chart, Construct, Node};
 
-pub const MOST_THREADS: usize = 3;
+pub const MOST_THREADS: usize = 4;
 pub const MOST_CONSTRUCTS: usize = 5;
-/// A count takes four bits of a packed state.
-const MOST_ENCOUNTERS: u8 = 15;
+/// Bits of a packed state for a node, a set of constructs and a count; 124 in all.
+const NODE_BITS: usize = 6;
+const SET_BITS: usize = MOST_CONSTRUCTS;
+const COUNT_BITS: usize = 4;
 
 /// "The state is each thread's node and, per thread and construct, how often it has left that
 /// construct's begin" since the last release. Only the counts of singles, dos and sections are kept:
@@ -22,12 +25,16 @@ pub struct State {
 }
 
 impl State {
-    /// The state as one number: a byte for each node and set, four bits for each count.
+    /// The state as one number.
     pub fn packed(&self) -> u128 {
-        let bytes = self.nodes.iter().chain(&self.taken);
-        let packed = bytes.fold(0, |packed, &byte| packed << 8 | u128::from(byte));
+        let nodes = self.nodes.iter().map(|&node| (node, NODE_BITS));
+        let sets = self.taken.iter().map(|&set| (set, SET_BITS));
         let counts = self.encounters.iter().flatten();
-        counts.fold(packed, |packed, &count| packed << 4 | u128::from(count))
+        let counts = counts.map(|&count| (count, COUNT_BITS));
+        let fields = nodes.chain(sets).chain(counts);
+        fields.fold(0, |packed, (field, bits)| {
+            packed << bits | u128::from(field)
+        })
     }
 
     pub(crate) fn moved(mut self, thread: usize, to: usize) -> State {
@@ -38,25 +45,37 @@ impl State {
 
 /// A team over an admitted chart of at most `MOST_CONSTRUCTS` constructs.
 pub struct Team<'a> {
-    chart: &'a Chart,
+    pub(crate) chart: &'a Chart,
     successors: Vec<Vec<usize>>,
-    enclosing: Vec<Vec<usize>>,
+    pub(crate) enclosing: Vec<Vec<usize>>,
     pub(crate) begins: Vec<usize>,
     pub(crate) ends: Vec<usize>,
     /// By construct, its sections: none but for a sections construct.
     pub(crate) sections: Vec<Vec<usize>>,
     pub(crate) threads: usize,
+    /// By thread its number.
+    pub(crate) numbers: Vec<u16>,
     most_encounters: u8,
     pub(crate) fault: Option<Fault>,
 }
 
 impl<'a> Team<'a> {
-    /// A step that would raise a count above `most_encounters` is not taken, which makes the number
-    /// of states finite.
+    /// A team of so many threads, "numbered from 0". A step that would raise a count above
+    /// `most_encounters` is not taken, which makes the number of states finite.
     pub fn new(chart: &'a Chart, threads: usize, most_encounters: u8) -> Team<'a> {
+        let numbers: Vec<u16> = (0..threads as u16).collect();
+        Team::of_numbers(chart, &numbers, most_encounters)
+    }
+
+    /// The threads of these numbers in a team that may be too large to be explored. The others, as far as
+    /// no filter is their number, can follow one of these to its barrier when all of these wait at theirs,
+    /// going straight where it went in. So what is met here is met in the whole team.
+    pub fn of_numbers(chart: &'a Chart, numbers: &[u16], most_encounters: u8) -> Team<'a> {
+        let threads = numbers.len();
         assert!((1..=MOST_THREADS).contains(&threads));
         assert!(chart.constructs.len() <= MOST_CONSTRUCTS);
-        assert!(most_encounters <= MOST_ENCOUNTERS);
+        assert!(chart.nodes.len() <= 1 << NODE_BITS);
+        assert!(most_encounters < 1 << COUNT_BITS);
         let constructs = 0..chart.constructs.len();
         Team {
             chart,
@@ -66,6 +85,7 @@ impl<'a> Team<'a> {
             ends: constructs.clone().map(|c| chart.end_of(c)).collect(),
             sections: constructs.map(|c| chart.sections_of(c)).collect(),
             threads,
+            numbers: numbers.to_vec(),
             most_encounters,
             fault: None,
         }
@@ -163,8 +183,7 @@ impl<'a> Team<'a> {
             Construct::SECTIONS => {
                 return self.leave_sections_begin(state, thread, construct, next);
             }
-            // "Thread 0 takes an edge; any other goes straight to the end node."
-            Construct::MASTER => (thread == 0, thread != 0),
+            Construct::MASTER => self.masked_steps(thread, construct),
             Construct::SINGLE => {
                 let first = self.is_first(state, thread, construct);
                 (first, !first)

@@ -15,7 +15,7 @@ fn report(line: &str) {
 }
 
 /// Compares the charts of rising seeds until the time is over.
-fn agree(threads: usize, first_seed: u64, time: Duration) -> Tally {
+fn agree(threads: &[u16], first_seed: u64, time: Duration) -> Tally {
     let start = Instant::now();
     let mut tally = Tally::default();
     let mut seed = first_seed;
@@ -36,12 +36,13 @@ fn agree(threads: usize, first_seed: u64, time: Duration) -> Tally {
     let Tally {
         charts,
         answers,
+        lacking,
         skipped,
     } = tally;
     let pairs: usize = answers.iter().sum();
     report(&format!(
-        "team of {threads}, seeds {first_seed} to {}: {charts} charts, {pairs} pairs agree \
-         (answers 0 to 5: {answers:?}); {skipped} explorations skipped",
+        "threads {threads:?}, seeds {first_seed} to {}: {charts} charts, {pairs} pairs agree \
+         (answers 0 to 5: {answers:?}, a thread lacks for {lacking}); {skipped} explorations skipped",
         seed - 1
     ));
     tally
@@ -49,21 +50,21 @@ fn agree(threads: usize, first_seed: u64, time: Duration) -> Tally {
 
 #[test]
 fn teams_of_two_agree() {
-    let tally = agree(2, 1_000_000, Duration::from_secs(8));
+    let tally = agree(&[0, 1], 1_000_000, Duration::from_secs(8));
     assert!(tally.charts > 200 && tally.skipped * 10 < tally.charts);
 }
 
 #[test]
 fn teams_of_three_agree() {
-    let tally = agree(3, 2_000_000, Duration::from_secs(12));
+    let tally = agree(&[0, 1, 2], 2_000_000, Duration::from_secs(12));
     assert!(tally.charts > 50);
 }
 
 #[test]
 #[ignore = "ten minutes"]
 fn teams_agree_for_long() {
-    agree(2, 10_000_000, Duration::from_secs(300));
-    agree(3, 20_000_000, Duration::from_secs(300));
+    agree(&[0, 1], 10_000_000, Duration::from_secs(300));
+    agree(&[0, 1, 2], 20_000_000, Duration::from_secs(300));
 }
 
 #[test]
@@ -81,13 +82,15 @@ fn known_charts_agree() {
         chart_x(&[]),
         chart_x(&[(1, 7)]),
         chart_x(&[(7, 1)]),
+        chart_y([1, 2], &[]),
+        chart_y([1, 1], &[(6, 1)]),
         figure_2b(),
         row(2, 2),
     ];
     for (index, bytes) in charts.iter().enumerate() {
         for threads in 2..=3 {
             let bounds = Bounds {
-                threads,
+                threads: &[0, 1, 2][..threads],
                 first_encounters: 3,
                 most_encounters: 4,
                 most_states: 500_000,

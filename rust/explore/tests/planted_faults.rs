@@ -1,27 +1,33 @@
 //! Each planted fault of the comparison makes an answer and an exploration disagree within two
 //! thousand charts, on a chart where they agree without it. Under the others the same pairs are met,
-//! by other steps; `sections` has runs for each that the rules forbid.
+//! by other steps; `sections` and `masked` have runs for each that the rules forbid.
 
 use charts::random::Random;
 use explore::compare::{compare, Bounds, Tally};
 use explore::fault::Fault;
+use explore::masked::large_enough;
 use explore::search::steps;
 use explore::team::Team;
 use reference::refusals::decode_checked;
 use std::io::Write;
 
-const BOUNDS: Bounds = Bounds {
-    threads: 2,
-    first_encounters: 2,
-    most_encounters: 4,
-    most_states: 50_000,
-};
+const FIRST_ENCOUNTERS: u8 = 2;
+const MOST_STATES: usize = 50_000;
 
-/// Whether answers and exploration agree on the chart of a seed.
+/// Whether answers and exploration agree on the chart of a seed, for threads that suffice for it.
 fn agree(seed: u64, fault: Option<Fault>) -> bool {
     let bytes = charts::small(&mut Random::new(seed));
     let chart = decode_checked(&bytes).expect("a valid chart");
-    compare(&chart, &BOUNDS, fault, &mut Tally::default()).is_ok()
+    let Some(threads) = large_enough(&chart) else {
+        return true;
+    };
+    let bounds = Bounds {
+        threads: &threads,
+        first_encounters: FIRST_ENCOUNTERS,
+        most_encounters: 4,
+        most_states: MOST_STATES,
+    };
+    compare(&chart, &bounds, fault, &mut Tally::default()).is_ok()
 }
 
 #[test]
@@ -40,8 +46,8 @@ fn same_steps(seed: u64, fault: Fault) -> bool {
     let bytes = charts::small(&mut Random::new(seed));
     let chart = decode_checked(&bytes).expect("a valid chart");
     let taken = |fault: Option<Fault>| {
-        let team = Team::new(&chart, BOUNDS.threads, BOUNDS.first_encounters);
-        steps(&team.with_fault(fault), BOUNDS.most_states)
+        let team = Team::new(&chart, 2, FIRST_ENCOUNTERS);
+        steps(&team.with_fault(fault), MOST_STATES)
     };
     taken(Some(fault)) == taken(None)
 }

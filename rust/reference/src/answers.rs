@@ -36,7 +36,7 @@ impl Rules {
     pub fn answer(&self, a: usize, b: usize) -> u8 {
         let rules: [(u8, Rule); 5] = [
             (1, Rules::no_common_phase),
-            (2, Rules::both_in_masters),
+            (2, Rules::both_in_masked_of_one_filter),
             (3, Rules::both_in_one_single),
             (4, Rules::both_in_ordereds_of_one_do),
             (5, Rules::both_in_one_section),
@@ -49,12 +49,6 @@ impl Rules {
     fn no_common_phase(&self, a: usize, b: usize) -> bool {
         let Phases { starts, ends, .. } = &self.phases;
         starts[a] & starts[b] == 0 || ends[a] & ends[b] == 0
-    }
-
-    /// 2: "each is inside some master".
-    fn both_in_masters(&self, a: usize, b: usize) -> bool {
-        let in_master = |node: usize| self.around(node, Construct::MASTER).next().is_some();
-        in_master(a) && in_master(b)
     }
 
     /// 3: "both inside one single, which does not return".
@@ -79,7 +73,7 @@ impl Rules {
     }
 
     /// The constructs of one kind that a node is inside.
-    fn around(&self, node: usize, kind: u8) -> impl Iterator<Item = usize> + '_ {
+    pub(crate) fn around(&self, node: usize, kind: u8) -> impl Iterator<Item = usize> + '_ {
         let is_kind = move |&c: &usize| self.chart.constructs[c].kind == kind;
         self.enclosing[node].iter().copied().filter(is_kind)
     }

@@ -2,32 +2,71 @@
 //! It checks nothing, so that wrong charts can be built too.
 
 use crate::chart::{Chart, Construct, Edge, Node, Trailer};
+use crate::masked;
 
-/// The records of a chart to be; the fields are open, so that single ones can be changed.
-#[derive(Clone, Debug, Default)]
+/// The edition and records of a chart to be; the fields are open, so that single ones can be changed.
+#[derive(Clone, Debug)]
 pub struct ChartBuilder {
+    pub edition: u16,
     pub nodes: Vec<Node>,
     pub edges: Vec<Edge>,
     pub constructs: Vec<Construct>,
 }
 
+impl Default for ChartBuilder {
+    fn default() -> ChartBuilder {
+        ChartBuilder::new()
+    }
+}
+
 impl ChartBuilder {
+    /// Nothing, in edition 1.
     pub fn new() -> ChartBuilder {
-        ChartBuilder::default()
+        ChartBuilder::of_edition(Trailer::EDITION)
+    }
+
+    pub fn of_edition(edition: u16) -> ChartBuilder {
+        ChartBuilder {
+            edition,
+            nodes: Vec::new(),
+            edges: Vec::new(),
+            constructs: Vec::new(),
+        }
     }
 
     /// The records of a decoded chart, to be changed and encoded again.
     pub fn from_chart(chart: &Chart) -> ChartBuilder {
         ChartBuilder {
+            edition: chart.edition,
             nodes: chart.nodes.clone(),
             edges: chart.edges.clone(),
             constructs: chart.constructs.clone(),
         }
     }
 
-    /// Adds a construct and gives its number.
+    /// Adds a construct of filter 0 and gives its number.
     pub fn construct(&mut self, kind: u8, parent: u8, name: u16) -> u8 {
-        self.constructs.push(Construct { kind, parent, name });
+        self.add(Construct {
+            kind,
+            parent,
+            name,
+            filter: 0,
+        })
+    }
+
+    /// Adds a masked construct and gives its number. The filter is written in edition 2 alone.
+    pub fn masked(&mut self, parent: u8, filter: u16) -> u8 {
+        self.add(Construct {
+            kind: Construct::MASTER,
+            parent,
+            name: 0,
+            filter,
+        })
+    }
+
+    /// Adds a construct and gives its number.
+    pub fn add(&mut self, construct: Construct) -> u8 {
+        self.constructs.push(construct);
         (self.constructs.len() - 1) as u8
     }
 
@@ -87,12 +126,15 @@ impl ChartBuilder {
         }
         let constructs_at = bytes.len();
         for construct in &self.constructs {
-            let [low, high] = construct.name.to_le_bytes();
-            bytes.extend([construct.kind, construct.parent, low, high]);
+            bytes.extend([construct.kind, construct.parent]);
+            bytes.extend(construct.name.to_le_bytes());
+            if self.edition == masked::EDITION {
+                bytes.extend(construct.filter.to_le_bytes());
+            }
         }
         let length = bytes.len() + Trailer::BYTES;
         let fields = [
-            usize::from(Trailer::EDITION),
+            usize::from(self.edition),
             self.nodes.len(),
             self.edges.len(),
             self.constructs.len(),

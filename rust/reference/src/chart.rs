@@ -2,6 +2,8 @@
 //! Decoding is total once the trailer has been checked; the records keep their raw bytes, so that
 //! each later row of the refusal table can look at them.
 
+use crate::masked::{construct_bytes, filter};
+
 /// One node record. The 2-byte tag is not kept, since nothing reads it.
 #[derive(Clone, Copy, Debug, PartialEq, Eq)]
 pub struct Node {
@@ -34,11 +36,15 @@ pub struct Construct {
     pub kind: u8,
     pub parent: u8,
     pub name: u16,
+    /// Of a masked the number of the thread that goes in; 0 in edition 1, and on other kinds.
+    pub filter: u16,
 }
 
 impl Construct {
+    /// In edition 1; `masked` has edition 2.
     pub const BYTES: usize = 4;
     pub const SINGLE: u8 = 1;
+    /// Edition 2's masked.
     pub const MASTER: u8 = 2;
     pub const CRITICAL: u8 = 3;
     pub const DO: u8 = 4;
@@ -62,6 +68,7 @@ pub struct Trailer {
 
 impl Trailer {
     pub const BYTES: usize = 16;
+    /// The first; `masked` has the second.
     pub const EDITION: u16 = 1;
     pub const CLOSING: [u8; 2] = [0x4F, 0x43];
 
@@ -79,7 +86,7 @@ impl Trailer {
         })
     }
 
-    /// "The length is 4n + 2e + 4c + 16."
+    /// "The length is 4n + 2e + 4c + 16", in edition 2 "with 6c for 4c"; so the distances.
     pub fn length(&self) -> usize {
         Node::BYTES * self.nodes + self.edge_distance()
     }
@@ -91,13 +98,14 @@ impl Trailer {
 
     /// The distance from the chart's end back to the first construct.
     pub fn construct_distance(&self) -> usize {
-        Construct::BYTES * self.constructs + Self::BYTES
+        construct_bytes(self.edition) * self.constructs + Self::BYTES
     }
 }
 
 /// A chart as its records.
 #[derive(Clone, Debug, PartialEq, Eq)]
 pub struct Chart {
+    pub edition: u16,
     pub nodes: Vec<Node>,
     pub edges: Vec<Edge>,
     pub constructs: Vec<Construct>,
@@ -113,11 +121,13 @@ impl Chart {
     pub fn decode(bytes: &[u8], trailer: &Trailer) -> Chart {
         let (nodes, rest) = bytes.split_at(Node::BYTES * trailer.nodes);
         let (edges, rest) = rest.split_at(Edge::BYTES * trailer.edges);
-        let constructs = &rest[..Construct::BYTES * trailer.constructs];
+        let width = construct_bytes(trailer.edition);
+        let constructs = &rest[..width * trailer.constructs];
         Chart {
+            edition: trailer.edition,
             nodes: nodes.chunks(Node::BYTES).map(node).collect(),
             edges: edges.chunks(Edge::BYTES).map(edge).collect(),
-            constructs: constructs.chunks(Construct::BYTES).map(construct).collect(),
+            constructs: constructs.chunks(width).map(construct).collect(),
         }
     }
 
@@ -186,5 +196,6 @@ fn construct(record: &[u8]) -> Construct {
         kind: record[0],
         parent: record[1],
         name: u16::from_le_bytes([record[2], record[3]]),
+        filter: filter(record),
     }
 }

@@ -1,8 +1,9 @@
-//! The charts of 01's "Charts with known answers" and a chart with sections, as bytes: for the tests
-//! here, for the exploration and for the comparison with other implementations.
+//! The charts of 01's "Charts with known answers", one with sections and one of edition 2, as bytes:
+//! for the tests here, for the exploration and for the comparison with other implementations.
 
 use crate::builder::ChartBuilder;
 use crate::chart::Construct;
+use crate::masked;
 
 /// Chart K: five nodes, barriers 0, 2 and 4.
 pub fn chart_k() -> Vec<u8> {
@@ -90,6 +91,45 @@ pub fn chart_x(added: &[(usize, usize)]) -> Vec<u8> {
     ];
     let all = edges.iter().chain(added);
     all.for_each(|&(from, to)| chart.edge(from, to));
+    chart.bytes()
+}
+
+/// Chart Y, of edition 2: two masked constructs in a row, each around one plain node, with edges added.
+pub fn chart_y(filters: [u16; 2], added: &[(usize, usize)]) -> Vec<u8> {
+    let mut chart = ChartBuilder::of_edition(masked::EDITION);
+    chart.barrier();
+    for filter in filters {
+        let masked = chart.masked(Construct::NONE, filter);
+        chart.begin(masked);
+        chart.plain(masked);
+        chart.end(masked);
+    }
+    chart.barrier();
+    chart.row();
+    added.iter().for_each(|&(from, to)| chart.edge(from, to));
+    chart.bytes()
+}
+
+/// The longest chart, of edition 2: 192 nodes, 1,024 edges and 48 masked constructs, of filters 0 to 47.
+/// 860 edges lead from the first 27 nodes to nodes 1 to 32; from there on the row leads to Finish.
+pub fn longest() -> Vec<u8> {
+    let mut chart = ChartBuilder::of_edition(masked::EDITION);
+    chart.barrier();
+    for _ in 0..94 {
+        chart.plain(Construct::NONE);
+    }
+    for filter in 0..48 {
+        let masked = chart.masked(Construct::NONE, filter);
+        chart.begin(masked);
+        chart.end(masked);
+    }
+    chart.barrier();
+    for edge in 0..860 {
+        chart.edge(edge / 32, edge % 32 + 1);
+    }
+    for from in 27..191 {
+        chart.edge(from, from + 1);
+    }
     chart.bytes()
 }
 

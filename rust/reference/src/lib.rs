@@ -9,6 +9,7 @@ pub mod chart;
 pub mod distances;
 pub mod first_edges;
 pub mod known;
+pub mod masked;
 pub mod phases;
 pub mod printing;
 pub mod refusals;

@@ -2,6 +2,7 @@
 //! does; within a row the order of the conditions cannot be seen, but it keeps look-ups in bounds.
 
 use crate::chart::{Chart, Construct, Edge, Node, Trailer};
+use crate::masked;
 
 /// One row of the table: whether it applies to a decoded chart.
 type Row = fn(&Chart) -> bool;
@@ -33,9 +34,10 @@ pub fn decode_checked(bytes: &[u8]) -> Result<Chart, u8> {
     }
 }
 
-/// Row 2: "edition or closing bytes differ".
+/// Row 2: "edition or closing bytes differ"; 02: there are editions 1 and 2.
 fn wrong_edition(trailer: &Trailer) -> bool {
-    trailer.edition != Trailer::EDITION || trailer.closing != Trailer::CLOSING
+    ![Trailer::EDITION, masked::EDITION].contains(&trailer.edition)
+        || trailer.closing != Trailer::CLOSING
 }
 
 /// Row 3: "n, e or c outside its limits".
@@ -70,13 +72,15 @@ fn wrong_node(chart: &Chart) -> bool {
 }
 
 /// Row 6: "kind not 1 to 5" (02: or 6 or 7); "parent not lower and not 255; name not 0 on a
-/// non-critical; nesting broken"; 02: "a node or construct wrongly in a sections". Nesting comes
-/// after the fields: its walk outward ends only if every parent is lower.
+/// non-critical; nesting broken"; 02: "a node or construct wrongly in a sections", "a filter on
+/// another kind" than masked. Nesting comes after the fields: its walk outward ends only if every
+/// parent is lower.
 fn wrong_construct(chart: &Chart) -> bool {
     let wrong_fields = chart.constructs.iter().enumerate().any(|(number, own)| {
         !(Construct::SINGLE..=Construct::SECTION).contains(&own.kind)
             || (own.parent != Construct::NONE && usize::from(own.parent) >= number)
             || (own.kind != Construct::CRITICAL && own.name != 0)
+            || own.is_wrongly_filtered()
     });
     wrong_fields
         || (0..chart.constructs.len())

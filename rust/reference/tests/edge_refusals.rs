@@ -167,7 +167,7 @@ fn the_first_row_wins() {
     assert_eq!(admit(&bytes), -4);
     bytes[trailer + 7] = 1;
     assert_eq!(admit(&bytes), -3);
-    bytes[trailer] = 2;
+    bytes[trailer] = 3;
     assert_eq!(admit(&bytes), -2);
     assert_eq!(admit(&bytes[trailer + 1..]), -1);
 }

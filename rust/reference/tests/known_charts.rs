@@ -3,6 +3,8 @@
 
 use reference::builder::ChartBuilder;
 use reference::chart::Construct;
+use reference::known::longest;
+use reference::masked::construct_bytes;
 use reference::{admit, calls};
 use std::fmt::Write;
 use std::{fs, path::PathBuf};
@@ -40,21 +42,28 @@ fn hexadecimal(part: &str) -> Vec<u8> {
         .collect()
 }
 
-/// The trailer that follows from the lengths of the three parts.
-fn trailer(nodes: usize, edges: usize, constructs: usize) -> Vec<u8> {
+/// The trailer that follows from the edition and the lengths of the three parts.
+fn trailer(edition: u16, nodes: usize, edges: usize, constructs: usize) -> Vec<u8> {
     let back = [nodes + edges + constructs, edges + constructs, constructs];
-    let counts = [1, nodes / 4, edges / 2, constructs / 4];
+    let count = constructs / construct_bytes(edition);
+    let counts = [edition.into(), nodes / 4, edges / 2, count];
     let fields = counts.into_iter().chain(back.map(|length| length + 16));
     let bytes = fields.flat_map(|field| (field as u16).to_le_bytes());
     bytes.chain([0x4F, 0x43]).collect()
 }
 
-/// The chart of a line, whose parts after the name are these.
-fn spelt(parts: &[&str]) -> Vec<u8> {
+/// The chart of the parts of a line after the name. A `|` before the constructs, in place of a `/`, makes
+/// it one of edition 2, with six letters a construct.
+fn spelt(line: &str) -> Vec<u8> {
+    let edition = if line.contains('|') { 2 } else { 1 };
+    let parts: Vec<&str> = line.split(['/', '|']).collect();
     let records: Vec<Vec<u8>> = parts[..3].iter().map(|part| letters(part)).collect();
     let last = match parts.get(3) {
         Some(part) => hexadecimal(part),
-        None => trailer(records[0].len(), records[1].len(), records[2].len()),
+        None => {
+            let [nodes, edges, constructs] = [0, 1, 2].map(|part| records[part].len());
+            trailer(edition, nodes, edges, constructs)
+        }
     };
     [records.concat(), last].concat()
 }
@@ -90,7 +99,7 @@ fn add_spelt(text: &mut String) {
             }
         } else if line.contains('/') {
             let (name, parts) = line.split_once('/').expect("a name and parts");
-            chart = spelt(&parts.split('/').collect::<Vec<_>>());
+            chart = spelt(parts);
             add_chart(text, name.trim(), &chart);
         }
     }
@@ -155,6 +164,7 @@ fn add_limits(text: &mut String) {
     ] {
         add_chart(text, name, &chart.bytes());
     }
+    add_chart(text, "bytes-3120", &longest());
 }
 
 #[test]

@@ -32,7 +32,7 @@ fn row_1_too_short() {
 
 #[test]
 fn row_2_edition_and_closing_bytes() {
-    for edition in [0, 2, 256, 257, 65_535] {
+    for edition in [0, 3, 256, 257, 258, 512, 65_535] {
         assert_eq!(with_field(chart_k(), 0, edition), -2);
     }
     for closing in [0, 0x4F43, 0x434E, 0x444F] {

@@ -1,7 +1,7 @@
 //! What the calls make of an admitted chart and its marks.
 
 use crate::bits::{join_at, Masks};
-use crate::constructs::{at, ANY_MASTER};
+use crate::constructs::at;
 use crate::marks::{Marks, Read};
 use std::ops::Range;
 
@@ -72,7 +72,7 @@ impl Marked<'_> {
     pub fn answer_of(&self, shared: u64) -> u8 {
         if shared == 0 {
             0
-        } else if shared == ANY_MASTER {
+        } else if shared & self.read.constructs.masters != 0 {
             2
         } else if shared & self.read.constructs.singles != 0 {
             3

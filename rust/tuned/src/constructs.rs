@@ -1,7 +1,7 @@
 //! Row 6, and what the construct table says.
 
 use crate::bits::bits;
-use crate::tables::{Record, NONE};
+use crate::tables::{Filtered, Record, Records, MOST_CONSTRUCTS, NONE};
 
 const SINGLE: u8 = 1;
 const MASTER: u8 = 2;
@@ -28,8 +28,8 @@ const ABOVE: [u8; 8] = [
 /// sections. Bit 0 is no kind's.
 const NOT_ALL: [u8; 8] = [1, 1, 1, 1 << SECTIONS, 1, 0, 1, 0];
 
-/// The bit of an exclusion that all masters share; constructs have bits 0 to 47.
-pub const ANY_MASTER: u64 = 1 << 63;
+/// The bit of an exclusion that all masters of edition 1 share; constructs have bits 0 to 47.
+const ANY_MASTER: u64 = 1 << 63;
 
 /// The entry of a construct, or of none: 255 falls on 63, which no construct has.
 #[inline(always)]
@@ -42,10 +42,12 @@ pub struct Constructs {
     pub parent: [u8; 64],
     /// The construct whose exclusions its begin and end have: its parent, for a section itself.
     pub framed: [u8; 64],
-    /// Of a node that lies there: the masters' bit, the single or the section around it, or the do of
-    /// the ordered around it. The nesting table leaves at most one.
+    /// Of a node that lies there: the bit of the masters, of a filter in edition 2, the single or the
+    /// section around it, or the do of the ordered around it. The nesting table leaves at most one.
     pub excludes: [u64; 64],
     pub count: usize,
+    /// The bits of masters.
+    pub masters: u64,
     pub singles: u64,
     /// Dos that have an ordered.
     pub dos: u64,
@@ -70,6 +72,7 @@ impl Constructs {
             framed: [NONE; 64],
             excludes: [0; 64],
             count: 0,
+            masters: ANY_MASTER,
             singles: 0,
             dos: 0,
             dealt: 0,
@@ -85,8 +88,41 @@ impl Constructs {
 
     /// Reads the table; false if row 6 applies.
     #[inline(always)]
-    pub fn read(&mut self, table: &[Record]) -> bool {
-        self.count = table.len();
+    pub fn read(&mut self, records: &Records) -> bool {
+        match *records {
+            Records::First(table) => {
+                self.count = table.len();
+                self.read_table(table, |_| ANY_MASTER)
+            }
+            Records::Second(table) => {
+                self.count = table.len();
+                self.read_filtered(table)
+            }
+        }
+    }
+
+    /// Edition 2: a master has the bit of the first one of its filter.
+    #[inline(never)]
+    fn read_filtered(&mut self, table: &[Filtered]) -> bool {
+        let mut records = [[0; 4]; MOST_CONSTRUCTS];
+        self.masters = 0;
+        for (number, &[kind, parent, low, high, filter @ ..]) in table.iter().enumerate() {
+            if kind != MASTER && filter != [0, 0] {
+                return false;
+            }
+            self.masters |= u64::from(kind == MASTER) << number;
+            records[number] = [kind, parent, low, high];
+        }
+        let alike = |one: &Filtered, other: &Filtered| one[0] == other[0] && one[4..] == other[4..];
+        let first = |master: usize| table.iter().position(|x| alike(x, &table[master]));
+        self.read_table(&records[..table.len()], |master| {
+            first(master).map_or(0, |bit| 1 << bit)
+        })
+    }
+
+    /// Reads records of four bytes, with the bits of masters.
+    #[inline(always)]
+    fn read_table(&mut self, table: &[Record], master: impl Fn(usize) -> u64) -> bool {
         let mut above = Above {
             kinds: [0; 64],
             names: [0; 64],
@@ -99,7 +135,7 @@ impl Constructs {
             let &[kind, parent, ..] = record;
             let own = match kind {
                 SINGLE | SECTION => 1 << number,
-                MASTER => ANY_MASTER,
+                MASTER => master(number),
                 ORDERED => 1 << at(parent),
                 _ => 0,
             };

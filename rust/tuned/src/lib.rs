@@ -77,7 +77,7 @@ fn with_marks<const RULES: bool, const LEVELS: bool>(
     number((|| {
         let tables = Tables::of(chart)?;
         let mut constructs = Constructs::new();
-        let row_6 = !constructs.read(tables.constructs);
+        let row_6 = !constructs.read(&tables.constructs);
         let mut nodes = Nodes::new();
         nodes.read(&tables, &constructs, row_6)?;
         let mut edges = Edges::new();

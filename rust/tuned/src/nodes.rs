@@ -47,7 +47,7 @@ impl Nodes {
     /// Reads the table, `row_6` telling whether row 6 applies to a construct.
     #[inline(always)]
     pub fn read(&mut self, t: &Tables, constructs: &Constructs, row_6: bool) -> Result<(), u8> {
-        if !self.take_apart(t) {
+        if !self.take_apart(t, constructs.count) {
             return Err(5);
         }
         if row_6 || (constructs.dealt != 0 && self.any_stray(t.nodes.len(), constructs.dealt)) {
@@ -86,7 +86,7 @@ impl Nodes {
 
     /// Kinds and numbers; false if row 5 applies.
     #[inline(always)]
-    fn take_apart(&mut self, t: &Tables) -> bool {
+    fn take_apart(&mut self, t: &Tables, constructs: usize) -> bool {
         let n = t.nodes.len().min(MOST_NODES);
         // A loop for each byte: both are vectorised.
         for (kind, record) in self.kind[..n].iter_mut().zip(t.nodes) {
@@ -95,7 +95,7 @@ impl Nodes {
         for (number, record) in self.number[..n].iter_mut().zip(t.nodes) {
             *number = (u32::from_le_bytes(*record) >> 8) as u8;
         }
-        let count = t.constructs.len() as u8;
+        let count = constructs as u8;
         let mut wrong = 0;
         for (&kind, &number) in self.kind[..n].iter().zip(&self.number[..n]) {
             // 0 for none, else 1 to the number of constructs; a begin or an end has one.

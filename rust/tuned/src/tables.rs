@@ -10,12 +10,22 @@ pub const NONE: u8 = 255;
 
 pub type Record = [u8; 4];
 
+/// A construct record of edition 2: its filter comes last.
+pub type Filtered = [u8; 6];
+
+/// The construct records of an edition.
+#[derive(Clone, Copy)]
+pub enum Records<'a> {
+    First(&'a [Record]),
+    Second(&'a [Filtered]),
+}
+
 /// The tables of bytes that passed rows 1 to 4.
 #[derive(Clone, Copy)]
 pub struct Tables<'a> {
     pub nodes: &'a [Record],
     pub edges: &'a [[u8; 2]],
-    pub constructs: &'a [Record],
+    pub constructs: Records<'a>,
 }
 
 impl<'a> Tables<'a> {
@@ -24,14 +34,15 @@ impl<'a> Tables<'a> {
         let (body, trailer) = chart.split_last_chunk::<16>().ok_or(1u8)?;
         let field =
             |i: usize| usize::from(u16::from_le_bytes([trailer[2 * i], trailer[2 * i + 1]]));
-        if field(0) != 1 || trailer[14..] != [0x4F, 0x43] {
+        let first = field(0) == 1;
+        if !(first || field(0) == 2) || trailer[14..] != [0x4F, 0x43] {
             return Err(2);
         }
         let (n, e, c) = (field(1), field(2), field(3));
         if !(2..=MOST_NODES).contains(&n) || !(1..=MOST_EDGES).contains(&e) || c > MOST_CONSTRUCTS {
             return Err(3);
         }
-        let to_constructs = 4 * c + 16;
+        let to_constructs = if first { 4 * c } else { 6 * c } + 16;
         let to_edges = 2 * e + to_constructs;
         let whole = 4 * n + to_edges;
         if chart.len() != whole
@@ -44,7 +55,10 @@ impl<'a> Tables<'a> {
         Ok(Tables {
             nodes: nodes.as_chunks().0,
             edges: edges.as_chunks().0,
-            constructs: constructs.as_chunks().0,
+            constructs: match first {
+                true => Records::First(constructs.as_chunks().0),
+                false => Records::Second(constructs.as_chunks().0),
+            },
         })
     }
 }

@@ -4,6 +4,7 @@
 
 use charts::random::Random;
 use charts::{benchmark, draw};
+use reference::known::{chart_y, longest};
 use reference::{calls, distances};
 
 const FILL: u8 = 0xAA;
@@ -125,6 +126,18 @@ fn large_charts() {
 fn benchmark_charts() {
     let each = benchmark::all().into_iter().map(|(_, chart)| chart);
     for (seed, chart) in each.chain(benchmark::in_turn()).enumerate() {
+        assert_alike::<true>(&chart, seed as u64);
+        assert_alike::<false>(&chart, seed as u64);
+    }
+}
+
+/// Chart Y with filters that are equal, different, and different in one byte alone; the longest chart.
+#[test]
+fn masked_charts() {
+    let filters = [0, 1, 255, 256, 257, 65_280, 65_535];
+    let pairs = filters.map(|one| filters.map(|other| [one, other]));
+    let each = pairs.as_flattened().iter().map(|&x| chart_y(x, &[(6, 1)]));
+    for (seed, chart) in each.chain([longest()]).enumerate() {
         assert_alike::<true>(&chart, seed as u64);
         assert_alike::<false>(&chart, seed as u64);
     }

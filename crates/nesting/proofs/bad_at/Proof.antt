@@ -23,7 +23,7 @@ bad-construct-requires c κs = search needs
 -- the test of the construct by itself, in terms of the decoded chart
 tested : (c : tie.After-bad-construct) → let e = c .before .before .before in c .bad-construct .result ≡ badAlone (decode (e .args .s .now) .constructs) (e .args .c)
 unfolding badAlone
-tested c = cc (c .bad-construct .ensures, c .before .read .ensures .0, c .before .read .ensures .1, c .before .read .ensures .2)
+tested c = let r = c .before .read .ensures in cc (c .bad-construct .ensures, r .0, r .1, r .2, r .3)
 
 returns : tie.Need-returns
 returns c = rw (sym (tested (c .before)) ∙ c .if1 .taken)

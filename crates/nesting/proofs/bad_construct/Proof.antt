@@ -26,18 +26,46 @@ returns-3 c = let k = c .before .before in rw (
   sym (c .before .bad-parent .ensures) ∙ c .if3 .taken,
 )
 
-bad-name-requires : tie.Need-bad-name-requires
-bad-name-requires c κs = search needs
+foreign-number-requires : tie.Need-foreign-number-requires
+foreign-number-requires c κs = search needs
 
 returns-4 : tie.Need-returns-4
 unfolding badConstruct
-returns-4 c = let k = c .before .before .before in rw (
-  le-ltb _ _ (k .before .if1 .left),
-  le-ltb _ _ (k .if2 .left),
-  sym (c .before .before .bad-parent .ensures) ∙ c .before .if3 .left,
-) (c .bad-name .ensures)
+returns-4 c =
+    let p = c .before .before in
+    let k = p .before .before in
+    rw (
+      le-ltb _ _ (k .before .if1 .left),
+      le-ltb _ _ (k .if2 .left),
+      sym (p .before .bad-parent .ensures) ∙ p .if3 .left,
+      sym (c .before .foreign-number .ensures) ∙ c .if4 .taken,
+    )
+
+foreign-number-requires-2 : tie.Need-foreign-number-requires-2
+foreign-number-requires-2 c κs = search needs
+
+returns-5 : tie.Need-returns-5
+unfolding badConstruct
+returns-5 c =
+    let n = c .before in
+    let p = n .before .before in
+    let k = p .before .before in
+    rw (
+      le-ltb _ _ (k .before .if1 .left),
+      le-ltb _ _ (k .if2 .left),
+      sym (p .before .bad-parent .ensures) ∙ p .if3 .left,
+      sym (n .before .foreign-number .ensures) ∙ n .if4 .left,
+    ) (c .foreign-number2 .ensures)
 
 pub bad-construct-spec : {M : Type 1} → statement M
 bad-construct-spec =
     tie.close
-    (tie.spec returns returns-2 bad-parent-requires returns-3 bad-name-requires returns-4)
+    (tie.spec
+    returns
+    returns-2
+    bad-parent-requires
+    returns-3
+    foreign-number-requires
+    returns-4
+    foreign-number-requires-2
+    returns-5)

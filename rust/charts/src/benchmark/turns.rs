@@ -3,7 +3,7 @@
 use super::code;
 use crate::damage::aimed_at;
 use crate::random::Random;
-use crate::valid::{valid, Shape, PLAIN_KINDS};
+use crate::valid::{valid, Shape, EDITION_1, PLAIN_KINDS};
 use reference::builder::ChartBuilder;
 use reference::refusals::decode_checked;
 
@@ -37,6 +37,7 @@ fn dense(random: &mut Random) -> ChartBuilder {
         window: 192,
         returning: 20,
         kinds: PLAIN_KINDS,
+        filters: EDITION_1,
     };
     valid(random, &shape)
 }
@@ -51,6 +52,7 @@ fn sparse(random: &mut Random) -> ChartBuilder {
         window: random.pick(&[1, 3, 20]),
         returning: 20,
         kinds: PLAIN_KINDS,
+        filters: EDITION_1,
     };
     valid(random, &shape)
 }

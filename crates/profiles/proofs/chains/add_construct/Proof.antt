@@ -19,10 +19,13 @@ counted c = let e = c .before .before in omega (arith, constructs-length _ (e .a
 read-requires : tie.Need-read-requires
 read-requires c κs = search needs
 
+masters-like-requires : tie.Need-masters-like-requires
+masters-like-requires c κs = let e = c .before .before in (e .pre .0, e .pre .1, e .pre .3)
+
 mask-at-requires : tie.Need-mask-at-requires
 unfolding parentOf
 mask-at-requires c κs =
-    let r = c .before in
+    let r = c .before .before in
     let e = r .before .before in
     index-below (omega (arith, e .pre .0 .laid .constructs-most, e .pre .1))
     (subst (Below (e .args .c)) (sym (r .read .ensures .1)) (parent-lower _ (e .args .chart) (e .pre .0) (e .args .c) (counted r)))
@@ -30,7 +33,7 @@ mask-at-requires c κs =
 own-requires : tie.Need-own-requires
 unfolding parentOf
 own-requires c κs =
-    let r = c .before .before in
+    let r = c .before .before .before in
     let e = r .before .before in (
       omega (arith, e .pre .0 .laid .constructs-most, e .pre .1),
       λ k. rw (r .read .ensures .1) (ordered-parent _ (e .args .chart) (e .pre .0) (e .args .c) (counted r) (sym (r .read .ensures .0) ∙ k)),
@@ -47,10 +50,11 @@ returns : tie.Need-returns
 unfolding parentOf
 returns c =
     let m = c .before in
-    let r = m .before .before in
+    let k = m .before .before in
+    let r = k .before in
     let e = r .before .before in
     rw (m .mask-at .ensures, c .own .ensures, r .read .ensures .0, r .read .ensures .1, e .pre .2)
-    (chains-more _ (e .args .chart) (e .pre .0) (e .args .c) (counted r) (e .args .masters) (e .pre .3) (e .pre .4))
+    (chains-more _ (e .args .chart) (e .pre .0) (e .args .c) (counted r) (k .masters-like .result) (k .masters-like .ensures) (e .pre .4))
 
 pub add-construct-spec : {M : Type 1} → statement M
-add-construct-spec = tie.close (tie.spec read-requires mask-at-requires own-requires mul-held element-write-held returns)
+add-construct-spec = tie.close (tie.spec read-requires masters-like-requires mask-at-requires own-requires mul-held element-write-held returns)

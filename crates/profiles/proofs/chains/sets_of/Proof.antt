@@ -1,13 +1,14 @@
 -- `profiles::chains::sets_of` meets its contract. The loop's invariant: the masks have the constructs passed.
 -- Assumes nothing.
-use mathlib.Core.Path.{_≡_, refl}
-use Prim.Native.Nat.{_-_, _≤_}
+use mathlib.Core.Path.{_≡_, refl, ap}
+use Prim.Native.Nat.{ℕ, _-_, _≤_}
 use native.Mathlib.Omega.{arith}
+use lib.Dec.{eqb}
 use Rattle.lists.specs.Mask.{maskOf}
 use Rattle.chart.specs.Format.{decode}
 use Rattle.chart.specs.Scope.{singleByte, masterByte, loopByte, sectionByte}
 use Rattle.profiles.specs.Chains.{isOf}
-use Rattle.profiles.proofs.Constructs.{of-next, kinds}
+use Rattle.profiles.proofs.Constructs.{test-next, kinds}
 use Rattle.profiles.proofs.chains.sets_of.Statement.{statement}
 use Rattle.profiles.proofs.chains.sets_of.Tie as tie
 
@@ -29,17 +30,17 @@ loop-holds c = (omega arith, refl, refl, refl, refl)
 read-requires : tie.Need-read-requires Inv-loop μ-loop
 read-requires c κs = (c .before .before .before .pre .laid, omega arith)
 
-add-kind-requires : tie.Need-add-kind-requires Inv-loop μ-loop
-add-kind-requires c κs = omega (arith, c .before .before .before .before .pre .laid .constructs-most)
+add-if-requires : tie.Need-add-if-requires Inv-loop μ-loop
+add-if-requires c κs = omega (arith, c .before .before .before .before .pre .laid .constructs-most)
 
-add-kind-requires-2 : tie.Need-add-kind-requires-2 Inv-loop μ-loop
-add-kind-requires-2 c κs = omega (arith, c .before .before .before .before .before .pre .laid .constructs-most)
+add-if-requires-2 : tie.Need-add-if-requires-2 Inv-loop μ-loop
+add-if-requires-2 c κs = omega (arith, c .before .before .before .before .before .pre .laid .constructs-most)
 
-add-kind-requires-3 : tie.Need-add-kind-requires-3 Inv-loop μ-loop
-add-kind-requires-3 c κs = omega (arith, c .before .before .before .before .before .before .pre .laid .constructs-most)
+add-if-requires-3 : tie.Need-add-if-requires-3 Inv-loop μ-loop
+add-if-requires-3 c κs = omega (arith, c .before .before .before .before .before .before .pre .laid .constructs-most)
 
-add-kind-requires-4 : tie.Need-add-kind-requires-4 Inv-loop μ-loop
-add-kind-requires-4 c κs = omega (arith, c .before .before .before .before .before .before .before .pre .laid .constructs-most)
+add-if-requires-4 : tie.Need-add-if-requires-4 Inv-loop μ-loop
+add-if-requires-4 c κs = omega (arith, c .before .before .before .before .before .before .before .pre .laid .constructs-most)
 
 add-c : tie.Need-add-c Inv-loop μ-loop
 add-c c = omega arith
@@ -48,14 +49,17 @@ loop-less : tie.Need-loop-less Inv-loop μ-loop
 loop-less c = omega arith
 
 loop-again : tie.Need-loop-again Inv-loop μ-loop
+unfolding isOf
 loop-again c =
     let r = c .before .before .before .before in
-    let l = r .before .before in (
+    let l = r .before .before in
+    let test : (kind : ℕ) → eqb (r .read .result .kind) kind ≡ isOf (decode (l .before .before .args .s .now) .constructs) kind (l .loop .c) =
+    λ kind. ap (λ (k : ℕ). eqb k kind) (r .read .ensures .0) in (
       omega arith,
-      of-next _ _ (l .loop .c) (r .read .ensures .0) (l .loop .inv .1) (c .before .before .before .add-kind .ensures),
-      of-next _ _ (l .loop .c) (r .read .ensures .0) (l .loop .inv .2) (c .before .before .add-kind2 .ensures),
-      of-next _ _ (l .loop .c) (r .read .ensures .0) (l .loop .inv .3) (c .before .add-kind3 .ensures),
-      of-next _ _ (l .loop .c) (r .read .ensures .0) (l .loop .inv .4) (c .add-kind4 .ensures),
+      test-next _ (l .loop .c) (test masterByte) (l .loop .inv .1) (c .before .before .before .add-if .ensures),
+      test-next _ (l .loop .c) (test singleByte) (l .loop .inv .2) (c .before .before .add-if2 .ensures),
+      test-next _ (l .loop .c) (test loopByte) (l .loop .inv .3) (c .before .add-if3 .ensures),
+      test-next _ (l .loop .c) (test sectionByte) (l .loop .inv .4) (c .add-if4 .ensures),
     )
 
 returns : tie.Need-returns Inv-loop μ-loop
@@ -73,10 +77,10 @@ sets-of-spec =
     μ-loop
     loop-holds
     read-requires
-    add-kind-requires
-    add-kind-requires-2
-    add-kind-requires-3
-    add-kind-requires-4
+    add-if-requires
+    add-if-requires-2
+    add-if-requires-3
+    add-if-requires-4
     add-c
     loop-less
     loop-again
