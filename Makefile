@@ -5,7 +5,7 @@
 # make bench-against BEFORE=path/to/libbohrali.a    by those of another build of it
 # make install    header, archive, shared library and bohrali.pc, below PREFIX
 PREFIX ?= /usr/local
-VERSION := 0.1.0
+VERSION := 1.0.0
 SONAME := libbohrali.so.$(firstword $(subst ., ,$(VERSION)))
 ARCHIVE := target/staticlib/libbohrali.a
 SHARED := target/lib/libbohrali.so.$(VERSION)

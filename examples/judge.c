@@ -1,10 +1,11 @@
-/* Admits a chart, prints its sheet and judges a list of claims.
+/* Admits a chart, prints a region's sheet and judges a list of claims about the region.
  *
- *     judge CHART [A B]...
+ *     judge CHART [@REGION] [A B]...
  *
- * CHART is a file; each claim A B says that two threads of one team are never at nodes A and B
- * together, in a run that finishes. Ends with 0 when all claims hold, 1 when one does not, 2 when
- * something was refused. */
+ * CHART is a file, REGION the number of a parallel; without it the outermost region is meant. Each
+ * claim A B says that two threads of the region's team are never at nodes A and B together, in a
+ * run that finishes. Ends with 0 when all claims hold, 1 when one does not, 2 when something was
+ * refused. */
 #include "bohrali.h"
 
 #include <inttypes.h>
@@ -21,7 +22,7 @@ static int refused(int64_t number)
     return 2;
 }
 
-/* Prints the rows of the nodes that are no barriers. */
+/* Prints the rows of the region's nodes that are no barriers. */
 static void print_sheet(int64_t nodes)
 {
     for (int64_t a = 0; a < nodes; a++) {
@@ -51,9 +52,9 @@ static size_t read_claims(int count, char **words, uint8_t *claims)
     return (size_t)count;
 }
 
-static int judge(size_t chart_len, const uint8_t *claims, size_t claims_len)
+static int judge(size_t chart_len, size_t region, const uint8_t *claims, size_t claims_len)
 {
-    int64_t verdict = bohrali_judge(chart, chart_len, claims, claims_len);
+    int64_t verdict = bohrali_judge(chart, chart_len, region, claims, claims_len);
     if (verdict < 0) {
         return refused(verdict);
     }
@@ -71,7 +72,7 @@ int main(int argc, char **argv)
 {
     static uint8_t claims[4096];
     if (argc < 2 || (size_t)argc - 2 > sizeof claims) {
-        fprintf(stderr, "usage: judge CHART [A B]...\n");
+        fprintf(stderr, "usage: judge CHART [@REGION] [A B]...\n");
         return 2;
     }
     FILE *file = fopen(argv[1], "rb");
@@ -89,10 +90,13 @@ int main(int argc, char **argv)
     int64_t nodes = counts % 256;
     printf("%" PRId64 " nodes, %" PRId64 " barriers, %" PRId64 " phases\n",
            nodes, counts / 256 % 256, counts / 65536);
-    int64_t written = bohrali_sheet(chart, chart_len, sheet, sizeof sheet);
+    int named = argc > 2 && argv[2][0] == '@';
+    size_t region = named ? strtoul(argv[2] + 1, NULL, 10) : BOHRALI_REGION_OUTERMOST;
+    int64_t written = bohrali_sheet(chart, chart_len, region, sheet, sizeof sheet);
     if (written < 0) {
         return refused(written);
     }
     print_sheet(nodes);
-    return judge(chart_len, claims, read_claims(argc - 2, argv + 2, claims));
+    int first = named ? 3 : 2;
+    return judge(chart_len, region, claims, read_claims(argc - first, argv + first, claims));
 }

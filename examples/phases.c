@@ -35,7 +35,8 @@ int main(void)
 {
     uint8_t out[BOHRALI_BYTES_PHASES * BOHRALI_MOST_NODES];
     int64_t counts = bohrali_admit(chart_k, sizeof chart_k);
-    int64_t written = bohrali_phases(chart_k, sizeof chart_k, out, sizeof out);
+    int64_t written =
+        bohrali_phases(chart_k, sizeof chart_k, BOHRALI_REGION_OUTERMOST, out, sizeof out);
     if (counts < 0 || written < 0) {
         printf("refused %" PRId64 "\n", counts < 0 ? -counts : -written);
         return 1;
@@ -47,8 +48,9 @@ int main(void)
         printf("node %" PRId64 " starts %" PRIu64 " ends %" PRIu64 "\n",
                node, mask_at(record), mask_at(record + 8));
     }
-    printf("pair 1 3 %" PRId64 "\n", bohrali_pair(chart_k, sizeof chart_k, 1, 3));
+    printf("pair 1 3 %" PRId64 "\n",
+           bohrali_pair(chart_k, sizeof chart_k, BOHRALI_REGION_OUTERMOST, 1, 3));
     printf("judge %" PRId64 "\n",
-           bohrali_judge(chart_k, sizeof chart_k, claims, sizeof claims));
+           bohrali_judge(chart_k, sizeof chart_k, BOHRALI_REGION_OUTERMOST, claims, sizeof claims));
     return 0;
 }

@@ -1,9 +1,10 @@
 /* Bohrali: can two threads of one OpenMP team be at two nodes of a parallel region together, in a
  * run that finishes?
  *
- * A region is handed over as a chart, in bytes. Every call takes lent bytes, keeps none of them,
- * allocates nothing, needs less than 64 KiB of stack and returns one number. Any bytes may be
- * handed over: what is not a chart is refused. The library is for x86-64 only.
+ * A region, with the regions inside it, is handed over as a chart, in bytes. Every call takes lent
+ * bytes, keeps none of them, allocates nothing, needs less than 64 KiB of stack and returns one
+ * number. Any bytes may be handed over: what is not a chart is refused. The library is for x86-64
+ * only.
  *
  * A pointer may be null only where its length is 0; otherwise it points to so many bytes. `chart`
  * and `claims` are only read: they may overlap, and nobody may write them during the call. `out`
@@ -11,7 +12,8 @@
  * nothing, so any number of threads may make them.
  *
  * The first word of a constant says what it is: LEAST and MOST are limits, BYTES sizes, TRAILER
- * fields of the trailer, NODE and CONSTRUCT kinds, ANSWER answers, REFUSED refusals.
+ * fields of the trailer, NODE and CONSTRUCT kinds, REGION numbers of regions, ANSWER answers,
+ * REFUSED refusals.
  */
 #ifndef BOHRALI_H
 #define BOHRALI_H
@@ -32,7 +34,8 @@ extern "C" {
  *     at 0               n nodes, 4 bytes each
  *         0  kind            BOHRALI_NODE_..
  *         1  construct       of a plain node the innermost construct around it, or none; of a begin
- *                            or an end the construct that it opens or closes; of a barrier none
+ *                            or an end the construct that it opens or closes; of a barrier its
+ *                            region, a parallel, or none for the outermost region
  *         2  tag             2 bytes of the caller's, which nothing reads
  *     at 4n              e edges, 2 bytes each
  *         0  from            a node
@@ -61,14 +64,30 @@ extern "C" {
  * number is its filter, and no other: any other goes straight from its begin to its end, and in a
  * team without that number all do. A master of edition 1 is one of filter 0.
  *
- * Nodes. Node 0 is Start and node n - 1 is Finish; both are barriers. Barriers, these two among
- * them, are numbered from 0 by rising node number. Each construct has exactly one begin and one
- * end.
+ * Nodes. Node 0 is Start and node n - 1 is Finish; both are barriers of the outermost region. Each
+ * construct has exactly one begin and one end.
  *
  * Inside. A plain node lies in the construct that its record names, a begin or an end in the parent
- * of its construct, a barrier in none. A node is inside the construct that it lies in, that one's
- * parent, and so on. So a construct's own begin and end are not inside it; for
+ * of its construct, a barrier in its region. A node is inside the construct that it lies in, that
+ * one's parent, and so on. So a construct's own begin and end are not inside it; for
  * BOHRALI_ANSWER_SECTION alone a section's begin and end count as inside it.
+ *
+ * Regions. The whole chart is the outermost region, BOHRALI_REGION_OUTERMOST. Each parallel
+ * construct is a region inside it, or inside another one, with a team of its own; its number is the
+ * construct's. Every call but bohrali_admit is about one region and reads the chart for it:
+ *     nodes       those inside the parallel, with its begin and its end, which are the region's
+ *                 Start and Finish; all others are outside. Nothing is outside the outermost one.
+ *     barriers    the barriers that name the region, and its Start and Finish. Barriers of deeper
+ *                 regions, and the begins and ends of deeper parallels, are plain nodes.
+ *     edges       those between its nodes, but for one from its end to its begin, which is outside.
+ *     constructs  those inside it, no parallels, that are inside no deeper parallel. Deeper ones
+ *                 count for nothing, their begins and ends are plain nodes; so a single in an inner
+ *                 team keeps no two threads of an outer team apart. What is inside a deeper region
+ *                 is still inside the constructs of this region around it.
+ * What is said below of paths, starts, ends, answers and runs is said of the chart so read and of
+ * the region's team. The barriers of a region are numbered from 0 by rising node number, its Start
+ * and Finish among them: these need not be the first and the last. The thread numbers of masked
+ * constructs are those of the region's own team.
  *
  * Edges. They rise strictly by (from, to): by `from`, and where that is equal by `to`. None leads
  * into Start or out of Finish. Each stays in one construct, or outside all: it leads from the
@@ -78,12 +97,13 @@ extern "C" {
  * Start, and every node other than Finish reaches Finish; so a sections has an edge from its begin
  * to each section's begin, and one from each section's end to its end.
  *
- * Nesting. Above a construct are its parent, that one's parent, and so on. Above a single, a do or
- * a sections: nothing. Above a master or masked: criticals only. Above an ordered: a do only, and
- * that is its parent. Above a section: a sections only, and that is its parent. Above a critical:
- * any kind, but no critical of the same name; unnamed ones have the same name. Directly in a
- * sections lie only the begins and ends of its sections: a plain node or a critical lies in one of
- * these.
+ * Nesting. Above a construct are its parent, that one's parent, and so on, up to the nearest
+ * parallel: inside each region nesting starts anew. Above a single, a do or a sections: nothing.
+ * Above a master or masked: criticals only. Above an ordered: a do only, and that is its parent.
+ * Above a section: a sections only, and that is its parent. Above a critical: any kind, but no
+ * critical of the same name; unnamed ones have the same name. Above a parallel: any kind. Directly
+ * in a sections lie only the begins and ends of its sections: a plain node, a critical or a
+ * parallel lies in one of these.
  *
  * Edges are for a thread that enters. None is needed for threads that go straight from the begin of
  * a master or masked, a single, a do or a sections to its end, from a do's end to the next
@@ -92,7 +112,8 @@ extern "C" {
  * implies, as after a single, a do or a sections without NOWAIT, is a barrier node like any other.
  */
 
-/* Limits of a chart. Barriers are never fewer than 2: Start and Finish. */
+/* Limits of a chart. Barriers are counted in each region by itself, its Start and Finish included,
+ * and so are never fewer than 2. */
 #define BOHRALI_LEAST_NODES 2
 #define BOHRALI_MOST_NODES 192
 #define BOHRALI_LEAST_EDGES 1
@@ -133,16 +154,21 @@ enum bohrali_construct_kind {
     BOHRALI_CONSTRUCT_DO = 4,
     BOHRALI_CONSTRUCT_ORDERED = 5,
     BOHRALI_CONSTRUCT_SECTIONS = 6, /* deals out its sections, each to one thread */
-    BOHRALI_CONSTRUCT_SECTION = 7   /* one of them */
+    BOHRALI_CONSTRUCT_SECTION = 7,  /* one of them */
+    BOHRALI_CONSTRUCT_PARALLEL = 8  /* a region with a team of its own */
 };
 
 /* In place of a construct's number: none. */
 #define BOHRALI_CONSTRUCT_NONE 255
 
-/* Answers for two nodes, which may be equal and are no barriers: can two threads of one team, of
- * any size, be at them together, in a run that finishes? A run finishes when all its threads are at
- * Finish in the end. Other runs count for nothing: in one that hangs, because threads wait at
- * different barriers, two threads may have been at nodes for which the answer is never.
+/* In place of a parallel's number: the outermost region. */
+#define BOHRALI_REGION_OUTERMOST 255
+
+/* Answers for two nodes of a region, which may be equal and are no barriers: can two threads of the
+ * region's team, of any size, be at them together, in a run that finishes? A run finishes when all
+ * its threads are at the region's Finish in the end. Other runs count for nothing: in one that
+ * hangs, because threads wait at different barriers, two threads may have been at nodes for which
+ * the answer is never.
  *
  * A path is one or more edges in a row; it is barrier-free if no node strictly between its two ends
  * is a barrier. The starts of a node that is no barrier are the barriers from which a barrier-free
@@ -161,58 +187,70 @@ enum bohrali_answer {
                                            as inside, whose sections does not return */
 };
 
-/* In a sheet, in place of an answer: one of the two nodes is a barrier, or both are. */
+/* In a sheet, in place of an answer: one of the two nodes is a barrier or outside the region, or
+ * both are. */
 #define BOHRALI_ANSWER_AT_BARRIER 255
 
 /* Refusals. A call returns the first that applies, negated, and then has written nothing. Each is
- * checked over the whole chart, or the whole list of claims, before the next. */
+ * checked over the whole chart, or the whole list of claims, before the next, in the order of their
+ * numbers but for one: 23 comes straight after 10, so before 11, 12 and 13. */
 enum bohrali_refusal {
     BOHRALI_REFUSED_SHORT = 1,     /* fewer than 16 bytes */
     BOHRALI_REFUSED_MARKS = 2,     /* edition neither 1 nor 2, or closing bytes differ */
     BOHRALI_REFUSED_COUNTS = 3,    /* node, edge or construct count outside its limits */
     BOHRALI_REFUSED_LENGTHS = 4,   /* length or a distance of the trailer differs from what the
                                       edition asks */
-    BOHRALI_REFUSED_NODE = 5,      /* a node's kind or construct number */
+    BOHRALI_REFUSED_NODE = 5,      /* a node's kind or construct number; a barrier that names what
+                                      is no parallel, or first or last node naming one */
     BOHRALI_REFUSED_CONSTRUCT = 6, /* a construct's kind, parent or name, a filter on a kind that is
                                       not masked, the nesting, or a node or construct wrongly in a
                                       sections */
     BOHRALI_REFUSED_FRAME = 7,     /* not exactly one begin and one end for each construct */
-    BOHRALI_REFUSED_BARRIER = 8,   /* first or last node no barrier, or over 64 barriers */
+    BOHRALI_REFUSED_BARRIER = 8,   /* first or last node no barrier, or over 64 barriers in one
+                                      region */
     BOHRALI_REFUSED_EDGE = 9,      /* an edge names no node, is out of order or is not allowed */
     BOHRALI_REFUSED_PATHS = 10,    /* a node not reached from Start, or not reaching Finish */
     BOHRALI_REFUSED_ROOM = 11,     /* the buffer is shorter than the result */
     BOHRALI_REFUSED_CLAIMS = 12,   /* an odd number of bytes */
-    BOHRALI_REFUSED_NUMBERS = 13   /* a node number that no node has, or that of a barrier */
+    BOHRALI_REFUSED_NUMBERS = 13,  /* a node number that no node has, or that of a barrier of the
+                                      region or of a node outside it */
+    BOHRALI_REFUSED_REGION = 23    /* a number that is not BOHRALI_REGION_OUTERMOST and names no
+                                      parallel */
 };
 
-/* Whether the bytes are a chart. Returns nodes + 256 * barriers + 65536 * phases, or a refusal 1 to
- * 10, negated. A phase is a pair (start, end) that some node has; equal pairs count once. */
+/* Whether the bytes are a chart. Returns nodes + 256 * barriers + 65536 * phases, barriers and
+ * phases those of the outermost region, or a refusal 1 to 10, negated. A phase is a pair (start,
+ * end) that some node has; equal pairs count once. */
 int64_t bohrali_admit(const uint8_t *chart, size_t chart_len);
 
-/* The answer for nodes a and b: 0 to 5, or a refusal 1 to 10 or 13, negated. Any numbers may be
- * handed over; the order of the two does not matter. */
-int64_t bohrali_pair(const uint8_t *chart, size_t chart_len, size_t a, size_t b);
+/* The answer for nodes a and b of a region: 0 to 5, or a refusal 1 to 10, 23 or 13, negated. Any
+ * numbers may be handed over; the order of the two nodes does not matter. */
+int64_t bohrali_pair(const uint8_t *chart, size_t chart_len, size_t region, size_t a, size_t b);
 
-/* Judges a list of claims, each a pair of bytes: two node numbers, of which it is claimed that two
- * threads of one team are never there together, in a run that finishes. Returns 0 where the list
- * passes: no team, of any size, has a run that finishes and brings two threads to the two nodes of
- * a pair together. Otherwise the index, from 0, of the first pair for which some team has such a
- * run, plus 1; or a refusal 1 to 10, 12 or 13, negated. An empty list passes where the chart is not
- * refused. */
-int64_t bohrali_judge(const uint8_t *chart, size_t chart_len, const uint8_t *claims,
+/* Judges a list of claims about a region, each a pair of bytes: two node numbers, of which it is
+ * claimed that two threads of the region's team are never there together, in a run that finishes.
+ * Returns 0 where the list passes: no team, of any size, has a run that finishes and brings two
+ * threads to the two nodes of a pair together. Otherwise the index, from 0, of the first pair for
+ * which some team has such a run, plus 1; or a refusal 1 to 10, 23, 12 or 13, negated. An empty
+ * list passes where chart and region are not refused. */
+int64_t bohrali_judge(const uint8_t *chart, size_t chart_len, size_t region, const uint8_t *claims,
                       size_t claims_len);
 
-/* Writes for each node, by rising number, its starts and its ends: two masks of 8 bytes each,
- * little-endian, with bit b for barrier b. Barriers have no starts and no ends. Returns the number
- * of bytes written, 16 for each node, or a refusal 1 to 11, negated. Bytes past the result keep
+/* Writes for each node, by rising number, its starts and its ends in a region: two masks of 8 bytes
+ * each, little-endian, with bit b for barrier b of the region. Barriers, and nodes outside the
+ * region, have no starts and no ends: 16 bytes of 0. Returns the number of bytes written, 16 for
+ * each node of the whole chart, or a refusal 1 to 10, 23 or 11, negated. Bytes past the result keep
  * their values. */
-int64_t bohrali_phases(const uint8_t *chart, size_t chart_len, uint8_t *out, size_t out_len);
+int64_t bohrali_phases(const uint8_t *chart, size_t chart_len, size_t region, uint8_t *out,
+                       size_t out_len);
 
 /* Writes for each node a, by rising number, a row with a byte for each node b: the answer for a and
- * b, or BOHRALI_ANSWER_AT_BARRIER. Byte a * nodes + b is that of a and b. Returns the number of
- * bytes written, nodes * nodes, or a refusal 1 to 11, negated. Bytes past the result keep their
- * values. */
-int64_t bohrali_sheet(const uint8_t *chart, size_t chart_len, uint8_t *out, size_t out_len);
+ * b in a region, or BOHRALI_ANSWER_AT_BARRIER, also where a or b is outside the region. Byte
+ * a * nodes + b is that of a and b. Returns the number of bytes written, nodes * nodes, with the
+ * nodes of the whole chart, or a refusal 1 to 10, 23 or 11, negated. Bytes past the result keep
+ * their values. */
+int64_t bohrali_sheet(const uint8_t *chart, size_t chart_len, size_t region, uint8_t *out,
+                      size_t out_len);
 
 #ifdef __cplusplus
 }

@@ -10,6 +10,8 @@ static const uint8_t chart[46] = {
     1, 0,  5, 0,  5, 0,  0, 0,  46, 0,  26, 0,  16, 0,  0x4F, 0x43,
 };
 
+#define REGION BOHRALI_REGION_OUTERMOST
+
 static int failures;
 
 static void expect(const char *call, int64_t got, int64_t wanted)
@@ -23,14 +25,16 @@ static void expect(const char *call, int64_t got, int64_t wanted)
 int main(void)
 {
     expect("admit nothing", bohrali_admit(NULL, 0), -BOHRALI_REFUSED_SHORT);
-    expect("judge nothing", bohrali_judge(NULL, 0, NULL, 0), -BOHRALI_REFUSED_SHORT);
-    expect("pair of nothing", bohrali_pair(NULL, 0, 0, 0), -BOHRALI_REFUSED_SHORT);
-    expect("phases of nothing", bohrali_phases(NULL, 0, NULL, 0), -BOHRALI_REFUSED_SHORT);
-    expect("sheet of nothing", bohrali_sheet(NULL, 0, NULL, 0), -BOHRALI_REFUSED_SHORT);
-    expect("no claims", bohrali_judge(chart, sizeof chart, NULL, 0), 0);
-    expect("no room for phases", bohrali_phases(chart, sizeof chart, NULL, 0),
+    expect("judge nothing", bohrali_judge(NULL, 0, REGION, NULL, 0), -BOHRALI_REFUSED_SHORT);
+    expect("pair of nothing", bohrali_pair(NULL, 0, REGION, 0, 0), -BOHRALI_REFUSED_SHORT);
+    expect("phases of nothing", bohrali_phases(NULL, 0, REGION, NULL, 0), -BOHRALI_REFUSED_SHORT);
+    expect("sheet of nothing", bohrali_sheet(NULL, 0, REGION, NULL, 0), -BOHRALI_REFUSED_SHORT);
+    expect("no claims", bohrali_judge(chart, sizeof chart, REGION, NULL, 0), 0);
+    expect("no room for phases", bohrali_phases(chart, sizeof chart, REGION, NULL, 0),
            -BOHRALI_REFUSED_ROOM);
-    expect("no room for a sheet", bohrali_sheet(chart, sizeof chart, NULL, 0),
+    expect("no room for a sheet", bohrali_sheet(chart, sizeof chart, REGION, NULL, 0),
            -BOHRALI_REFUSED_ROOM);
+    expect("no region and no room", bohrali_sheet(chart, sizeof chart, 0, NULL, 0),
+           -BOHRALI_REFUSED_REGION);
     return failures != 0;
 }

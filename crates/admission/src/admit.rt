@@ -26,7 +26,7 @@ pub fn admit(s: &[u8]) -> Admission
     let mut starts = [0u64; Chart::NODES];
     let mut ends = [0u64; Chart::NODES];
     let mut levels = [0u8; Chart::NODES];
-    match enter(s, &mut starts, &mut ends, &mut levels) {
+    match enter(s, Chart::OUTERMOST, &mut starts, &mut ends, &mut levels) {
         Entered::Refused(refusal) => Admission::Refused(refusal),
         Entered::Marked(chart, barriers) => {
             let nodes = chart.nodes;

@@ -1,4 +1,5 @@
--- The answers that 01 stars ("Charts with known answers"): one list, and one proof over the definitions, from the bytes of each chart on.
+-- The answers that 01 stars ("Charts with known answers"), and answers in regions inside regions (02, Note 12): one list, and one proof over the
+-- definitions, from the bytes of each chart on.
 -- Assumes nothing.
 use mathlib.Core.Path.{_≡_, refl}
 use mathlib.Core.List.{List, [], _∷_, _++_, map}
@@ -9,13 +10,14 @@ use Rattle.lists.specs.Truth.{is}
 use Rattle.lists.specs.Range.{any, count, first}
 use Rattle.lists.specs.Tab.{tab}
 use Rattle.chart.specs.Format.{outside, field, nodeOf, edgeOf, constructOf, constructWidth, constructBytes, trailerOf, records, lastTrailer, decode, nodeAt, edgeAt, constructAt}
-use Rattle.chart.specs.Scope.{singleByte, masterByte, criticalByte, loopByte, orderedByte, roleOf, kindOf, liesIn, scope, encloses, parentOf, roleAt, liesAt, scopeAt}
-use Rattle.chart.specs.Nesting.{mayEnclose, sameCritical, excluded, wronglyAbove, misplaced, misnested}
-use Rattle.chart.specs.Reading.{edgeIn, insideAt, frameOf, region}
-use Rattle.chart.specs.Refusal.{badEdition, badMarks, badCounts, badLengths, badNode, badNodeAt, badNodes, foreignNumber, badConstruct, badAlone, strayNode, badConstructs, framesIn, badFrame, badFrames, isBarrier, badBarriers, badEdge, rises, badEdgeAt, framesSection, joinsSections, badEdges, firstOf, trailerRows, tableRows, chartRows}
+use Rattle.chart.specs.Scope.{singleByte, masterByte, criticalByte, loopByte, orderedByte, parallelByte, kindOf, liesIn, scope, encloses, parentOf, liesAt, scopeAt}
+use Rattle.chart.specs.Nested.{isParallel, regionAt, countsIn, liesWithin, keptIn, roleIn}
+use Rattle.chart.specs.Nesting.{mayEnclose, enclosesNear, sameCritical, excluded, wronglyAbove, misplaced, misnested}
+use Rattle.chart.specs.Reading.{edgeIn, insideAt, frameOf, regionOf}
+use Rattle.chart.specs.Refusal.{badEdition, badMarks, badCounts, badLengths, badNode, badOuter, badNodeAt, badNodes, foreignNumber, badConstruct, badAlone, strayNode, badConstructs, framesIn, badFrame, badFrames, isBarrier, barrierOf, tooManyIn, badBarriers, badEdge, rises, badEdgeAt, framesSection, joinsSections, badEdges, firstOf, trailerRows, tableRows, chartRows}
 use Rattle.paths.specs.Reach.{marks?, marks, reaches}
 use Rattle.paths.specs.Decide.{reachesFree, reachesAny, returns}
-use Rattle.paths.specs.Admission.{cutOff, badPaths, admitRows}
+use Rattle.paths.specs.Admission.{cutOff, badPaths, admitRows, badRegion, regionRows}
 use Rattle.phases.specs.Phases.{isBoundary}
 use Rattle.answers.specs.Answer.{isIn, inOrderedOf, inSection, noCommon, noCommonPhase, bothInMasters, bothInSingle, bothInOrdereds, bothInSection, answer}
 
@@ -74,6 +76,30 @@ abbrev chartD : List (List ℕ) → List ℕ
 chartD last = chart (barrier ∷ begin 0 ∷ begin 1 ∷ plain 1 ∷ end 1 ∷ end 0 ∷ barrier ∷ [])
     (edge 0 1 ∷ edge 1 2 ∷ edge 2 3 ∷ edge 3 4 ∷ edge 4 5 ∷ last) (construct loopByte outside ∷ construct orderedByte 0 ∷ [])
 
+-- 02, Note 12. T: a parallel in a single, in it a single, in that a plain node; with edges that leave node 5 for node 3 or not.
+abbrev chartT : List (List ℕ) → List ℕ
+chartT back = chart (barrier ∷ begin 0 ∷ begin 1 ∷ begin 2 ∷ plain 2 ∷ end 2 ∷ end 1 ∷ end 0 ∷ barrier ∷ [])
+    (edge 0 1 ∷ edge 1 2 ∷ edge 2 3 ∷ edge 3 4 ∷ edge 4 5 ∷ (back ++ (edge 5 6 ∷ edge 6 7 ∷ edge 7 8 ∷ [])))
+    (construct singleByte outside ∷ construct parallelByte 0 ∷ construct singleByte 1 ∷ [])
+
+-- U: a single in a parallel that is entered again.
+abbrev chartU : List ℕ
+chartU = chart (barrier ∷ begin 0 ∷ begin 1 ∷ plain 1 ∷ end 1 ∷ end 0 ∷ barrier ∷ [])
+    (edge 0 1 ∷ edge 1 2 ∷ edge 2 3 ∷ edge 3 4 ∷ edge 4 5 ∷ edge 5 1 ∷ edge 5 6 ∷ []) (construct parallelByte outside ∷ construct singleByte 0 ∷ [])
+
+-- A barrier of a parallel's region.
+abbrev inner : ℕ → List ℕ
+inner number = 1 ∷ number ∷ 0 ∷ 0 ∷ []
+
+-- Z: a single and a barrier in a parallel. W: a parallel whose begin is not its lowest barrier.
+abbrev chartZ : List ℕ
+chartZ = chart (barrier ∷ begin 0 ∷ begin 1 ∷ plain 1 ∷ end 1 ∷ inner 0 ∷ end 0 ∷ barrier ∷ [])
+    (edge 0 1 ∷ edge 1 2 ∷ edge 2 3 ∷ edge 3 4 ∷ edge 4 5 ∷ edge 5 6 ∷ edge 6 7 ∷ []) (construct parallelByte outside ∷ construct singleByte 0 ∷ [])
+
+abbrev chartW : List ℕ
+chartW = chart (barrier ∷ inner 0 ∷ begin 0 ∷ end 0 ∷ plain 0 ∷ barrier ∷ [])
+    (edge 0 2 ∷ edge 1 3 ∷ edge 2 4 ∷ edge 3 5 ∷ edge 4 1 ∷ []) (construct parallelByte outside ∷ [])
+
 -- The bytes of S with a single, one by one: what the functions above build.
 bytes-S : chartS singleByte inRow
     ≡ 0x01 ∷ 0xFF ∷ 0x00 ∷ 0x00 ∷ 0x02 ∷ 0x00 ∷ 0x00 ∷ 0x00 ∷ 0x00 ∷ 0x00 ∷ 0x00 ∷ 0x00 ∷ 0x03 ∷ 0x00 ∷ 0x00 ∷ 0x00 ∷ 0x01 ∷ 0xFF ∷ 0x00 ∷ 0x00
@@ -81,37 +107,50 @@ bytes-S : chartS singleByte inRow
     ∷ 0x01 ∷ 0x00 ∷ 0x05 ∷ 0x00 ∷ 0x04 ∷ 0x00 ∷ 0x01 ∷ 0x00 ∷ 0x30 ∷ 0x00 ∷ 0x1C ∷ 0x00 ∷ 0x14 ∷ 0x00 ∷ 0x4F ∷ 0x43 ∷ []
 bytes-S = refl
 
--- A chart, two of its nodes, and the answer that 01 gives.
+-- A chart, one of its regions, two nodes, and the answer that 01 or 02 gives.
 pub record Entry : Type 0 where
   pub bytes : List ℕ
+  pub named : ℕ
   pub a : ℕ
   pub b : ℕ
   pub gives : ℕ
 
 unfoldable pub starred : List Entry
 starred =
-    record { bytes = chartK; a = 1; b = 3; gives = 0 }
-    ∷ record { bytes = chartS singleByte inRow; a = 2; b = 2; gives = 3 }
-    ∷ record { bytes = chartS singleByte inRow; a = 1; b = 2; gives = 0 }
-    ∷ record { bytes = chartS singleByte inRow; a = 3; b = 3; gives = 0 }
-    ∷ record { bytes = chartS singleByte andBack; a = 2; b = 2; gives = 0 }
-    ∷ record { bytes = chartS masterByte andBack; a = 2; b = 2; gives = 2 }
-    ∷ record { bytes = chartS criticalByte inRow; a = 2; b = 2; gives = 0 }
-    ∷ record { bytes = chartD (edge 5 6 ∷ []); a = 3; b = 3; gives = 4 }
-    ∷ record { bytes = chartD (edge 5 6 ∷ []); a = 2; b = 3; gives = 0 }
-    ∷ record { bytes = chartD (edge 5 1 ∷ edge 5 6 ∷ []); a = 3; b = 3; gives = 0 }
-    ∷ record { bytes = chartB; a = 2; b = 2; gives = 3 }
+    record { bytes = chartK; named = outside; a = 1; b = 3; gives = 0 }
+    ∷ record { bytes = chartS singleByte inRow; named = outside; a = 2; b = 2; gives = 3 }
+    ∷ record { bytes = chartS singleByte inRow; named = outside; a = 1; b = 2; gives = 0 }
+    ∷ record { bytes = chartS singleByte inRow; named = outside; a = 3; b = 3; gives = 0 }
+    ∷ record { bytes = chartS singleByte andBack; named = outside; a = 2; b = 2; gives = 0 }
+    ∷ record { bytes = chartS masterByte andBack; named = outside; a = 2; b = 2; gives = 2 }
+    ∷ record { bytes = chartS criticalByte inRow; named = outside; a = 2; b = 2; gives = 0 }
+    ∷ record { bytes = chartD (edge 5 6 ∷ []); named = outside; a = 3; b = 3; gives = 4 }
+    ∷ record { bytes = chartD (edge 5 6 ∷ []); named = outside; a = 2; b = 3; gives = 0 }
+    ∷ record { bytes = chartD (edge 5 1 ∷ edge 5 6 ∷ []); named = outside; a = 3; b = 3; gives = 0 }
+    ∷ record { bytes = chartB; named = outside; a = 2; b = 2; gives = 3 }
+    ∷ record { bytes = chartT []; named = outside; a = 4; b = 4; gives = 3 }
+    ∷ record { bytes = chartT []; named = outside; a = 3; b = 3; gives = 3 }
+    ∷ record { bytes = chartT []; named = 1; a = 4; b = 4; gives = 3 }
+    ∷ record { bytes = chartT []; named = 1; a = 3; b = 3; gives = 0 }
+    ∷ record { bytes = chartT (edge 5 3 ∷ []); named = 1; a = 4; b = 4; gives = 0 }
+    ∷ record { bytes = chartT (edge 5 3 ∷ []); named = outside; a = 4; b = 4; gives = 3 }
+    ∷ record { bytes = chartU; named = 0; a = 3; b = 3; gives = 3 }
+    ∷ record { bytes = chartU; named = outside; a = 3; b = 3; gives = 0 }
+    ∷ record { bytes = chartZ; named = outside; a = 3; b = 3; gives = 0 }
+    ∷ record { bytes = chartZ; named = 0; a = 3; b = 3; gives = 3 }
+    ∷ record { bytes = chartZ; named = outside; a = 5; b = 5; gives = 0 }
+    ∷ record { bytes = chartW; named = 0; a = 4; b = 4; gives = 0 }
     ∷ []
 
 -- What the definitions give for an entry: the row that refuses its chart, and its answer.
 unfoldable pub computed : Entry → Option ℕ × ℕ
-computed e = (firstOf (admitRows (e .bytes)), answer (region (decode (e .bytes))) (e .a) (e .b))
+computed e = (firstOf (regionRows (e .bytes) (e .named)), answer (regionOf (e .named) (decode (e .bytes))) (e .a) (e .b))
 
--- Every chart of the list is admitted, and every answer is 01's.
+-- Every chart of the list is admitted and has the region, and every answer is 01's or 02's.
 pub starred-answers : map computed starred ≡ map (λ e. (none, e .gives)) starred
 unfolding starred computed answer bothInSection bothInOrdereds bothInSingle bothInMasters noCommonPhase noCommon inOrderedOf inSection isIn returns isBoundary
-    admitRows badPaths cutOff reachesAny reachesFree reaches marks marks? chartRows tableRows trailerRows firstOf badEdges joinsSections framesSection badEdgeAt rises badEdge badBarriers
-    isBarrier badFrames badFrame framesIn badConstructs strayNode badAlone badConstruct foreignNumber badNodes badNodeAt badNode badLengths badCounts badMarks badEdition
-    misnested misplaced wronglyAbove excluded sameCritical mayEnclose edgeIn insideAt frameOf scopeAt liesAt roleAt parentOf encloses scope liesIn kindOf
-    roleOf constructAt edgeAt nodeAt decode lastTrailer records trailerOf constructOf constructWidth constructBytes edgeOf nodeOf field tab any count first is
+    regionRows badRegion admitRows badPaths cutOff reachesAny reachesFree reaches marks marks? chartRows tableRows trailerRows firstOf badEdges joinsSections framesSection badEdgeAt rises badEdge badBarriers
+    tooManyIn barrierOf isBarrier badFrames badFrame framesIn badConstructs strayNode badAlone badConstruct foreignNumber badNodes badNodeAt badOuter badNode badLengths badCounts badMarks badEdition
+    misnested misplaced wronglyAbove excluded sameCritical mayEnclose enclosesNear roleIn keptIn liesWithin countsIn regionAt isParallel edgeIn insideAt frameOf scopeAt liesAt parentOf encloses scope liesIn kindOf
+    constructAt edgeAt nodeAt decode lastTrailer records trailerOf constructOf constructWidth constructBytes edgeOf nodeOf field tab any count first is
 starred-answers = refl

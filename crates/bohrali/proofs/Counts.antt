@@ -32,7 +32,7 @@ pairs-most zero k f = omega arith
 pairs-most (suc n) k f = omega (arith, pairs-most n k f, count-most k (f n), suc-mul n k)
 
 pub small-counts : (s : List ℕ) (counts : Counts) → answer (firstOf (admitRows s)) (countsIn (region (decode s))) ≡ Admitted counts → SmallCounts counts
-unfolding answer countsIn admitRows phaseCount checked Checked·answer
+unfolding answer countsIn admitRows phaseCount checked Checked·answer countsOf
 small-counts s counts h = go (firstOf (admitRows s)) refl h
   where
     go : (o : Option ℕ) → firstOf (admitRows s) ≡ o → answer o (countsIn (region (decode s))) ≡ Admitted counts → SmallCounts counts

@@ -1,4 +1,5 @@
-// The calls in C. A slice is a pointer and a length there; each call returns one signed number. The last part of each contract is demand 2, of
+// The calls in C. A slice is a pointer and a length there; each call returns one signed number. Each but Admit names a region of the chart, by the
+// number of a parallel or by 255 for the outermost one; any other number is refused. The last part of each contract is demand 2, of
 // Judge's demand 3: what the number and the lent bytes say in paths, barriers and constructs, and about finished runs.
 ghost use mathlib.Core.Path.{_≡_};
 ghost use Rattle.admission.specs.Admission.{admitted, numberOf as Admission·numberOf};
@@ -41,46 +42,46 @@ pub extern "C" fn bohrali_admit(chart: &[u8]) -> i64
 }
 
 #[no_mangle]
-pub extern "C" fn bohrali_pair(chart: &[u8], a: usize, b: usize) -> i64
-    ensures { λ r. ⌜ r ≡ Pair·numberOf (pairAnswered (now (chart .entry)) a b) ⌝ }
-    ensures { λ r. ⌜ PairCorrect (now (chart .entry)) a b r ⌝ }
+pub extern "C" fn bohrali_pair(chart: &[u8], region: usize, a: usize, b: usize) -> i64
+    ensures { λ r. ⌜ r ≡ Pair·numberOf (pairAnswered (now (chart .entry)) region a b) ⌝ }
+    ensures { λ r. ⌜ PairCorrect (now (chart .entry)) region a b r ⌝ }
 {
-    match calls::pair::pair(chart, a, b) {
+    match calls::pair::pair(chart, region, a, b) {
         Answered::Answer(answer) => counted(wide(answer.number)),
         Answered::Refused(refusal) => negated(refusal),
     }
 }
 
 #[no_mangle]
-pub extern "C" fn bohrali_phases(chart: &[u8], out: &mut [u8]) -> i64
-    ensures { λ r. ⌜ r ≡ Output·numberOf (phasesWritten (now (chart .entry)) (now (out .entry))) ⌝ }
-    ensures { λ _. ⌜ now (out .exit) ≡ phasesLeft (now (chart .entry)) (now (out .entry)) ⌝ }
-    ensures { λ r. ⌜ PhasesCorrect (now (chart .entry)) (now (out .entry)) r (now (out .exit)) ⌝ }
+pub extern "C" fn bohrali_phases(chart: &[u8], region: usize, out: &mut [u8]) -> i64
+    ensures { λ r. ⌜ r ≡ Output·numberOf (phasesWritten (now (chart .entry)) region (now (out .entry))) ⌝ }
+    ensures { λ _. ⌜ now (out .exit) ≡ phasesLeft (now (chart .entry)) region (now (out .entry)) ⌝ }
+    ensures { λ r. ⌜ PhasesCorrect (now (chart .entry)) region (now (out .entry)) r (now (out .exit)) ⌝ }
 {
-    match calls::writing::phases(chart, out) {
+    match calls::writing::phases(chart, region, out) {
         Written::Bytes(count) => counted(count),
         Written::Refused(refusal) => negated(refusal),
     }
 }
 
 #[no_mangle]
-pub extern "C" fn bohrali_sheet(chart: &[u8], out: &mut [u8]) -> i64
-    ensures { λ r. ⌜ r ≡ Output·numberOf (sheetWritten (now (chart .entry)) (now (out .entry))) ⌝ }
-    ensures { λ _. ⌜ now (out .exit) ≡ sheetLeft (now (chart .entry)) (now (out .entry)) ⌝ }
-    ensures { λ r. ⌜ SheetCorrect (now (chart .entry)) (now (out .entry)) r (now (out .exit)) ⌝ }
+pub extern "C" fn bohrali_sheet(chart: &[u8], region: usize, out: &mut [u8]) -> i64
+    ensures { λ r. ⌜ r ≡ Output·numberOf (sheetWritten (now (chart .entry)) region (now (out .entry))) ⌝ }
+    ensures { λ _. ⌜ now (out .exit) ≡ sheetLeft (now (chart .entry)) region (now (out .entry)) ⌝ }
+    ensures { λ r. ⌜ SheetCorrect (now (chart .entry)) region (now (out .entry)) r (now (out .exit)) ⌝ }
 {
-    match calls::writing::sheet(chart, out) {
+    match calls::writing::sheet(chart, region, out) {
         Written::Bytes(count) => counted(count),
         Written::Refused(refusal) => negated(refusal),
     }
 }
 
 #[no_mangle]
-pub extern "C" fn bohrali_judge(chart: &[u8], claims: &[u8]) -> i64
-    ensures { λ r. ⌜ r ≡ Judged·numberOf (judged (now (chart .entry)) (now (claims .entry))) ⌝ }
-    ensures { λ r. ⌜ Correct (now (chart .entry)) (now (claims .entry)) r ⌝ }
+pub extern "C" fn bohrali_judge(chart: &[u8], region: usize, claims: &[u8]) -> i64
+    ensures { λ r. ⌜ r ≡ Judged·numberOf (judged (now (chart .entry)) region (now (claims .entry))) ⌝ }
+    ensures { λ r. ⌜ Correct (now (chart .entry)) region (now (claims .entry)) r ⌝ }
 {
-    match judge::judge(chart, claims) {
+    match judge::judge(chart, region, claims) {
         Verdict::Passed => counted(0),
         Verdict::Failed(index) => counted(index + 1),
         Verdict::Refused(refusal) => negated(refusal),

@@ -1,4 +1,4 @@
--- Pair (01: Pair): rows 1 to 10, 13, or the answer for two nodes; and C's number for every case.
+-- Pair (01: Pair) in a region of a chart (02, Note 12): rows 1 to 10, 23, 13, or the answer for two nodes; and C's number for every case.
 -- Assumes nothing.
 use mathlib.Core.Bool.{_||_}
 use mathlib.Core.List.{List, [], _∷_, _++_}
@@ -7,29 +7,29 @@ use Prim.Native.Nat.{ℕ}
 use lib.IntN.{ℤ, pos, negℤ}
 use Rattle.chart.specs.Format.{decode}
 use Rattle.chart.specs.Region.{Region}
-use Rattle.chart.specs.Reading.{region}
+use Rattle.chart.specs.Reading.{regionOf}
 use Rattle.chart.specs.Refusal.{Row, firstOf}
-use Rattle.paths.specs.Admission.{admitRows}
+use Rattle.paths.specs.Admission.{regionRows}
 use Rattle.answers.specs.Answer.{answer}
 use Rattle.answers.specs.Numbers.{badNumber}
 use Rattle.calls.specs.declared.pair.Answered.{Answered}
 use Rattle.calls.specs.declared.pair.Answered.the-variants.{Answer, Refused}
 
--- Row 13: one of the two numbers is n or more, or a barrier.
+-- Row 13: one of the two numbers is that of no node of the region, or a barrier's.
 unfoldable pub numbersRow : Region → ℕ → ℕ → Row
 numbersRow R a b = record { number = 13; applies = badNumber R a || badNumber R b }
 
--- Rows 1 to 10, then 13.
-unfoldable pub pairRows : List ℕ → ℕ → ℕ → List Row
-pairRows s a b = admitRows s ++ (numbersRow (region (decode s)) a b ∷ [])
+-- Rows 1 to 10, then 23, then 13.
+unfoldable pub pairRows : List ℕ → ℕ → ℕ → ℕ → List Row
+pairRows s p a b = regionRows s p ++ (numbersRow (regionOf p (decode s)) a b ∷ [])
 
 unfoldable pub answered : Option ℕ → ℕ → Answered
 answered none number = Answer (record { number = number })
 answered (some number) other = Refused (record { number = number })
 
--- What Pair answers, over any bytes and any two numbers.
-unfoldable pub pairAnswered : List ℕ → ℕ → ℕ → Answered
-pairAnswered s a b = answered (firstOf (pairRows s a b)) (answer (region (decode s)) a b)
+-- What Pair answers, over any bytes, any number that is to name a region, and any two numbers.
+unfoldable pub pairAnswered : List ℕ → ℕ → ℕ → ℕ → Answered
+pairAnswered s p a b = answered (firstOf (pairRows s p a b)) (answer (regionOf p (decode s)) a b)
 
 -- 01's number for every case: the answer, or the refusal's number negated.
 unfoldable pub numberOf : Answered → ℤ

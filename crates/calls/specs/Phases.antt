@@ -1,4 +1,5 @@
--- Phases (01: Phases): for each node 16 bytes, starts and ends, 8 bytes each, bit b for barrier b.
+-- Phases (01: Phases) of a region of a chart (02, Note 12): for each node 16 bytes, starts and ends, 8 bytes each, bit b for barrier b of the region;
+-- all 0 for a barrier and for a node outside the region.
 -- Assumes nothing.
 use mathlib.Core.Bool.{cond}
 use mathlib.Core.List.{List, []}
@@ -8,9 +9,9 @@ use lib.ListN.{length}
 use Rattle.lists.specs.Tab.{tab}
 use Rattle.chart.specs.Format.{decode}
 use Rattle.chart.specs.Region.{Region}
-use Rattle.chart.specs.Reading.{region}
+use Rattle.chart.specs.Reading.{regionOf}
 use Rattle.chart.specs.Refusal.{Row}
-use Rattle.paths.specs.Admission.{admitRows}
+use Rattle.paths.specs.Admission.{regionRows}
 use Rattle.phases.specs.Phases.{starts, ends}
 use Rattle.output.specs.Output.{outputRows, writtenBy, leftBy}
 use Rattle.output.specs.declared.Written.{Written}
@@ -23,13 +24,13 @@ phaseByte R j = byteOf (cond (ltb (j % 16) 8) (starts R (j / 16)) (ends R (j / 1
 unfoldable pub phasesResult : Region → List ℕ
 phasesResult R = tab (16 * R .nodes) (phaseByte R)
 
--- Rows 1 to 10, then 11.
-abbrev pub phasesRows : List ℕ → List ℕ → List Row
-phasesRows s out = outputRows (admitRows s) (length out) (length (phasesResult (region (decode s)))) []
+-- Rows 1 to 10, then 23, then 11.
+abbrev pub phasesRows : List ℕ → ℕ → List ℕ → List Row
+phasesRows s p out = outputRows (regionRows s p) (length out) (length (phasesResult (regionOf p (decode s)))) []
 
 -- What Phases returns, and what the buffer holds then.
-abbrev pub phasesWritten : List ℕ → List ℕ → Written
-phasesWritten s out = writtenBy (phasesRows s out) (length (phasesResult (region (decode s))))
+abbrev pub phasesWritten : List ℕ → ℕ → List ℕ → Written
+phasesWritten s p out = writtenBy (phasesRows s p out) (length (phasesResult (regionOf p (decode s))))
 
-abbrev pub phasesLeft : List ℕ → List ℕ → List ℕ
-phasesLeft s out = leftBy (phasesRows s out) (phasesResult (region (decode s))) out
+abbrev pub phasesLeft : List ℕ → ℕ → List ℕ → List ℕ
+phasesLeft s p out = leftBy (phasesRows s p out) (phasesResult (regionOf p (decode s))) out

@@ -4,10 +4,10 @@ ghost use mathlib.Core.List.{[]};
 ghost use Prim.Native.Nat.{_≤_};
 ghost use lib.ListN.{length};
 ghost use Rattle.chart.specs.Region.{Region};
-ghost use Rattle.chart.specs.Checked.{Laid, reading};
+ghost use Rattle.chart.specs.Checked.{reading};
 ghost use Rattle.phases.specs.Phases.{forward, backward};
 ghost use Rattle.answers.specs.Sheet.{sheet as sheetOf};
-ghost use Rattle.loading.specs.Tables.{Masks};
+ghost use Rattle.loading.specs.Tables.{Accepted, Masks};
 ghost use Rattle.profiles.specs.Marks.{Marks};
 ghost use Rattle.output.specs.Output.{outputRows, writtenBy, leftBy};
 ghost use Rattle.calls.specs.Phases.{phasesResult, phasesWritten, phasesLeft};
@@ -45,15 +45,15 @@ fn write_phases(
     }
 }
 
-// The first of rows 1 to 11 that applies, or the bytes written.
-pub fn phases(s: &[u8], out: &mut [u8]) -> Written
-    ensures { λ r. ⌜ r ≡ phasesWritten (now (s .entry)) (now (out .entry)) ⌝ }
-    ensures { λ _. ⌜ now (out .exit) ≡ phasesLeft (now (s .entry)) (now (out .entry)) ⌝ }
+// The first of rows 1 to 10, 23 and 11 that applies, or the bytes written.
+pub fn phases(s: &[u8], region: usize, out: &mut [u8]) -> Written
+    ensures { λ r. ⌜ r ≡ phasesWritten (now (s .entry)) region (now (out .entry)) ⌝ }
+    ensures { λ _. ⌜ now (out .exit) ≡ phasesLeft (now (s .entry)) region (now (out .entry)) ⌝ }
 {
     let mut starts = [0u64; Chart::NODES];
     let mut ends = [0u64; Chart::NODES];
     let mut levels = [0u8; Chart::NODES];
-    match enter(s, &mut starts, &mut ends, &mut levels) {
+    match enter(s, region, &mut starts, &mut ends, &mut levels) {
         Entered::Refused(refusal) => Written::Refused(refusal),
         Entered::Marked(chart, _) => write_phases(chart.nodes, &starts, &ends, out),
     }
@@ -61,7 +61,7 @@ pub fn phases(s: &[u8], out: &mut [u8]) -> Written
 
 // Row 11 and the bytes of Sheet, of a chart whose nodes are marked.
 fn write_sheet(s: &[u8], chart: Chart, marks: &MaskTable, sets: Sets, out: &mut [u8]) -> Written
-    requires { ⌜ Laid (now s) chart × Marks (reading (now s) chart) (now marks) sets ⌝ }
+    requires { ⌜ Accepted (now s) chart × Marks (reading (now s) chart) (now marks) sets ⌝ }
     ensures { λ r.
         let size = length (sheetOf (reading (now (s .entry)) chart)) in
         ⌜ r ≡ writtenBy (outputRows [] (length (now (out .entry))) size []) size ⌝ }
@@ -79,13 +79,13 @@ fn write_sheet(s: &[u8], chart: Chart, marks: &MaskTable, sets: Sets, out: &mut 
     }
 }
 
-// The first of rows 1 to 11 that applies, or the bytes written.
-pub fn sheet(s: &[u8], out: &mut [u8]) -> Written
-    ensures { λ r. ⌜ r ≡ sheetWritten (now (s .entry)) (now (out .entry)) ⌝ }
-    ensures { λ _. ⌜ now (out .exit) ≡ sheetLeft (now (s .entry)) (now (out .entry)) ⌝ }
+// The first of rows 1 to 10, 23 and 11 that applies, or the bytes written.
+pub fn sheet(s: &[u8], region: usize, out: &mut [u8]) -> Written
+    ensures { λ r. ⌜ r ≡ sheetWritten (now (s .entry)) region (now (out .entry)) ⌝ }
+    ensures { λ _. ⌜ now (out .exit) ≡ sheetLeft (now (s .entry)) region (now (out .entry)) ⌝ }
 {
     let mut marks = [[0u64; Chart::NODES]; ROWS];
-    match survey(s, &mut marks) {
+    match survey(s, region, &mut marks) {
         Surveyed::Refused(refusal) => Written::Refused(refusal),
         Surveyed::Marked(chart, sets) => write_sheet(s, chart, &marks, sets, out),
     }

@@ -1,4 +1,4 @@
--- What the refusals leave: bytes that rows 1 to 4 let pass are laid out, and the region that is read from a chart that rows 1 to 9 let
+-- What the refusals leave: bytes that rows 1 to 4 let pass are laid out, and each region that is read from a chart that rows 1 to 9 let
 -- pass is well formed.
 -- Assumes nothing.
 use mathlib.Core.Path.{_≡_, refl}
@@ -14,11 +14,11 @@ use Rattle.lists.specs.Truth.{or-neither, not-eqb}
 use Rattle.chart.specs.Format.{outside, Decoded, decode, size}
 use Rattle.chart.specs.Refusal.{badCounts, badLengths, firstOf, trailerRows, tableRows, chartRows}
 use Rattle.chart.specs.Checked.{Laid, countsOf}
-use Rattle.chart.specs.Reading.{region}
+use Rattle.chart.specs.Reading.{regionOf}
 use Rattle.chart.specs.WellFormed.{WellFormed}
 use Rattle.chart.proofs.Records.{constructs-length}
 use Rattle.chart.proofs.NestingFacts.{constructs-fit, fit-constructs}
-use Rattle.chart.proofs.Facts.{TablesFit, nodes-fit, fit-nodes, frames-fit, fit-frames, barriers-fit, fit-barriers, edges-fit, fit-edges}
+use Rattle.chart.proofs.Facts.{Named, TablesFit, nodes-fit, fit-nodes, frames-fit, fit-frames, barriers-fit, fit-barriers, edges-fit, fit-edges}
 use Rattle.chart.proofs.Rows.{none-applies, applies-none, both-pass}
 use Rattle.chart.proofs.Whole.{reads}
 use Rattle.chart.proofs.Laws.{laws}
@@ -73,13 +73,16 @@ tables-fit D h =
     }
 
 -- row 3 gives the bound, which keeps the number `outside` free
-pub well-formed-tables : (D : Decoded) → length (D .constructs) ≤ outside → TablesFit D → WellFormed (region D)
-well-formed-tables D few F = laws (reads D F few)
+pub well-formed-tables : (D : Decoded) → length (D .constructs) ≤ outside → TablesFit D → (p : ℕ) → Named (D .constructs) p → WellFormed (regionOf p D)
+well-formed-tables D few F p N = laws (reads D F few p N)
 
-pub well-formed : (s : List ℕ) → firstOf (chartRows s) ≡ none → WellFormed (region (decode s))
+-- the tables of a chart that rows 1 to 9 let pass
+pub fits : (s : List ℕ) → firstOf (chartRows s) ≡ none → (length (decode s .constructs) ≤ outside) × TablesFit (decode s)
 unfolding chartRows
-well-formed s h =
+fits s h =
     let pass = both-pass (trailerRows s) (tableRows (decode s)) h in
     let bytes = laid s (pass .0) in
-    let few : length (decode s .constructs) ≤ outside = omega (arith, constructs-length s (countsOf s) bytes, bytes .constructs-most) in
-    well-formed-tables (decode s) few (tables-fit (decode s) (pass .1))
+    (omega (arith, constructs-length s (countsOf s) bytes, bytes .constructs-most), tables-fit (decode s) (pass .1))
+
+pub well-formed : (s : List ℕ) → firstOf (chartRows s) ≡ none → (p : ℕ) → Named (decode s .constructs) p → WellFormed (regionOf p (decode s))
+well-formed s h p N = let f = fits s h in well-formed-tables (decode s) (f .0) (f .1) p N

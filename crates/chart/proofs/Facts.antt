@@ -11,55 +11,102 @@ use native.Mathlib.Decide.{ℕ-discrete}
 use lib.Dec.{eqb, ltb, leb}
 use lib.ListN.{length}
 use borrow.Author.Tests.{ltb-true, ltb-false, leb-false, eqb-true, eqb-false, not-false, lt-ltb, le-ltb, le-leb, lt-leb, leb-true, eq-eqb, ne-eqb}
-use Rattle.lists.specs.Truth.{clash, false-if, and-both, both-and, or-cases, or-left, or-right, true-not, or-neither, neither-or, and-fails, fails-and, not-eqb, eq-not-eqb}
+use Rattle.lists.specs.Truth.{clash, false-if, and-both, both-and, or-cases, or-left, or-right, true-not, and-false, or-neither, neither-or, and-fails, fails-and, not-eqb, eq-not-eqb}
 use Rattle.lists.specs.Range.{any, count, any-at, none-passes, any-none, count-two, count-some, count-only}
 use Rattle.chart.specs.Format.{outside, Node, Edge, Construct, Decoded, nodeAt, edgeAt, constructAt}
 use Rattle.chart.specs.Scope.{barrierNode, beginNode, endNode, sectionByte, scopeAt}
-use Rattle.chart.specs.Refusal.{badNode, badNodeAt, badNodes, framesIn, badFrame, badFrames, isBarrier, badBarriers, badEdge, rises, badEdgeAt, framesSection, joinsSections, badEdges}
+use Rattle.chart.specs.Nested.{isParallel}
+use Rattle.chart.specs.Refusal.{badNode, badOuter, badNodeAt, badNodes, framesIn, badFrame, badFrames, isBarrier, barrierOf, tooManyIn, badBarriers, badEdge, rises, badEdgeAt, framesSection, joinsSections, badEdges}
 use Rattle.chart.proofs.Tree.{Below}
+use Rattle.chart.proofs.Constructs.{parallel-below}
 use Rattle.chart.proofs.NestingFacts.{ConstructsFit, below-fits, fit-below}
 
+-- p is the number of a region: outside, for the outermost one, or that of a parallel.
+abbrev pub Named : List Construct → ℕ → Type 0
+Named constructs p = (p ≡ outside) ⊎ (isParallel constructs p ≡ true)
+
 -- Row 5.
-pub record NodeFits (constructs kind number : ℕ) : Type 0 where
+pub record NodeFits (constructs : List Construct) (kind number : ℕ) : Type 0 where
   pub known : kind ≤ endNode
-  pub number-below : Below constructs number
-  pub barrier-outside : kind ≡ barrierNode → number ≡ outside
+  pub number-below : Below (length constructs) number
+  pub barrier-names : kind ≡ barrierNode → Named constructs number
   pub frame-not-outside : beginNode ≤ kind → number ≢ outside
 
-abbrev pub NodesFit : Decoded → Type 0
-NodesFit D = (x : ℕ) → x < length (D .nodes) → NodeFits (length (D .constructs)) (nodeAt (D .nodes) x .kind) (nodeAt (D .nodes) x .number)
+-- Node x is the first or the last of n.
+abbrev pub Outer : ℕ → ℕ → Type 0
+Outer n x = (x ≡ 0) ⊎ (x ≡ n - 1)
+
+pub record NodesFit (D : Decoded) : Type 0 where
+  pub alone : (x : ℕ) → x < length (D .nodes) → NodeFits (D .constructs) (nodeAt (D .nodes) x .kind) (nodeAt (D .nodes) x .number)
+  pub outer : (x : ℕ) → x < length (D .nodes) → Outer (length (D .nodes)) x → nodeAt (D .nodes) x .kind ≡ barrierNode
+      → nodeAt (D .nodes) x .number ≡ outside
 
 -- the number of a begin or an end is that of a construct
-pub frame-construct : {constructs kind number : ℕ} → NodeFits constructs kind number → beginNode ≤ kind → number < constructs
+pub frame-construct : {constructs : List Construct} {kind number : ℕ} → NodeFits constructs kind number → beginNode ≤ kind → number < length constructs
 frame-construct F k = elim (F .number-below) [ inl q ↦ absurd (F .frame-not-outside k q) | inr l ↦ l ]
 
-pub node-fits : (constructs kind number : ℕ) → badNode constructs kind number ≡ false → NodeFits constructs kind number
+-- a number that names a region
+pub names-fit : (constructs : List Construct) (number : ℕ) → (not (eqb number outside) && not (isParallel constructs number)) ≡ false → Named constructs number
+names-fit constructs number h = elim (ℕ-discrete number outside) [
+  | yes q ↦ inl q
+  | no n ↦ inr (not-false _ (and-fails (not (eqb number outside)) _ h (rw (ne-eqb number outside n))))
+]
+
+pub fit-names : (constructs : List Construct) (number : ℕ) → Named constructs number → (not (eqb number outside) && not (isParallel constructs number)) ≡ false
+fit-names constructs number (inl q) = rw (eq-eqb number outside q)
+fit-names constructs number (inr h) = rw h (and-false (not (eqb number outside)))
+
+pub node-fits : (constructs : List Construct) (kind number : ℕ) → badNode constructs kind number ≡ false → NodeFits constructs kind number
 unfolding badNode
 node-fits constructs kind number h =
     let a = or-neither (ltb endNode kind) _ h in
-    let b = or-neither (not (ltb number constructs) && not (eqb number outside)) _ (a .1) in
-    let c = or-neither (eqb kind barrierNode && not (eqb number outside)) _ (b .1) in
+    let b = or-neither (not (ltb number (length constructs)) && not (eqb number outside)) _ (a .1) in
+    let c = or-neither (eqb kind barrierNode && (not (eqb number outside) && not (isParallel constructs number))) _ (b .1) in
     record {
       known = ltb-false endNode kind (a .0);
-      number-below = below-fits constructs number (b .0);
-      barrier-outside = λ k. not-eqb number outside (and-fails (eqb kind barrierNode) (not (eqb number outside)) (c .0) (eq-eqb kind barrierNode k));
+      number-below = below-fits (length constructs) number (b .0);
+      barrier-names = λ k. names-fit constructs number (and-fails (eqb kind barrierNode) _ (c .0) (eq-eqb kind barrierNode k));
       frame-not-outside = λ k. eqb-false number outside (and-fails (leb beginNode kind) (eqb number outside) (c .1) (le-leb beginNode kind k));
     }
 
-pub fit-node : (constructs kind number : ℕ) → NodeFits constructs kind number → badNode constructs kind number ≡ false
+pub fit-node : (constructs : List Construct) (kind number : ℕ) → NodeFits constructs kind number → badNode constructs kind number ≡ false
 unfolding badNode
 fit-node constructs kind number F =
-    neither-or _ _ (le-ltb endNode kind (F .known)) (neither-or _ _ (fit-below constructs number (F .number-below)) (neither-or _ _
-    (fails-and (eqb kind barrierNode) (not (eqb number outside)) (λ k. eq-not-eqb number outside (F .barrier-outside (eqb-true kind barrierNode k))))
+    neither-or _ _ (le-ltb endNode kind (F .known)) (neither-or _ _ (fit-below (length constructs) number (F .number-below)) (neither-or _ _
+    (fails-and (eqb kind barrierNode) _ (λ k. fit-names constructs number (F .barrier-names (eqb-true kind barrierNode k))))
     (fails-and (leb beginNode kind) (eqb number outside) (λ k. ne-eqb number outside (F .frame-not-outside (leb-true beginNode kind k))))))
+
+outer-fits : (n x kind number : ℕ) → badOuter n x kind number ≡ false → Outer n x → kind ≡ barrierNode → number ≡ outside
+unfolding badOuter
+outer-fits n x kind number h o k =
+    not-eqb number outside (and-fails (eqb kind barrierNode) _ (and-fails (eqb x 0 || eqb x (n - 1)) _ h (at o)) (eq-eqb kind barrierNode k))
+  where
+    at : Outer n x → (eqb x 0 || eqb x (n - 1)) ≡ true
+    at (inl q) = or-left (eqb x 0) _ (eq-eqb x 0 q)
+    at (inr q) = or-right (eqb x 0) _ (eq-eqb x (n - 1) q)
+
+fit-outer : (n x kind number : ℕ) → (Outer n x → kind ≡ barrierNode → number ≡ outside) → badOuter n x kind number ≡ false
+unfolding badOuter
+fit-outer n x kind number f =
+    fails-and (eqb x 0 || eqb x (n - 1)) _ (λ o. fails-and (eqb kind barrierNode) _ (λ k. eq-not-eqb number outside (f (of o) (eqb-true kind barrierNode k))))
+  where
+    of : (eqb x 0 || eqb x (n - 1)) ≡ true → Outer n x
+    of o = elim (or-cases (eqb x 0) _ o) [ inl q ↦ inl (eqb-true x 0 q) | inr q ↦ inr (eqb-true x (n - 1) q) ]
 
 pub nodes-fit : (D : Decoded) → badNodes D ≡ false → NodesFit D
 unfolding badNodes badNodeAt
-nodes-fit D h x l = node-fits _ _ _ (none-passes (length (D .nodes)) (badNodeAt D) h x l)
+nodes-fit D h = record { alone = λ x l. node-fits _ _ _ (parts x l .0); outer = λ x l. outer-fits _ x _ _ (parts x l .1) }
+  where
+    parts : (x : ℕ) → x < length (D .nodes)
+        → let k = nodeAt (D .nodes) x in
+        (badNode (D .constructs) (k .kind) (k .number) ≡ false) × (badOuter (length (D .nodes)) x (k .kind) (k .number) ≡ false)
+    parts x l =
+        let k = nodeAt (D .nodes) x in
+        or-neither (badNode (D .constructs) (k .kind) (k .number)) _ (none-passes (length (D .nodes)) (badNodeAt D) h x l)
 
 pub fit-nodes : (D : Decoded) → NodesFit D → badNodes D ≡ false
 unfolding badNodes badNodeAt
-fit-nodes D F = any-none (length (D .nodes)) (badNodeAt D) (λ x l. fit-node _ _ _ (F x l))
+fit-nodes D F = any-none (length (D .nodes)) (badNodeAt D) (λ x l. neither-or _ _ (fit-node _ _ _ (F .alone x l)) (fit-outer _ x _ _ (F .outer x l)))
 
 -- Row 7: a node of this kind with the number c, and that there is exactly one.
 abbrev pub FrameAt : List Node → ℕ → ℕ → ℕ → Type 0
@@ -138,19 +185,29 @@ fit-frames D F = neither-or _ _ (fit-kind D beginNode (F .begins)) (fit-kind D e
 pub record BarriersFit (D : Decoded) : Type 0 where
   pub start : nodeAt (D .nodes) 0 .kind ≡ barrierNode
   pub finish : nodeAt (D .nodes) (length (D .nodes) - 1) .kind ≡ barrierNode
-  pub most : count (length (D .nodes)) (isBarrier (D .nodes)) ≤ 64
+  -- of each region
+  pub most : (p : ℕ) → Named (D .constructs) p → count (length (D .nodes)) (barrierOf (D .nodes) p) ≤ 64
 
 pub barriers-fit : (D : Decoded) → badBarriers D ≡ false → BarriersFit D
-unfolding badBarriers isBarrier
+unfolding badBarriers isBarrier tooManyIn
 barriers-fit D h =
     let a = or-neither (not (isBarrier (D .nodes) 0)) _ h in
     let b = or-neither (not (isBarrier (D .nodes) (length (D .nodes) - 1))) _ (a .1) in
-    record { start = not-eqb _ barrierNode (a .0); finish = not-eqb _ barrierNode (b .0); most = ltb-false 64 _ (b .1) }
+    let c = or-neither (tooManyIn (D .nodes) outside) _ (b .1) in
+    record { start = not-eqb _ barrierNode (a .0); finish = not-eqb _ barrierNode (b .0); most = most (c .0) (c .1) }
+  where
+    most : tooManyIn (D .nodes) outside ≡ false → any (length (D .constructs)) (λ c. isParallel (D .constructs) c && tooManyIn (D .nodes) c) ≡ false
+        → (p : ℕ) → Named (D .constructs) p → count (length (D .nodes)) (barrierOf (D .nodes) p) ≤ 64
+    most o i p (inl q) = subst (λ (p : ℕ). count (length (D .nodes)) (barrierOf (D .nodes) p) ≤ 64) (sym q) (ltb-false 64 _ o)
+    most o i p (inr k) = ltb-false 64 _ (and-fails (isParallel (D .constructs) p) _
+        (none-passes (length (D .constructs)) (λ c. isParallel (D .constructs) c && tooManyIn (D .nodes) c) i p (parallel-below (D .constructs) p k)) k)
 
 pub fit-barriers : (D : Decoded) → BarriersFit D → badBarriers D ≡ false
-unfolding badBarriers isBarrier
+unfolding badBarriers isBarrier tooManyIn
 fit-barriers D F =
-    neither-or _ _ (eq-not-eqb _ barrierNode (F .start)) (neither-or _ _ (eq-not-eqb _ barrierNode (F .finish)) (le-ltb 64 _ (F .most)))
+    neither-or _ _ (eq-not-eqb _ barrierNode (F .start)) (neither-or _ _ (eq-not-eqb _ barrierNode (F .finish))
+    (neither-or _ _ (le-ltb 64 _ (F .most outside (inl refl))) (any-none (length (D .constructs)) (λ c. isParallel (D .constructs) c && tooManyIn (D .nodes) c)
+    (λ c l. fails-and (isParallel (D .constructs) c) _ (λ k. le-ltb 64 _ (F .most c (inr k)))))))
 
 -- Row 9, of an edge by itself and of two edges in a row.
 pub record EdgeFits (nodes : List Node) (constructs : List Construct) (from to : ℕ) : Type 0 where

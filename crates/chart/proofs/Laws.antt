@@ -1,11 +1,11 @@
 -- A region that its reading supplies with the facts of proofs/Reading.antt is well formed. This rests on those facts alone.
 -- Assumes nothing.
 use mathlib.Core.Path.{_≡_, refl, ap, sym, _∙_, subst}
-use mathlib.Core.Logic.{_⊎_, inl, inr}
+use mathlib.Core.Logic.{_⊎_, inl, inr, _≢_}
 use mathlib.Core.Bool.{true, false}
 use Prim.Native.Nat.{ℕ}
 use Rattle.lists.specs.Truth.{bad, clash, false-if, same-truth}
-use Rattle.chart.specs.Region.{opens, closes, Kind, single, master, critical, loop, ordered, sections, section, Outermost, Region}
+use Rattle.chart.specs.Region.{opens, closes, Kind, single, master, critical, loop, ordered, sections, section, parallel, Outermost, Region}
 use Rattle.chart.specs.InSection.{SectionOf, InSection}
 use Rattle.chart.specs.Scope.{Encloses, here}
 use Rattle.chart.specs.Nesting.{mayEnclose}
@@ -22,16 +22,18 @@ outermost-alone loop above u = refl
 outermost-alone ordered above u = absurd u
 outermost-alone sections above u = refl
 outermost-alone section above u = absurd u
+outermost-alone parallel above u = absurd u
 
-section-above : (kind : Kind) → mayEnclose kind section ≡ true → kind ≡ critical
+section-above : (kind : Kind) → kind ≢ parallel → mayEnclose kind section ≡ true → kind ≡ critical
 unfolding mayEnclose
-section-above single h = absurd (bad (cc))
-section-above master h = absurd (bad (cc))
-section-above critical h = refl
-section-above loop h = absurd (bad (cc))
-section-above ordered h = absurd (bad (cc))
-section-above sections h = absurd (bad (cc))
-section-above section h = absurd (bad (cc))
+section-above single n h = absurd (bad (cc))
+section-above master n h = absurd (bad (cc))
+section-above critical n h = refl
+section-above loop n h = absurd (bad (cc))
+section-above ordered n h = absurd (bad (cc))
+section-above sections n h = absurd (bad (cc))
+section-above section n h = absurd (bad (cc))
+section-above parallel n h = absurd (n refl)
 
 masters-apart : (kind above : Kind) → kind ≡ master → above ≡ master → mayEnclose kind above ≡ false
 unfolding mayEnclose
@@ -123,8 +125,10 @@ module _ {R : Region} {Counts : ℕ → Type 0} {lies : ℕ → ℕ} {scope : Fr
   pub laws : WellFormed R
   laws = record {
     kept-below = F .kept-below;
-    from-below = F .from-below;
-    to-below = F .to-below;
+    from-below = λ e. F .kept-below (F .from-kept e);
+    to-below = λ e. F .kept-below (F .to-kept e);
+    from-kept = F .from-kept;
+    to-kept = F .to-kept;
     barrier-below = F .barrier-below;
     begin-below = λ {x} {c} w. F .marks-below begin c w;
     end-below = λ {x} {c} w. F .marks-below end c w;
@@ -150,10 +154,11 @@ module _ {R : Region} {Counts : ℕ → Type 0} {lies : ℕ → ℕ} {scope : Fr
     ordered-inside = loop-encloses;
     ordered-loop = λ i k. F .ordered-loop (F .inside-counts i) k;
     one-thread = λ i j p q. ap (R .thread) (one-of i j (masters-apart _ _ p q) (masters-apart _ _ q p));
+    no-parallel = λ {x} {c} w. F .no-parallel (F .marks-counts begin c w);
     section-begin = sections-enclose-begin;
     section-inside = sections-enclose;
     section-sections = λ {x} {s} w k. F .section-sections (F .marks-counts begin s w) k;
-    section-critical = λ {x} {k} {s} w i q. section-above (R .kind k)
+    section-critical = λ {x} {k} {s} w i q. section-above (R .kind k) (F .no-parallel (F .marks-counts begin k w))
         (subst (λ (j : Kind). mayEnclose (R .kind k) j ≡ true) q (F .nested (F .marks-counts begin k w) (F .inside-counts i) (begin-enclosed w i)));
     sections-section = in-section;
     section-out = F .section-out;

@@ -1,12 +1,16 @@
 pub mod Records
 pub mod Constructs
 pub mod Tree
+pub mod Near
 pub mod Rows
 pub mod NestingFacts
 pub mod Facts
 pub mod Reading
 pub mod Scopes
+pub mod Tables
+pub mod RegionFacts
 pub mod Whole
 pub mod Laws
 pub mod Sections
 pub mod Accepted
+pub mod Kept

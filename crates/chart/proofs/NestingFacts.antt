@@ -13,10 +13,12 @@ use borrow.Author.Tests.{ltb-true, ltb-false, eqb-true, eqb-false, not-true, not
 use Rattle.lists.specs.Truth.{truth, clash, same-truth, beq-equal, true-not, and-false, or-neither, neither-or, and-fails, fails-and, not-eqb, eq-not-eqb}
 use Rattle.lists.specs.Range.{any, none-passes, any-none}
 use Rattle.chart.specs.Format.{outside, Construct, Decoded, nodeAt, constructAt}
-use Rattle.chart.specs.Scope.{beginNode, masterByte, criticalByte, loopByte, orderedByte, sectionsByte, sectionByte, kindOf, encloses, Encloses, parentOf}
-use Rattle.chart.specs.Nesting.{kinds, mayEnclose, sameCritical, excluded, wronglyAbove, misplaced, misnested}
+use Rattle.chart.specs.Scope.{beginNode, masterByte, criticalByte, loopByte, orderedByte, sectionsByte, sectionByte, kindOf, parentOf}
+use Rattle.chart.specs.Nested.{isParallel}
+use Rattle.chart.specs.Nesting.{kinds, mayEnclose, enclosesNear, sameCritical, excluded, wronglyAbove, misplaced, misnested}
 use Rattle.chart.specs.Refusal.{foreignNumber, badConstruct, badAlone, strayNode, badConstructs}
-use Rattle.chart.proofs.Tree.{Below, below-more, computed, computes, lower}
+use Rattle.chart.proofs.Tree.{Below, below-more, lower}
+use Rattle.chart.proofs.Near.{Near, near-encloses, near-computed, near-computes}
 
 -- a number that is neither below a bound nor outside
 pub below-fits : (bound p : ℕ) → (not (ltb p bound) && not (eqb p outside)) ≡ false → Below bound p
@@ -48,9 +50,9 @@ pub record Placed (kind above : ℕ) : Type 0 where
   pub in-sections : kind ≡ sectionByte → above ≡ sectionsByte
   pub is-section : above ≡ sectionsByte → kind ≡ sectionByte
 
--- Row 6, of a construct among the others.
+-- Row 6, of a construct among the others of its region.
 pub record Nests (constructs : List Construct) (c : ℕ) : Type 0 where
-  pub below : {k : ℕ} → Encloses (parentOf constructs) (parentOf constructs c) k
+  pub below : {k : ℕ} → Near (parentOf constructs) (isParallel constructs) (parentOf constructs c) k
       → MayStand (constructAt constructs c .kind) (constructAt constructs c .name) (constructAt constructs k .kind) (constructAt constructs k .name)
   pub placed : Placed (constructAt constructs c .kind) (constructAt constructs (parentOf constructs c) .kind)
 
@@ -154,9 +156,9 @@ module _ (constructs : List Construct) where
         let parent = parentOf constructs in
         let near : Below size (parent c) = below-more (omega arith) (parents-lower c l) in
         record {
-          below = λ {k} e. stand-fits _ _ _ _ (and-fails (encloses parent size (parent c) k) _
-              (none-passes size (wronglyAbove constructs c) (a .0) k (lower parent size parents-lower e size (omega arith) near))
-              (computes parent size parents-lower e size (omega arith) near));
+          below = λ {k} e. stand-fits _ _ _ _ (and-fails (enclosesNear parent (isParallel constructs) size (parent c) k) _
+              (none-passes size (wronglyAbove constructs c) (a .0) k (lower parent size parents-lower (near-encloses e) size (omega arith) near))
+              (near-computes parent (isParallel constructs) size parents-lower e size size (omega arith) (omega arith) near));
           placed = place-fits _ _ (a .1);
         }
 
@@ -165,8 +167,8 @@ module _ (constructs : List Construct) where
   fit-nesting c F =
       let size = length constructs in
       neither-or _ _
-      (any-none size (wronglyAbove constructs c) (λ k l. fails-and (encloses (parentOf constructs) size (parentOf constructs c) k) _
-      (λ e. fit-stand _ _ _ _ (F .below (computed (parentOf constructs) size (parentOf constructs c) k e)))))
+      (any-none size (wronglyAbove constructs c) (λ k l. fails-and (enclosesNear (parentOf constructs) (isParallel constructs) size (parentOf constructs c) k) _
+      (λ e. fit-stand _ _ _ _ (F .below (near-computed (parentOf constructs) (isParallel constructs) size (parentOf constructs c) k e)))))
       (fit-place _ _ (F .placed))
 
 pub constructs-fit : (D : Decoded) → badConstructs D ≡ false → ConstructsFit D

@@ -6,7 +6,7 @@ use mathlib.Core.Logic.{_⊎_, _≢_}
 use mathlib.Core.Bool.{true}
 use Prim.Native.Nat.{ℕ, _<_}
 use Rattle.chart.specs.Format.{outside}
-use Rattle.chart.specs.Region.{Role, barrier, opens, closes, loop, ordered, sections, section, Region}
+use Rattle.chart.specs.Region.{Role, barrier, opens, closes, loop, ordered, sections, section, parallel, Region}
 use Rattle.chart.specs.Scope.{Encloses}
 use Rattle.chart.specs.Nesting.{mayEnclose}
 
@@ -31,8 +31,8 @@ pub record Reads (R : Region) (Counts : ℕ → Type 0) (lies : ℕ → ℕ) (sc
   pub counts-not-outside : {c : ℕ} → Counts c → c ≢ outside
   pub kept-below : {x : ℕ} → R .kept x ≡ true → x < R .nodes
   pub barrier-below : {x : ℕ} → R .role x ≡ barrier → x < R .nodes
-  pub from-below : {x y : ℕ} → R .edge x y ≡ true → x < R .nodes
-  pub to-below : {x y : ℕ} → R .edge x y ≡ true → y < R .nodes
+  pub from-kept : {x y : ℕ} → R .edge x y ≡ true → R .kept x ≡ true
+  pub to-kept : {x y : ℕ} → R .edge x y ≡ true → R .kept y ≡ true
   -- the frame of a construct
   pub marks-below : (f : Frame) {x : ℕ} (c : ℕ) → R .role x ≡ marks f c → x < R .nodes
   pub marks-counts : (f : Frame) {x : ℕ} (c : ℕ) → R .role x ≡ marks f c → Counts c
@@ -57,6 +57,7 @@ pub record Reads (R : Region) (Counts : ℕ → Type 0) (lies : ℕ → ℕ) (sc
   pub ordered-loop : {c : ℕ} → Counts c → R .kind c ≡ ordered → R .kind (R .parent c) ≡ loop
   pub section-counts : {c : ℕ} → Counts c → R .kind c ≡ section → Counts (R .parent c)
   pub section-sections : {c : ℕ} → Counts c → R .kind c ≡ section → R .kind (R .parent c) ≡ sections
+  pub no-parallel : {c : ℕ} → Counts c → R .kind c ≢ parallel
   -- what lies directly in a sections is the begin or the end of a section, and what stands there is a section
   pub directly-in : {x c : ℕ} → lies x ≡ c → Counts c → R .kind c ≡ sections → (f : Frame) × (s : ℕ) × (R .role x ≡ marks f s) × (R .kind s ≡ section)
   pub directly-below : {k c : ℕ} → k < R .constructs → R .parent k ≡ c → Counts c → R .kind c ≡ sections → Counts k × (R .kind k ≡ section)

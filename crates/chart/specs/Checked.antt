@@ -5,21 +5,32 @@ use mathlib.Core.List.{List}
 use mathlib.Core.Option.{Option, none, some}
 use Prim.Native.Nat.{ℕ, _≤_}
 use lib.ListN.{length}
-use Rattle.chart.specs.Format.{decode, size}
+use Rattle.chart.specs.Format.{outside, decode, size}
 use Rattle.chart.specs.Region.{Region}
-use Rattle.chart.specs.Reading.{region}
+use Rattle.chart.specs.Reading.{regionOf}
 use Rattle.chart.specs.Refusal.{firstOf, chartRows}
 use Rattle.chart.specs.declared.format.Chart.{Chart}
 use Rattle.chart.specs.declared.format.Checked.{Checked}
 use Rattle.chart.specs.declared.format.Checked.the-variants.{Passed, Refused}
 
--- The edition and the counts that a trailer gives.
+-- The edition and the counts that a trailer gives, of a chart that is read for its outermost region.
 unfoldable pub countsOf : List ℕ → Chart
 countsOf s = record {
   edition = decode s .trailer .edition;
   nodes = decode s .trailer .nodes;
   edges = decode s .trailer .edges;
   constructs = decode s .trailer .constructs;
+  region = outside;
+}
+
+-- The same chart, read for the region p.
+abbrev pub readFor : Chart → ℕ → Chart
+readFor chart p = record {
+  edition = chart .edition;
+  nodes = chart .nodes;
+  edges = chart .edges;
+  constructs = chart .constructs;
+  region = p;
 }
 
 unfoldable pub answer : Option ℕ → Chart → Checked
@@ -30,9 +41,9 @@ answer (some number) chart = Refused (record { number = number })
 unfoldable pub checked : List ℕ → Checked
 checked s = answer (firstOf (chartRows s)) (countsOf s)
 
--- The region that the bytes of a chart are read as.
+-- The region that the bytes of a chart are read for.
 abbrev pub reading : List ℕ → Chart → Region
-reading s chart = region (decode s)
+reading s chart = regionOf (chart .region) (decode s)
 
 -- Bytes that rows 1 to 4 let pass, with their edition and counts, an equation for each.
 pub record Laid (s : List ℕ) (chart : Chart) : Type 0 where

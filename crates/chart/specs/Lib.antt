@@ -3,6 +3,7 @@ pub mod Region
 pub mod InOrdered
 pub mod InSection
 pub mod Scope
+pub mod Nested
 pub mod Nesting
 pub mod Refusal
 pub mod Reading

@@ -1,15 +1,16 @@
--- A chart read as a region: the whole chart, from its first node (01: Start) to its last (01: Finish). The thread that goes into a construct
--- of kind 2 (01: master, 02: masked) is its filter.
+-- A chart read for one of its regions (02, Note 12): the region of a parallel, named by its number, or the outermost one, named by `outside`.
+-- What lies outside the region is cut away. The thread that goes into a construct of kind 2 (01: master, 02: masked) is its filter.
 -- Assumes nothing.
-use mathlib.Core.Bool.{Bool, _&&_}
+use mathlib.Core.Bool.{Bool, _&&_, cond}
 use mathlib.Core.List.{List}
 use Prim.Native.Nat.{ℕ, _-_}
-use lib.Dec.{eqb, ltb}
+use lib.Dec.{eqb}
 use lib.ListN.{length}
 use Rattle.lists.specs.Range.{any, first}
-use Rattle.chart.specs.Format.{Node, Edge, Construct, Decoded, nodeAt, edgeAt, constructAt}
+use Rattle.chart.specs.Format.{outside, Node, Edge, Construct, Decoded, nodeAt, edgeAt, constructAt}
 use Rattle.chart.specs.Region.{Region}
-use Rattle.chart.specs.Scope.{kindOf, encloses, parentOf, roleAt, liesAt, beginNode, endNode}
+use Rattle.chart.specs.Scope.{kindOf, encloses, parentOf, liesAt, leavingAt, beginNode, endNode}
+use Rattle.chart.specs.Nested.{countsIn, liesWithin, keptIn, roleIn}
 
 -- An edge leads from x to y: one of the list.
 unfoldable pub edgeIn : List Edge → ℕ → ℕ → Bool
@@ -23,19 +24,26 @@ insideAt nodes constructs x c = encloses (parentOf constructs) (length construct
 unfoldable pub frameOf : List Node → ℕ → ℕ → ℕ
 frameOf nodes kind c = first (length nodes) (λ x. eqb (nodeAt nodes x .kind) kind && eqb (nodeAt nodes x .number) c)
 
-abbrev pub region : Decoded → Region
-region D = record {
+-- The numbers of nodes and constructs stay. An edge is the region's where it lies in it, by its scope: the edges out of its end, the one to
+-- its begin among them, do not. A node is inside those constructs around it that are the region's. Start and Finish of a parallel's region are
+-- its begin and its end; of the outermost one, the first node and the last.
+abbrev pub regionOf : ℕ → Decoded → Region
+regionOf p D = record {
   nodes = length (D .nodes);
   constructs = length (D .constructs);
-  kept = λ x. ltb x (length (D .nodes));
-  role = roleAt (D .nodes);
-  edge = edgeIn (D .edges);
-  inside = insideAt (D .nodes) (D .constructs);
+  kept = keptIn (D .nodes) (D .constructs) p;
+  role = λ x. roleIn p (countsIn (D .constructs) p) (nodeAt (D .nodes) x .kind) (nodeAt (D .nodes) x .number);
+  edge = λ x y. edgeIn (D .edges) x y && liesWithin (D .constructs) p (leavingAt (D .nodes) (D .constructs) x);
+  inside = λ x c. insideAt (D .nodes) (D .constructs) x c && countsIn (D .constructs) p c;
   kind = λ c. kindOf (constructAt (D .constructs) c .kind);
   parent = parentOf (D .constructs);
   thread = λ c. constructAt (D .constructs) c .filter;
   begin = frameOf (D .nodes) beginNode;
   end = frameOf (D .nodes) endNode;
-  start = 0;
-  finish = length (D .nodes) - 1;
+  start = cond (eqb p outside) 0 (frameOf (D .nodes) beginNode p);
+  finish = cond (eqb p outside) (length (D .nodes) - 1) (frameOf (D .nodes) endNode p);
 }
+
+-- The outermost region: every node and edge of the chart is one of it.
+abbrev pub region : Decoded → Region
+region D = regionOf outside D

@@ -10,6 +10,7 @@ use lib.ListN.{length}
 use Rattle.lists.specs.Range.{any, count}
 use Rattle.chart.specs.Format.{outside, Node, Construct, Trailer, Decoded, decode, nodeAt, edgeAt, constructAt, constructBytes, size, trailerSize}
 use Rattle.chart.specs.Scope.{barrierNode, beginNode, endNode, masterByte, criticalByte, sectionsByte, sectionByte, leavingAt, arrivingAt}
+use Rattle.chart.specs.Nested.{isParallel}
 use Rattle.chart.specs.Nesting.{kinds, misnested}
 
 -- Row 2: edition neither 1 nor 2, or closing bytes differ. The bytes 4F 43, read as a field, are 0x434F.
@@ -31,16 +32,23 @@ badLengths len t =
     || (not (eqb (t .to-edges) (2 * t .edges + constructBytes (t .edition) (t .constructs) + trailerSize))
     || not (eqb (t .to-constructs) (constructBytes (t .edition) (t .constructs) + trailerSize))))
 
--- Row 5, of one node: kind over 3; construct number neither below c nor 255; barrier not 255; begin or end with 255.
-unfoldable pub badNode : ℕ → ℕ → ℕ → Bool
+-- Row 5, of one node: kind over 3; construct number neither below c nor 255; a barrier naming a non-parallel (02, Note 12), where 255 names the
+-- outermost region; begin or end with 255.
+unfoldable pub badNode : List Construct → ℕ → ℕ → Bool
 badNode constructs kind number =
     ltb endNode kind
-    || ((not (ltb number constructs) && not (eqb number outside))
-    || ((eqb kind barrierNode && not (eqb number outside))
+    || ((not (ltb number (length constructs)) && not (eqb number outside))
+    || ((eqb kind barrierNode && (not (eqb number outside) && not (isParallel constructs number)))
     || (leb beginNode kind && eqb number outside)))
 
+-- Row 5, of node x of n: a barrier naming a region at node 0 or n-1 (02, Note 12).
+unfoldable pub badOuter : ℕ → ℕ → ℕ → ℕ → Bool
+badOuter n x kind number = (eqb x 0 || eqb x (n - 1)) && (eqb kind barrierNode && not (eqb number outside))
+
 unfoldable pub badNodeAt : Decoded → ℕ → Bool
-badNodeAt D x = badNode (length (D .constructs)) (nodeAt (D .nodes) x .kind) (nodeAt (D .nodes) x .number)
+badNodeAt D x =
+    badNode (D .constructs) (nodeAt (D .nodes) x .kind) (nodeAt (D .nodes) x .number)
+    || badOuter (length (D .nodes)) x (nodeAt (D .nodes) x .kind) (nodeAt (D .nodes) x .number)
 
 unfoldable pub badNodes : Decoded → Bool
 badNodes D = any (length (D .nodes)) (badNodeAt D)
@@ -49,7 +57,7 @@ badNodes D = any (length (D .nodes)) (badNodeAt D)
 unfoldable pub foreignNumber : ℕ → ℕ → ℕ → Bool
 foreignNumber only kind number = not (eqb kind only) && not (eqb number 0)
 
--- Row 6, of construct c by itself: kind not 1 to 7; parent not lower and not 255; name not 0 on a non-critical; filter not 0 on a kind other
+-- Row 6, of construct c by itself: kind not 1 to 8; parent not lower and not 255; name not 0 on a non-critical; filter not 0 on a kind other
 -- than 2 (02, Note 5).
 unfoldable pub badConstruct : ℕ → ℕ → ℕ → ℕ → ℕ → Bool
 badConstruct c kind parent name filter =
@@ -87,14 +95,22 @@ badFrame D kind = any (length (D .constructs)) (λ c. not (eqb (framesIn (D .nod
 unfoldable pub badFrames : Decoded → Bool
 badFrames D = badFrame D beginNode || badFrame D endNode
 
--- Row 8: node 0 or n-1 no barrier; over 64 barriers.
+-- Row 8: node 0 or n-1 no barrier; over 64 barriers of one region (02, Note 12).
 unfoldable pub isBarrier : List Node → ℕ → Bool
 isBarrier nodes x = eqb (nodeAt nodes x .kind) barrierNode
+
+-- Node x is a barrier of the region p: a barrier that names p, or the begin or the end of p.
+unfoldable pub barrierOf : List Node → ℕ → ℕ → Bool
+barrierOf nodes p x = leb barrierNode (nodeAt nodes x .kind) && eqb (nodeAt nodes x .number) p
+
+unfoldable pub tooManyIn : List Node → ℕ → Bool
+tooManyIn nodes p = ltb 64 (count (length nodes) (barrierOf nodes p))
 
 unfoldable pub badBarriers : Decoded → Bool
 badBarriers D =
     not (isBarrier (D .nodes) 0)
-    || (not (isBarrier (D .nodes) (length (D .nodes) - 1)) || ltb 64 (count (length (D .nodes)) (isBarrier (D .nodes))))
+    || (not (isBarrier (D .nodes) (length (D .nodes) - 1))
+    || (tooManyIn (D .nodes) outside || any (length (D .constructs)) (λ c. isParallel (D .constructs) c && tooManyIn (D .nodes) c)))
 
 -- Row 9, of an edge by itself: node number n or more; into Start; out of Finish; scopes (01: sides) unequal.
 unfoldable pub badEdge : List Node → List Construct → ℕ → ℕ → Bool

@@ -1,5 +1,5 @@
 -- A region: the control flow of one parallel region as one team runs it. Everything past the format is defined over it: paths, phases,
--- answers, team rules. How a chart is read as a region is in specs/Reading.antt.
+-- answers, team rules. How a chart is read for one of its regions is in specs/Reading.antt.
 -- Assumes nothing.
 use mathlib.Core.Bool.{Bool}
 use Prim.Native.Nat.{ℕ}
@@ -10,12 +10,12 @@ pub data Role : Type 0 where
   opens closes : ℕ → Role
 
 -- The kinds of constructs; `loop` is 01's do. A `section` stands in a `sections` (02, Note 1). A `master` is 01's, for thread 0, and the masked
--- that replaces it, for any one thread (02, Note 5).
+-- that replaces it, for any one thread (02, Note 5). A `parallel` opens a region of its own (02, Note 12).
 pub data Kind : Type 0 where
-  single master critical loop ordered sections section : Kind
+  single master critical loop ordered sections section parallel : Kind
   deriving Discrete as Kind-discrete
 
--- Kinds above which nothing may stand.
+-- Kinds above which nothing of their region may stand.
 abbrev pub Outermost : Kind → Type 0
 Outermost single = Unit {0}
 Outermost master = ⊥
@@ -24,12 +24,13 @@ Outermost loop = Unit {0}
 Outermost ordered = ⊥
 Outermost sections = Unit {0}
 Outermost section = ⊥
+Outermost parallel = ⊥
 
 pub record Region : Type 0 where
   -- node numbers and construct numbers that occur are below these
   pub nodes : ℕ
   pub constructs : ℕ
-  -- node x is one of the region
+  -- node x is one of the region, its start and its finish among them
   pub kept : ℕ → Bool
   pub role : ℕ → Role
   pub edge : ℕ → ℕ → Bool

@@ -1,4 +1,5 @@
--- What a chart's numbers mean: kinds of nodes and constructs, where a node lies, its two scopes, what encloses it.
+-- What a chart's numbers mean: kinds of nodes and constructs, where a node lies, its two scopes, what encloses it. What a node is for a
+-- region is in specs/Nested.antt.
 -- Assumes nothing.
 use mathlib.Core.Logic.{_≢_}
 use mathlib.Core.Bool.{Bool, false, _&&_, _||_, not, cond}
@@ -6,7 +7,7 @@ use mathlib.Core.List.{List}
 use Prim.Native.Nat.{ℕ, zero, suc}
 use lib.Dec.{eqb, ltb}
 use Rattle.chart.specs.Format.{outside, Node, Construct, nodeAt, constructAt}
-use Rattle.chart.specs.Region.{Role, plain, barrier, opens, closes, Kind, single, master, critical, loop, ordered, sections, section}
+use Rattle.chart.specs.Region.{Kind, single, master, critical, loop, ordered, sections, section, parallel}
 
 -- The kinds of nodes, as bytes; a plain node is 0.
 abbrev pub barrierNode : ℕ
@@ -18,11 +19,7 @@ beginNode = 2
 abbrev pub endNode : ℕ
 endNode = 3
 
--- What a node of this kind with this number is.
-unfoldable pub roleOf : ℕ → ℕ → Role
-roleOf kind number = cond (eqb kind barrierNode) barrier (cond (eqb kind beginNode) (opens number) (cond (eqb kind endNode) (closes number) plain))
-
--- The kinds of constructs, as bytes 1 to 7; a loop is 01's do.
+-- The kinds of constructs, as bytes 1 to 8; a loop is 01's do.
 abbrev pub singleByte : ℕ
 singleByte = 1
 
@@ -44,11 +41,14 @@ sectionsByte = 6
 abbrev pub sectionByte : ℕ
 sectionByte = 7
 
+abbrev pub parallelByte : ℕ
+parallelByte = 8
+
 unfoldable pub kindOf : ℕ → Kind
 kindOf byte =
     cond (eqb byte singleByte) single
     (cond (eqb byte masterByte) master (cond (eqb byte loopByte) loop (cond (eqb byte orderedByte) ordered
-    (cond (eqb byte sectionsByte) sections (cond (eqb byte sectionByte) section critical)))))
+    (cond (eqb byte sectionsByte) sections (cond (eqb byte sectionByte) section (cond (eqb byte parallelByte) parallel critical))))))
 
 -- The construct that a node lies in (01: lies in): a begin and an end lie in the parent of their construct, not in it. A plain node or
 -- a barrier lies in the construct that its number names. `parent` is the parent of the construct of that number.
@@ -72,9 +72,6 @@ pub data Encloses (parent : ℕ → ℕ) : ℕ → ℕ → Type 0 where
 -- The columns of a chart's tables.
 unfoldable pub parentOf : List Construct → ℕ → ℕ
 parentOf constructs c = constructAt constructs c .parent
-
-unfoldable pub roleAt : List Node → ℕ → Role
-roleAt nodes x = roleOf (nodeAt nodes x .kind) (nodeAt nodes x .number)
 
 -- Where node x lies, and its scope, with `own` as above.
 unfoldable pub liesAt : List Node → List Construct → ℕ → ℕ

@@ -2,10 +2,10 @@
 -- "c is below the count". Row 10's facts are in crate `paths`.
 -- Assumes nothing.
 use mathlib.Core.Path.{_≡_}
-use mathlib.Core.Logic.{_⊎_}
+use mathlib.Core.Logic.{_⊎_, _≢_}
 use mathlib.Core.Bool.{true, false}
 use Prim.Native.Nat.{ℕ, _<_}
-use Rattle.chart.specs.Region.{barrier, opens, closes, master, critical, loop, ordered, sections, section, Outermost, Region}
+use Rattle.chart.specs.Region.{barrier, opens, closes, master, critical, loop, ordered, sections, section, parallel, Outermost, Region}
 use Rattle.chart.specs.InSection.{SectionOf, InSection}
 
 pub record WellFormed (R : Region) : Type 0 where
@@ -18,6 +18,9 @@ pub record WellFormed (R : Region) : Type 0 where
   pub end-below : {x c : ℕ} → R .role x ≡ closes c → x < R .nodes
   pub opens-below : {x c : ℕ} → R .role x ≡ opens c → c < R .constructs
   pub inside-below : {x c : ℕ} → R .inside x c ≡ true → c < R .constructs
+  -- an edge leads from a node of the region to one
+  pub from-kept : {x y : ℕ} → R .edge x y ≡ true → R .kept x ≡ true
+  pub to-kept : {x y : ℕ} → R .edge x y ≡ true → R .kept y ≡ true
   -- each construct has one begin and one end
   pub opens-begin : {x c : ℕ} → R .role x ≡ opens c → x ≡ R .begin c
   pub closes-end : {x c : ℕ} → R .role x ≡ closes c → x ≡ R .end c
@@ -40,6 +43,8 @@ pub record WellFormed (R : Region) : Type 0 where
   pub ordered-inside : {x o : ℕ} → R .inside x o ≡ true → R .kind o ≡ ordered → R .inside x (R .parent o) ≡ true
   pub ordered-loop : {x o : ℕ} → R .inside x o ≡ true → R .kind o ≡ ordered → R .kind (R .parent o) ≡ loop
   pub one-thread : {x c k : ℕ} → R .inside x c ≡ true → R .inside x k ≡ true → R .kind c ≡ master → R .kind k ≡ master → R .thread c ≡ R .thread k
+  -- a parallel is no construct of the region around it: its begin and end are plain there
+  pub no-parallel : {x c : ℕ} → R .role x ≡ opens c → R .kind c ≢ parallel
   -- sections: a section's parent is a sections, and only criticals begin in a section; whatever is inside a sections is in a section of it, or is
   -- the begin or the end of one; and no edge leads from a section's end to a section's begin, so that it leads to the end of the sections
   pub section-begin : {x s : ℕ} → R .role x ≡ opens s → R .kind s ≡ section → R .inside x (R .parent s) ≡ true

@@ -6,7 +6,7 @@ ghost use lib.Dec.{eqb};
 ghost use lib.ListN.{getD, length};
 ghost use Rattle.chart.specs.Format.{field, constructBytes, decode, nodeAt, edgeAt, constructAt};
 ghost use Rattle.chart.specs.Refusal.{anyOf};
-ghost use Rattle.chart.specs.Checked.{Laid, countsOf};
+ghost use Rattle.chart.specs.Checked.{Laid, countsOf, readFor};
 use crate::format::Chart;
 use crate::format::Construct;
 use crate::format::Edge;
@@ -106,7 +106,7 @@ pub fn wide(byte: u8) -> usize
 }
 
 impl Chart {
-    // The edition and the counts that the trailer gives.
+    // The edition and the counts that the trailer gives; the chart is read for its outermost region.
     pub fn read(s: &[u8]) -> Chart
         requires { ⌜ 16 ≤ length (now s) ⌝ }
         ensures { λ r. ⌜ r ≡ countsOf (now (s .entry)) ⌝ }
@@ -118,6 +118,20 @@ impl Chart {
             nodes: cursor.field(s, 2),
             edges: cursor.field(s, 4),
             constructs: cursor.field(s, 6),
+            region: Chart::OUTERMOST,
+        }
+    }
+
+    // The same chart, read for another region.
+    pub fn read_for(self, region: usize) -> Chart
+        ensures { λ r. ⌜ r ≡ readFor self region ⌝ }
+    {
+        Chart {
+            edition: self.edition,
+            nodes: self.nodes,
+            edges: self.edges,
+            constructs: self.constructs,
+            region,
         }
     }
 }

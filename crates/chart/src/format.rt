@@ -1,11 +1,13 @@
 // The numbers of the format and the types that they describe.
 
-// A chart whose trailer has been read, by its edition and counts; its limits; and the marks of its trailer.
+// A chart whose trailer has been read, by its edition and counts, and the region that it is read for; its limits; and the marks of its
+// trailer.
 pub struct Chart {
     pub edition: usize,
     pub nodes: usize,
     pub edges: usize,
     pub constructs: usize,
+    pub region: usize,
 }
 
 impl Chart {
@@ -20,6 +22,8 @@ impl Chart {
     pub const CONSTRUCTS: usize = 48;
 
     pub const BARRIERS: usize = 64;
+    // In place of a parallel's number, the outermost region.
+    pub const OUTERMOST: usize = 255;
     // A place for each node where its edges begin, and one where the last one's end.
     pub const PLACES: usize = Chart::NODES + 1;
 
@@ -35,15 +39,17 @@ impl Chart {
         + Edge::BYTES * Chart::EDGES
         + Construct::BYTES_2 * Chart::CONSTRUCTS
         + Chart::TRAILER_BYTES;
-    // A row for each kind of construct, a column for each kind above it: single, master, critical, do, ordered, sections, section.
+    // A row for each kind of construct, a column for each kind above it: single, master, critical, do, ordered, sections, section, parallel. The
+    // column of parallel is not asked: nesting starts anew inside each region.
     pub const NESTING: [[bool; Construct::KINDS]; Construct::KINDS] = [
-        [false, false, false, false, false, false, false],
-        [false, false, true, false, false, false, false],
-        [true, true, true, true, true, true, true],
-        [false, false, false, false, false, false, false],
-        [false, false, false, true, false, false, false],
-        [false, false, false, false, false, false, false],
-        [false, false, false, false, false, true, false],
+        [false, false, false, false, false, false, false, false],
+        [false, false, true, false, false, false, false, false],
+        [true, true, true, true, true, true, true, true],
+        [false, false, false, false, false, false, false, false],
+        [false, false, false, true, false, false, false, false],
+        [false, false, false, false, false, false, false, false],
+        [false, false, false, false, false, true, false, false],
+        [true, true, true, true, true, true, true, true],
     ];
 }
 
@@ -101,8 +107,10 @@ impl Construct {
     pub const SECTIONS: u8 = 6;
 
     pub const SECTION: u8 = 7;
+
+    pub const PARALLEL: u8 = 8;
     // How many kinds there are.
-    pub const KINDS: usize = 7;
+    pub const KINDS: usize = 8;
     // The kind of what is no construct.
     pub const NO_KIND: u8 = 0;
     // The number that stands for no construct.
@@ -140,6 +148,8 @@ impl Refusal {
     pub const CLAIMS: Refusal = Refusal { number: 12 };
 
     pub const NUMBERS: Refusal = Refusal { number: 13 };
+
+    pub const REGION: Refusal = Refusal { number: 23 };
 }
 
 // What checking a chart answers.

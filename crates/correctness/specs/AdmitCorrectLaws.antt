@@ -13,14 +13,14 @@ use Rattle.lists.specs.Means.{both-of, some-of}
 use Rattle.lists.specs.Range.{any, countPairs}
 use Rattle.lists.specs.Recount.{pairs-same, pairs-select}
 use Rattle.lists.specs.Select.{select-length}
-use Rattle.chart.specs.Format.{decode}
+use Rattle.chart.specs.Format.{outside, decode}
 use Rattle.chart.specs.Region.{Region}
 use Rattle.chart.specs.Reading.{region}
 use Rattle.chart.specs.Refusal.{firstOf}
 use Rattle.chart.specs.WellFormed.{WellFormed}
 use Rattle.paths.specs.Decide.{noBarrier}
 use Rattle.paths.specs.Admission.{admitRows}
-use Rattle.paths.specs.AdmissionLaws.{admitted-well-formed}
+use Rattle.paths.specs.AdmissionLaws.{admitted-well-formed, outermost-rows}
 use Rattle.phases.specs.Phases.{forward, backward, isBoundary, barriers, marked, phase, phaseCount}
 use Rattle.phases.specs.PhasesLaws.{ends-below, barrier-of, boundary-means}
 use Rattle.admission.specs.Admission.{countsIn, answer, admitted, numberOf}
@@ -65,7 +65,7 @@ pub admit-correct : (s : List ℕ) → AdmitCorrect s (numberOf (admitted s))
 unfolding admitted answer countsIn numberOf
 admit-correct s = record {
   refuses = λ row h. rw h;
-  counts = λ h. let R = region (decode s) in let W = admitted-well-formed s h in rw h (record {
+  counts = λ h. let R = region (decode s) in let W = admitted-well-formed s outside (outermost-rows s ∙ h) in rw h (record {
     barriers = length (barriers R);
     phases = phaseCount R;
     is-barriers = count-barriers R W;

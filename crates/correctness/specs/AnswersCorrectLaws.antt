@@ -15,11 +15,11 @@ use Rattle.lists.specs.Truth.{truth, clash, and-false}
 use Rattle.lists.specs.Rows.{row-room}
 use Rattle.chart.specs.Format.{decode}
 use Rattle.chart.specs.Region.{Region}
-use Rattle.chart.specs.Reading.{region}
+use Rattle.chart.specs.Reading.{regionOf}
 use Rattle.chart.specs.Refusal.{firstOf}
 use Rattle.chart.specs.WellFormed.{WellFormed}
 use Rattle.chart.proofs.Rows.{both-pass}
-use Rattle.paths.specs.Admission.{admitRows}
+use Rattle.paths.specs.Admission.{regionRows}
 use Rattle.paths.specs.AdmissionLaws.{admitted-well-formed}
 use Rattle.answers.specs.Answer.{answer}
 use Rattle.answers.specs.Unexcluded.{Answers}
@@ -33,25 +33,25 @@ use Rattle.correctness.specs.OutputCorrectLaws.{output-correct, output-o
 use Rattle.correctness.specs.AnswersCorrect.{PairCorrect, SheetBytes, SheetCorrect}
 
 -- a pair that is not refused is one of an admitted chart
-pair-well-formed : (s : List ℕ) (a b : ℕ) → firstOf (pairRows s a b) ≡ none → WellFormed (region (decode s))
+pair-well-formed : (s : List ℕ) (p a b : ℕ) → firstOf (pairRows s p a b) ≡ none → WellFormed (regionOf p (decode s))
 unfolding pairRows
-pair-well-formed s a b h = admitted-well-formed s (both-pass (admitRows s) _ h .0)
+pair-well-formed s p a b h = admitted-well-formed s p (both-pass (regionRows s p) _ h .0)
 
 -- Demand 2 for Pair.
-pub pair-correct : (s : List ℕ) (a b : ℕ) → PairCorrect s a b (numberOf (pairAnswered s a b))
+pub pair-correct : (s : List ℕ) (p a b : ℕ) → PairCorrect s p a b (numberOf (pairAnswered s p a b))
 unfolding pairAnswered answered numberOf
-pair-correct s a b = record {
+pair-correct s p a b = record {
   refuses = λ row h. rw h;
-  answers = λ h. (answer (region (decode s)) a b, (rw h, answer-first (pair-well-formed s a b h) a b));
+  answers = λ h. (answer (regionOf p (decode s)) a b, (rw h, answer-first (pair-well-formed s p a b h) a b));
 }
 
 -- No other number is correct.
-pub pair-only : (s : List ℕ) (a b : ℕ) (number : ℤ) → PairCorrect s a b number → number ≡ numberOf (pairAnswered s a b)
+pub pair-only : (s : List ℕ) (p a b : ℕ) (number : ℤ) → PairCorrect s p a b number → number ≡ numberOf (pairAnswered s p a b)
 unfolding pairAnswered answered numberOf
-pair-only s a b number C = go (firstOf (pairRows s a b)) refl
+pair-only s p a b number C = go (firstOf (pairRows s p a b)) refl
   where
-    go : (o : Option ℕ) → firstOf (pairRows s a b) ≡ o → number ≡ numberOf (pairAnswered s a b)
-    go none h = let (k, (e, A)) = C .answers h in rw h (e ∙ ap pos (answers-only (pair-well-formed s a b h) a b A))
+    go : (o : Option ℕ) → firstOf (pairRows s p a b) ≡ o → number ≡ numberOf (pairAnswered s p a b)
+    go none h = let (k, (e, A)) = C .answers h in rw h (e ∙ ap pos (answers-only (pair-well-formed s p a b h) a b A))
     go (some row) h = rw h (C .refuses row h)
 
 module _ {R : Region} (W : WellFormed R) where
@@ -99,15 +99,15 @@ module _ {R : Region} {l m : List ℕ} (L : SheetBytes R l) (M : SheetBytes R m)
       go (no p) = let q : R .nodes ≡ 0 = omega arith in let z : j < 0 * 0 = rw q at h in absurd (omega arith)
 
 -- Demand 2 for Sheet.
-pub sheet-correct : (s old : List ℕ) → SheetCorrect s old (Output·numberOf (sheetWritten s old)) (sheetLeft s old)
-sheet-correct s old =
-    let R = region (decode s) in
-    output-correct (admitRows s) [] (sheet R) old (R .nodes * R .nodes) (sheet-length R) (SheetBytes R) (λ a new e. entry-bytes (admitted-well-formed s a) new e)
+pub sheet-correct : (s : List ℕ) (p : ℕ) (old : List ℕ) → SheetCorrect s p old (Output·numberOf (sheetWritten s p old)) (sheetLeft s p old)
+sheet-correct s p old =
+    let R = regionOf p (decode s) in
+    output-correct (regionRows s p) [] (sheet R) old (R .nodes * R .nodes) (sheet-length R) (SheetBytes R) (λ a new e. entry-bytes (admitted-well-formed s p a) new e)
 
 -- No other number and no other bytes are correct.
-pub sheet-only : (s old : List ℕ) (number : ℤ) (new : List ℕ) → SheetCorrect s old number new
-    → (number ≡ Output·numberOf (sheetWritten s old)) × (new ≡ sheetLeft s old)
-sheet-only s old number new =
-    let R = region (decode s) in
-    output-only (admitRows s) [] (sheet R) old (R .nodes * R .nodes) (sheet-length R) (SheetBytes R) number new
-    (λ a h. same-entries h (entry-bytes (admitted-well-formed s a) (sheet R) (λ j l. refl)))
+pub sheet-only : (s : List ℕ) (p : ℕ) (old : List ℕ) (number : ℤ) (new : List ℕ) → SheetCorrect s p old number new
+    → (number ≡ Output·numberOf (sheetWritten s p old)) × (new ≡ sheetLeft s p old)
+sheet-only s p old number new =
+    let R = regionOf p (decode s) in
+    output-only (regionRows s p) [] (sheet R) old (R .nodes * R .nodes) (sheet-length R) (SheetBytes R) number new
+    (λ a h. same-entries h (entry-bytes (admitted-well-formed s p a) (sheet R) (λ j l. refl)))

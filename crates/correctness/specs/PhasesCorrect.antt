@@ -1,5 +1,5 @@
 -- Demand 2 for Phases and Admit, for a buyer: what their numbers and bytes say in barriers and barrier-free paths (`BarrierFree` in crate
--- paths, `Boundary` in crate phases). It rests on how a chart's bytes are read as a region (crate chart) and on the table of refusals; it
+-- paths, `Boundary` in crate phases). It rests on how a chart's bytes are read for a region (crate chart) and on the table of refusals; it
 -- mentions no search and no mask.
 -- Assumes nothing.
 use mathlib.Core.Path.{_≡_}
@@ -13,10 +13,10 @@ use lib.ListN.{length, getD}
 use Rattle.lists.specs.Range.{countPairs}
 use Rattle.chart.specs.Format.{decode}
 use Rattle.chart.specs.Region.{barrier, Region}
-use Rattle.chart.specs.Reading.{region}
+use Rattle.chart.specs.Reading.{region, regionOf}
 use Rattle.chart.specs.Refusal.{firstOf}
 use Rattle.paths.specs.Path.{Open}
-use Rattle.paths.specs.Admission.{admitRows}
+use Rattle.paths.specs.Admission.{admitRows, regionRows}
 use Rattle.phases.specs.Phases.{Direction, forward, backward, Boundary}
 use Rattle.output.specs.Output.{outputRows}
 use Rattle.correctness.specs.OutputCorrect.{OutputCorrect}
@@ -45,11 +45,11 @@ BitSet bytes at b = getD bytes (at + b / 8) 0 / 2 ^ (b % 8) % 2 ≡ 1
 abbrev pub PhaseBits : Region → List ℕ → Type 0
 PhaseBits R new = (d : Direction) (x b : ℕ) → x < R .nodes → b < 64 → BitSet new (16 * x + place d) b ↔ ((s : ℕ) × (Numbered R b s × Boundary d R x s))
 
--- The number and the lent bytes afterwards are right for the bytes of a chart and the lent bytes before.
-abbrev pub PhasesCorrect : List ℕ → List ℕ → ℤ → List ℕ → Type 0
-PhasesCorrect s old =
-    let R = region (decode s) in
-    OutputCorrect (outputRows (admitRows s) (length old) (16 * R .nodes) []) (16 * R .nodes) (PhaseBits R) old
+-- The number and the lent bytes afterwards are right for the bytes of a chart, the number of a region and the lent bytes before.
+abbrev pub PhasesCorrect : List ℕ → ℕ → List ℕ → ℤ → List ℕ → Type 0
+PhasesCorrect s p old =
+    let R = regionOf p (decode s) in
+    OutputCorrect (outputRows (regionRows s p) (length old) (16 * R .nodes) []) (16 * R .nodes) (PhaseBits R) old
 
 -- A phase (01: phase): some node has the start s and the end e.
 abbrev pub PhaseOf : Region → ℕ → ℕ → Type 0
@@ -69,7 +69,7 @@ pub record CountsIn (R : Region) (number : ℤ) : Type 0 where
   pub is-phases : PairCount (PhaseOf R) (R .nodes) phases
   pub packed : number ≡ pos (R .nodes + 256 * barriers + 65536 * phases)
 
--- The number is right for the bytes of a chart.
+-- The number is right for the bytes of a chart: Admit's counts are the outermost region's (02, Note 12).
 pub record AdmitCorrect (s : List ℕ) (number : ℤ) : Type 0 where
   -- refused: the number of the first of rows 1 to 10 that applies, negated
   pub refuses : (row : ℕ) → firstOf (admitRows s) ≡ some row → number ≡ negℤ (pos row)

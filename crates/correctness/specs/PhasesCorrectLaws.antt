@@ -10,7 +10,7 @@ use native.Mathlib.Decide.{decLt}
 use lib.IntN.{ℤ}
 use lib.ListN.{length, getD, List·getD-eq-default}
 use borrow.Author.Tests.{lt-ltb, le-ltb, not-false}
-use Rattle.lists.specs.Truth.{truth}
+use Rattle.lists.specs.Truth.{clash, truth}
 use Rattle.lists.specs.Range.{count}
 use Rattle.lists.specs.Mask.{Has, mask-unique}
 use Rattle.lists.specs.Digits.{digit-bit}
@@ -18,13 +18,13 @@ use Rattle.lists.specs.Select.{select-at, select-number}
 use Rattle.lists.specs.Tab.{tab-at, tab-length}
 use Rattle.chart.specs.Format.{decode}
 use Rattle.chart.specs.Region.{Region}
-use Rattle.chart.specs.Reading.{region}
+use Rattle.chart.specs.Reading.{regionOf}
 use Rattle.chart.specs.WellFormed.{WellFormed}
 use Rattle.paths.specs.Decide.{noBarrier, no-barrier, barrier-no}
-use Rattle.paths.specs.Admission.{admitRows}
+use Rattle.paths.specs.Admission.{regionRows}
 use Rattle.paths.specs.AdmissionLaws.{admitted-well-formed}
 use Rattle.phases.specs.Phases.{Direction, forward, backward, Boundary, barriers, barrierAt, marks}
-use Rattle.phases.specs.PhasesLaws.{Marked, barrier-of, number-barrier, bit-means}
+use Rattle.phases.specs.PhasesLaws.{Marked, barrier-of, number-barrier, bit-means, boundary-kept}
 use Rattle.calls.specs.Bytes.{byteOf}
 use Rattle.output.specs.Output.{numberOf}
 use Rattle.calls.specs.Phases.{phaseByte, phasesResult, phasesWritten, phasesLeft}
@@ -136,6 +136,11 @@ module _ (R : Region) where
       let u = marked-numbered W d x b in
       ((λ h. u .0 (t .0 (sym r ∙ h))), λ h. r ∙ t .1 (u .1 h))
 
+  -- a node outside the region is written as a barrier (02, Note 12): none of its bits is set
+  pub outside-unset : WellFormed R → (new : List ℕ) → PhaseBits R new → (d : Direction) (x b : ℕ) → x < R .nodes → b < 64 → R .kept x ≡ false
+      → BitSet new (16 * x + place d) b → ⊥
+  outside-unset W new P d x b l m out h = let (s, (N, B)) = P d x b l m .0 h in clash (boundary-kept R W d B) out
+
   -- and the bits leave one list of bytes
   module _ (l m : List ℕ) (L : PhaseBits R l) (M : PhaseBits R m) (l-bytes : Bytes l) (m-bytes : Bytes m) where
     same-byte : (d : Direction) (x k : ℕ) → x < R .nodes → k < 8 → getD l (16 * x + place d + k) 0 ≡ getD m (16 * x + place d + k) 0
@@ -159,15 +164,15 @@ module _ (R : Region) where
         go (no h) = let q : 16 * (j / 16) + 8 + (j % 16 - 8) ≡ j = omega arith in rw q at (same-byte backward (j / 16) (j % 16 - 8) (omega arith) (omega arith))
 
 -- Demand 2 for Phases.
-pub phases-correct : (s old : List ℕ) → PhasesCorrect s old (numberOf (phasesWritten s old)) (phasesLeft s old)
-phases-correct s old =
-    let R = region (decode s) in
-    output-correct (admitRows s) [] (phasesResult R) old (16 * R .nodes) (result-length R) (PhaseBits R) (λ a new e. result-bits R (admitted-well-formed s a) new e)
+pub phases-correct : (s : List ℕ) (p : ℕ) (old : List ℕ) → PhasesCorrect s p old (numberOf (phasesWritten s p old)) (phasesLeft s p old)
+phases-correct s p old =
+    let R = regionOf p (decode s) in
+    output-correct (regionRows s p) [] (phasesResult R) old (16 * R .nodes) (result-length R) (PhaseBits R) (λ a new e. result-bits R (admitted-well-formed s p a) new e)
 
 -- No other number and no other bytes are correct.
-pub phases-only : (s old : List ℕ) (number : ℤ) (new : List ℕ) → Bytes new → PhasesCorrect s old number new
-    → (number ≡ numberOf (phasesWritten s old)) × (new ≡ phasesLeft s old)
-phases-only s old number new small =
-    let R = region (decode s) in
-    output-only (admitRows s) [] (phasesResult R) old (16 * R .nodes) (result-length R) (PhaseBits R) number new
-    (λ a h. same-bytes R new (phasesResult R) h (result-bits R (admitted-well-formed s a) (phasesResult R) (λ j l. refl)) small (result-bytes R))
+pub phases-only : (s : List ℕ) (p : ℕ) (old : List ℕ) (number : ℤ) (new : List ℕ) → Bytes new → PhasesCorrect s p old number new
+    → (number ≡ numberOf (phasesWritten s p old)) × (new ≡ phasesLeft s p old)
+phases-only s p old number new small =
+    let R = regionOf p (decode s) in
+    output-only (regionRows s p) [] (phasesResult R) old (16 * R .nodes) (result-length R) (PhaseBits R) number new
+    (λ a h. same-bytes R new (phasesResult R) h (result-bits R (admitted-well-formed s p a) (phasesResult R) (λ j l. refl)) small (result-bytes R))

@@ -1,6 +1,6 @@
 -- Filling a table of scopes; two such tables, shut at start and finish, tell row 9 of one edge; and edges are ordered by one number.
 -- Assumes nothing.
-use mathlib.Core.Bool.{true, _||_, _&&_, not}
+use mathlib.Core.Bool.{true, false, _||_, _&&_, not}
 use mathlib.Core.Logic.{_⊎_, inl, inr, _≢_}
 use mathlib.Core.Path.{_≡_, refl, ap, subst, _∙_}
 use mathlib.Core.List.{List}
@@ -13,10 +13,15 @@ use lib.Seq.{getD-set-same, getD-set-other}
 use borrow.Author.Count.{below-none, below-more}
 use borrow.Author.Tests.{le-leb, lt-leb, lt-ltb, ltb-true, eq-eqb, ne-eqb, eqb-true}
 use Rattle.lists.specs.Truth.{same-truth, and-both, both-and, or-cases, or-left, or-right}
-use Rattle.chart.specs.Format.{Decoded}
+use Rattle.chart.specs.Format.{Decoded, nodeAt}
 use Rattle.chart.specs.Scope.{beginNode, endNode, scopeAt}
-use Rattle.chart.specs.Refusal.{badEdge, rises}
+use Rattle.chart.specs.Refusal.{badNodes, badEdge, rises}
+use Rattle.chart.proofs.Facts.{nodes-fit, frame-construct}
 use Rattle.edges.specs.Tables.{noLeaving, noArriving, ScopeTable, EdgeScopes}
+
+-- what row 5 leaves of a begin or an end: its number is that of a construct
+pub frame-below : (D : Decoded) (x : ℕ) → badNodes D ≡ false → x < length (D .nodes) → beginNode ≤ nodeAt (D .nodes) x .kind → nodeAt (D .nodes) x .number < length (D .constructs)
+frame-below D x h l k = frame-construct (nodes-fit D h .alone x l) k
 
 -- the table when the first n nodes are in it
 pub record ScopesTo (own none : ℕ) (D : Decoded) (n : ℕ) (table : List ℕ) : Type 0 where

@@ -1,6 +1,6 @@
 -- The entrance: what the two searches say about row 10, and an answer read backwards.
 -- Assumes nothing.
-use mathlib.Core.Path.{_≡_, refl, ap, _∙_}
+use mathlib.Core.Path.{_≡_, refl, ap, sym, _∙_}
 use mathlib.Core.Bool.{true, false}
 use mathlib.Core.List.{List}
 use mathlib.Core.Option.{Option, none, some}
@@ -8,24 +8,24 @@ use Prim.Native.Nat.{ℕ, _-_, _≤_, _<_}
 use native.Mathlib.Omega.{arith}
 use lib.ListN.{length, getD}
 use Rattle.lists.specs.Truth.{bad, or-left, or-right, neither-or}
-use Rattle.chart.specs.Format.{decode}
+use Rattle.chart.specs.Format.{outside, decode}
 use Rattle.chart.specs.Region.{Region}
-use Rattle.chart.specs.Reading.{region}
+use Rattle.chart.specs.Reading.{region, regionOf}
 use Rattle.chart.specs.Refusal.{firstOf}
-use Rattle.chart.specs.Checked.{countsOf, checked}
-use Rattle.chart.specs.WellFormed.{WellFormed}
+use Rattle.chart.specs.Checked.{countsOf, checked, reading}
 use Rattle.chart.specs.declared.format.Chart.{Chart}
 use Rattle.chart.specs.declared.format.Refusal.{Refusal}
 use Rattle.chart.specs.declared.format.Checked.the-variants.{Passed}
+use Rattle.chart.proofs.RegionFacts.{start-outer, finish-outer}
 use Rattle.refusals.proofs.Outcome.{passed-none}
-use Rattle.paths.specs.Admission.{admitRows}
+use Rattle.paths.specs.Admission.{badPaths, admitRows}
 use Rattle.phases.specs.Phases.{forward, backward, barriers, barrierAt}
 use Rattle.loading.specs.Tables.{Accepted, Barriers}
 use Rattle.loading.proofs.Accepted.{accepted, well-formed}
 use Rattle.loading.proofs.Loading.{barriers-most, barriers-below}
 use Rattle.loading.proofs.Rows.{refused-paths, admits}
 use Rattle.entrance.specs.Entered.{entered}
-use Rattle.joining.specs.Joined.{lost}
+use Rattle.joining.specs.Joined.{lost, lostIn}
 use Rattle.entrance.specs.declared.Entered.the-variants.{Marked, Refused}
 use Rattle.joining.proofs.Joining.{some-barrier, both-ways}
 
@@ -42,6 +42,11 @@ unfolding entered
 entered-marked none counts barriers h = refl
 entered-marked (some number) counts barriers h = absurd (bad (cc))
 
+pub entered-counts : (o : Option ℕ) (counts : Chart) (barriers : ℕ) {chart : Chart} {total : ℕ} → entered o counts barriers ≡ Marked chart total → counts ≡ chart
+unfolding entered
+entered-counts none counts barriers h = cc
+entered-counts (some number) counts barriers h = absurd (bad (cc))
+
 -- marked as two answers that are one
 pub marked-same : {a b : Chart} {m n : ℕ} → Marked a m ≡ Marked b n → (P : Chart → ℕ → Type 0) → P a m → P b n
 marked-same {a} {b} {m} {n} e P p =
@@ -51,43 +56,59 @@ marked-same {a} {b} {m} {n} e P p =
 
 -- the barriers of an accepted chart
 
-module _ {s : List ℕ} {chart : Chart} (A : Accepted s chart) {nodes : List ℕ} {total : ℕ} (B : Barriers (region (decode s)) nodes total) where
+module _ {s : List ℕ} {chart : Chart} (A : Accepted s chart) {nodes : List ℕ} {total : ℕ} (B : Barriers (reading s chart) nodes total) where
   pub few : total ≤ 64
   few = omega (arith, barriers-most s chart A, B .count)
 
   pub not-none : 0 < total
-  not-none = omega (arith, some-barrier (region (decode s)) (well-formed s chart A), B .count)
+  not-none = omega (arith, some-barrier (reading s chart) (well-formed s chart A), B .count)
 
   pub nodes-below : (b : ℕ) → getD nodes b 0 < 192
   nodes-below b = omega (arith, B .at b, barriers-below s chart A b)
 
--- row 10
+-- row 10, of a chart that is read for its outermost region
 
 module _ (s : List ℕ) (chart : Chart) (h : checked s ≡ Passed chart) where
   abbrev R : Region
-  R = region (decode s)
+  R = reading s chart
 
-  W : WellFormed R
-  W = well-formed s chart (accepted s chart h)
+  same : countsOf s ≡ chart
+  unfolding checked
+  same = passed-none _ (countsOf s) chart h .1
 
-  pub unreached : lost forward R (barrierAt R 0) ≡ true → firstOf (admitRows s) ≡ some 10
-  unreached f = refused-paths s chart h (both-ways R W refl refl ∙ or-left _ _ f)
+  read-whole : chart .region ≡ outside
+  unfolding countsOf
+  read-whole = sym (ap (λ (k : Chart). k .region) same)
 
-  module _ (total : ℕ) (q : total ≡ length (barriers R)) where
-    pub stuck : lost backward R (barrierAt R (total - 1)) ≡ true → firstOf (admitRows s) ≡ some 10
-    stuck b = refused-paths s chart h (both-ways R W refl refl ∙ or-right (lost forward R (barrierAt R 0)) _ (rw q at b))
+  outermost : R ≡ region (decode s)
+  outermost = ap (λ (p : ℕ). regionOf p (decode s)) read-whole
 
-    pub connects : lost forward R (barrierAt R 0) ≡ false → lost backward R (barrierAt R (total - 1)) ≡ false → firstOf (admitRows s) ≡ none
-    connects f b = admits s chart h (both-ways R W refl refl ∙ neither-or _ _ f (rw q at b))
+  bad-paths : badPaths (region (decode s)) ≡ lostIn R
+  bad-paths =
+      sym (ap badPaths outermost)
+      ∙ both-ways R (well-formed s chart (accepted s chart h)) (start-outer (decode s) (chart .region) read-whole) (finish-outer (decode s) (chart .region) read-whole)
+
+  pub unreached : lost forward (reading s chart) (barrierAt (reading s chart) 0) ≡ true → firstOf (admitRows s) ≡ some 10
+  unreached f = refused-paths s chart h (bad-paths ∙ or-left _ _ f)
+
+  module _ (total : ℕ) (q : total ≡ length (barriers (reading s chart))) where
+    pub stuck : lost backward (reading s chart) (barrierAt (reading s chart) (total - 1)) ≡ true → firstOf (admitRows s) ≡ some 10
+    stuck b = refused-paths s chart h (bad-paths ∙ or-right (lost forward R (barrierAt R 0)) _ (rw q at b))
+
+    pub connects : lost forward (reading s chart) (barrierAt (reading s chart) 0) ≡ false
+        → lost backward (reading s chart) (barrierAt (reading s chart) (total - 1)) ≡ false → firstOf (admitRows s) ≡ none
+    connects f b = admits s chart h (bad-paths ∙ neither-or _ _ f (rw q at b))
 
   -- the answer of the entrance
 
   pub refuses : (number : ℕ) → firstOf (admitRows s) ≡ some number
-      → Refused (record { number = number }) ≡ entered (firstOf (admitRows s)) (countsOf s) (length (barriers R))
+      → Refused (record { number = number }) ≡ entered (firstOf (admitRows s)) (countsOf s) (length (barriers (region (decode s))))
   unfolding entered
   refuses number e = rw e
 
-  pub marks : (total : ℕ) → total ≡ length (barriers R) → firstOf (admitRows s) ≡ none
-      → Marked chart total ≡ entered (firstOf (admitRows s)) (countsOf s) (length (barriers R))
-  unfolding entered checked
-  marks total q e = rw (e, ← q, passed-none _ (countsOf s) chart h .1)
+  pub marks : (total : ℕ) → total ≡ length (barriers (reading s chart)) → firstOf (admitRows s) ≡ none
+      → Marked chart total ≡ entered (firstOf (admitRows s)) (countsOf s) (length (barriers (region (decode s))))
+  unfolding entered
+  marks total q e =
+      let n : total ≡ length (barriers (region (decode s))) = q ∙ ap (λ (r : Region). length (barriers r)) outermost in
+      rw (e, ← n, same)

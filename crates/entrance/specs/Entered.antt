@@ -1,4 +1,4 @@
--- What the entrance of all calls answers: the first of rows 1 to 10 that applies, or the counts of a chart, whose nodes are marked then.
+-- What the entrance of all calls answers: the first of rows 1 to 10 and 23 that applies, or the counts of a chart, whose nodes are marked then.
 -- Assumes nothing.
 use mathlib.Core.Path.{_≡_}
 use mathlib.Core.List.{List}

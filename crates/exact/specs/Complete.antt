@@ -6,7 +6,7 @@ use mathlib.Core.Bool.{true}
 use Prim.Native.Nat.{ℕ, _<_}
 use native.Mathlib.Decide.{ℕ-discrete}
 use Rattle.lists.specs.Truth.{bad}
-use Rattle.chart.specs.Region.{barrier, Kind, single, master, critical, loop, ordered, sections, section, Outermost, Region}
+use Rattle.chart.specs.Region.{barrier, Kind, single, master, critical, loop, ordered, sections, section, parallel, Outermost, Region}
 use Rattle.chart.specs.InOrdered.{InOrdered}
 use Rattle.chart.specs.InSection.{SectionOf, InSection}
 use Rattle.chart.specs.WellFormed.{WellFormed}
@@ -126,6 +126,7 @@ module _ {R : Region} (W : WellFormed R) (C : Connected R) {m : ℕ} where
     one-exclusive loop k h i j = absurd h
     one-exclusive ordered k h i j = absurd h
     one-exclusive section k h i j = absurd h
+    one-exclusive parallel k h i j = absurd h
     one-exclusive {c} sections k h i j = let (x, (S, q)) = W .sections-section i k in go x S q (in-or-not R b x)
       where
         go : (x : ℕ) → SectionOf R c x → InSection R a x → InSection R b x ⊎ (InSection R b x → ⊥) → Rendezvous X σ (end D)

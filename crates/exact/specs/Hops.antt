@@ -5,7 +5,7 @@ use mathlib.Core.Logic.{_⊎_, inl, inr, _≢_}
 use mathlib.Core.Bool.{true, false}
 use Prim.Native.Nat.{ℕ}
 use Rattle.lists.specs.Truth.{bad, clash}
-use Rattle.chart.specs.Region.{barrier, opens, closes, Kind, single, master, critical, loop, ordered, sections, section, Outermost, Region}
+use Rattle.chart.specs.Region.{barrier, opens, closes, Kind, single, master, critical, loop, ordered, sections, section, parallel, Outermost, Region}
 use Rattle.chart.specs.InSection.{SectionOf, InSection}
 use Rattle.chart.specs.WellFormed.{WellFormed}
 use Rattle.paths.specs.Path.{last, next, Open, BarrierFree}
@@ -27,6 +27,7 @@ Reenters loop = Unit {0}
 Reenters ordered = ⊥
 Reenters sections = Unit {0}
 Reenters section = ⊥
+Reenters parallel = ⊥
 
 pub data Hop (R : Region) (x v : ℕ) : Type 0 where
   by-edge : Open R x → R .edge x v ≡ true → Hop R x v

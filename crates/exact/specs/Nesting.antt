@@ -6,7 +6,7 @@ use mathlib.Core.Bool.{Bool, true, _&&_}
 use Prim.Native.Nat.{ℕ, _<_}
 use Rattle.lists.specs.Truth.{clash, truth, is, is-true, true-is, and-both, both-and}
 use Rattle.lists.specs.Range.{any, any-at, at-any}
-use Rattle.chart.specs.Region.{Kind, Kind-discrete, single, master, critical, loop, ordered, sections, section, Outermost, Region}
+use Rattle.chart.specs.Region.{Kind, Kind-discrete, single, master, critical, loop, ordered, sections, section, parallel, Outermost, Region}
 use Rattle.chart.specs.InOrdered.{InOrdered}
 use Rattle.chart.specs.WellFormed.{WellFormed}
 
@@ -35,6 +35,7 @@ Exclusive loop = ⊥
 Exclusive ordered = ⊥
 Exclusive sections = Unit {0}
 Exclusive section = ⊥
+Exclusive parallel = ⊥
 
 pub exclusive-outermost : (k : Kind) → Exclusive k → Outermost k
 exclusive-outermost single h = tt
@@ -44,6 +45,7 @@ exclusive-outermost loop h = absurd h
 exclusive-outermost ordered h = h
 exclusive-outermost sections h = tt
 exclusive-outermost section h = h
+exclusive-outermost parallel h = h
 
 -- x is inside a construct of such a kind; inside none
 abbrev pub WithinExclusive : Region → ℕ → Type 0
@@ -91,6 +93,7 @@ module _ {R : Region} (W : WellFormed R) where
       neither ordered h n l = h
       neither sections h n l = l refl
       neither section h n l = h
+      neither parallel h n l = h
 
   -- no node is inside a single or a sections and inside a do
   pub exclusive-or-do : {x c d : ℕ} → Exclusive (R .kind c) → R .inside x c ≡ true → R .kind d ≡ loop → R .inside x d ≡ true → ⊥

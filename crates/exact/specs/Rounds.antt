@@ -7,7 +7,7 @@ use Prim.Native.Nat.{ℕ, zero, suc, _+_, _≤_, _<_}
 use native.Mathlib.Omega.{arith}
 use native.Mathlib.Decide.{ℕ-discrete}
 use Rattle.lists.specs.Truth.{bad, clash}
-use Rattle.chart.specs.Region.{opens, Kind, single, master, critical, loop, ordered, sections, section, Outermost, Region}
+use Rattle.chart.specs.Region.{opens, Kind, single, master, critical, loop, ordered, sections, section, parallel, Outermost, Region}
 use Rattle.chart.specs.WellFormed.{WellFormed}
 use Rattle.paths.specs.Path.{Open}
 use Rattle.paths.specs.Connected.{Connected}
@@ -53,6 +53,7 @@ module _ {R : Region} (W : WellFormed R) (C : Connected R) {m t : ℕ} (t-in : t
     once-through ordered q h n = absurd h
     once-through sections q h n = to-end W C t-in q σ w (λ z. bad (cc))
     once-through section q h n = absurd h
+    once-through parallel q h n = absurd h
 
   once-round : (σ : State) → σ .node t ≡ R .begin c → NotFirst m σ t c
       → (τ : State) × Solo R (Open R) m t σ τ × (τ .node t ≡ R .begin c) × (σ .encounters t c < τ .encounters t c)

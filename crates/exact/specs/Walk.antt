@@ -8,7 +8,7 @@ use native.Mathlib.Omega.{arith}
 use native.Mathlib.Decide.{ℕ-discrete, decLt}
 use Rattle.lists.specs.Truth.{bad, clash, truth, false-if, is, is-true, true-is}
 use Rattle.lists.specs.Range.{any, any-at, at-any}
-use Rattle.chart.specs.Region.{Role, plain, barrier, opens, closes, Kind, Kind-discrete, single, master, critical, loop, ordered, sections, section, Region}
+use Rattle.chart.specs.Region.{Role, plain, barrier, opens, closes, Kind, Kind-discrete, single, master, critical, loop, ordered, sections, section, parallel, Region}
 use Rattle.chart.specs.InOrdered.{InOrdered}
 use Rattle.chart.specs.InSection.{SectionOf, InSection}
 use Rattle.chart.specs.WellFormed.{WellFormed}
@@ -212,6 +212,7 @@ module _ {R : Region} (W : WellFormed R) (C : Connected R) {m t : ℕ} (t-in : t
       at-begin ordered q = go-in q (r .clear (R .parent c) (W .ordered-begin w q)) (λ j. absurd (bad (cc)))
       at-begin sections q = at-sections q
       at-begin section q = go-in q tt (λ j. absurd (bad (cc)))
+      at-begin parallel q = absurd (W .no-parallel w q)
 
   -- at the end of a sections t first takes what is left of it
   at-end : {σ : State} {z c : ℕ} → P (σ .node t) → R .edge (σ .node t) z ≡ true → Ready R m t σ y → R .role (σ .node t) ≡ closes c

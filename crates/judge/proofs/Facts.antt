@@ -12,9 +12,9 @@ use lib.ListN.{length, getD, set, replicate, length-set, length-replicate, getD-
 use lib.Seq.{getD-set-same, getD-set-other}
 use Rattle.lists.specs.Truth.{bad, truth}
 use Rattle.lists.specs.Range.{any, first, first-passes}
-use Rattle.chart.specs.Format.{Decoded, decode}
+use Rattle.chart.specs.Format.{decode}
 use Rattle.chart.specs.Region.{Region}
-use Rattle.chart.specs.Reading.{region}
+use Rattle.chart.specs.Reading.{regionOf}
 use Rattle.chart.specs.Refusal.{firstOf}
 use Rattle.chart.specs.WellFormed.{WellFormed}
 use Rattle.answers.specs.Numbers.{badNumber}
@@ -47,8 +47,8 @@ marked-more R k bad b h e m = record {
   past = λ x p l. getD-set-other bad k x b false (λ q. omega arith) ∙ m .past x (omega arith) l;
 }
 
-pub marked-all : (D : Decoded) (bad : List Bool) → Marked (region D) (length (D .nodes)) bad → (x : ℕ) → x < 256 → getD bad x false ≡ badNumber (region D) x
-marked-all D bad m x l = elim (decLt x (length (D .nodes))) [ yes b ↦ m .below x b | no b ↦ m .past x (omega arith) l ∙ sym (past-bad D x (omega arith)) ]
+pub marked-all : (R : Region) (bad : List Bool) → WellFormed R → Marked R (R .nodes) bad → (x : ℕ) → x < 256 → getD bad x false ≡ badNumber R x
+marked-all R bad W m x l = elim (decLt x (R .nodes)) [ yes b ↦ m .below x b | no b ↦ m .past x (omega arith) l ∙ sym (past-bad R x W (omega arith)) ]
 
 -- numbers that are not refused fit the tables; past the list's end stands 0
 pub numbers-fit : (R : Region) (claims : List ℕ) → WellFormed R → R .nodes ≤ 192 → badNumbers R claims ≡ false → (j : ℕ) → getD claims j 0 < 192
@@ -59,12 +59,12 @@ numbers-fit R claims W few h j = go (decLt j (length claims))
     go (no l) = let past : length claims ≤ j = omega arith in omega (arith, List·getD-eq-default claims 0 past)
 
 -- a list fails at one of its claims
-pub failed-below : (s claims : List ℕ) (index : ℕ) → judged s claims ≡ Failed index → index < total claims
+pub failed-below : (s : List ℕ) (p : ℕ) (claims : List ℕ) (index : ℕ) → judged s p claims ≡ Failed index → index < total claims
 unfolding judged verdict answered
-failed-below s claims index h = go (firstOf (judgeRows s claims)) h
+failed-below s p claims index h = go (firstOf (judgeRows s p claims)) h
   where
     f : ℕ → Bool
-    f = isFalse (region (decode s)) claims
+    f = isFalse (regionOf p (decode s)) claims
 
     here : (any (total claims) f ≡ true) ⊎ (any (total claims) f ≡ false) → cond (any (total claims) f) (Failed (first (total claims) f)) Passed ≡ Failed index → index < total claims
     here (inl g) e =
@@ -73,6 +73,6 @@ failed-below s claims index h = go (firstOf (judgeRows s claims)) h
         omega (arith, first-passes (total claims) f g .0)
     here (inr g) e = let passed : Passed ≡ Failed index = rw g at e in absurd (bad (cc))
 
-    go : (o : Option ℕ) → answered o (verdict (region (decode s)) claims) ≡ Failed index → index < total claims
+    go : (o : Option ℕ) → answered o (verdict (regionOf p (decode s)) claims) ≡ Failed index → index < total claims
     go none e = here (truth (any (total claims) f)) e
     go (some number) e = absurd (bad (cc))

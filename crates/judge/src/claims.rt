@@ -1,11 +1,13 @@
 // One list of claims against a chart whose nodes are marked: rows 12 and 13, and the first false claim.
 ghost use mathlib.Core.Path.{_≡_};
 ghost use mathlib.Core.Bool.{false};
-ghost use Prim.Native.Nat.{ℕ, _+_, _*_, _<_};
+ghost use Prim.Native.Nat.{ℕ, _+_, _*_, _≤_, _<_};
 ghost use lib.ListN.{getD, length};
 ghost use Rattle.chart.specs.Region.{Region};
 ghost use Rattle.chart.specs.Refusal.{firstOf};
-ghost use Rattle.chart.specs.Checked.{Laid, reading};
+ghost use Rattle.chart.specs.WellFormed.{WellFormed};
+ghost use Rattle.chart.specs.Checked.{reading};
+ghost use Rattle.loading.specs.Tables.{Accepted, Closed};
 ghost use Rattle.profiles.specs.Marks.{Marks};
 ghost use Rattle.answers.specs.Numbers.{badNumber};
 ghost use Rattle.verdicts.specs.Claims.{badNumbers, isFalse};
@@ -14,6 +16,7 @@ use bits::either;
 use chart::cursor::wide;
 use chart::format::Chart;
 use chart::format::Refusal;
+use loading::closed::load_closed;
 use pairs::numbers::bad_number;
 use pairs::rules::Answer;
 use pairs::rules::pair;
@@ -22,26 +25,27 @@ use profiles::marks::MaskTable;
 use verdicts::Verdict;
 
 // Row 13, of each number that a byte can be.
-fn mark_bad(s: &[u8], chart: Chart, bad: &mut [bool; 256])
-    requires { ⌜ Laid (now s) chart ⌝ }
-    ensures { λ _. ⌜ ((x : ℕ) → x < 256 → getD (now (bad .exit)) x false ≡ badNumber (reading (now (s .entry)) chart) x) ⌝ }
+fn mark_bad(n: usize, closed: &[u8; Chart::NODES], bad: &mut [bool; 256])
+    requires { ⌜ n ≤ 192 ⌝ }
+    ensures { λ _. ⌜ ((R : Region) → WellFormed R → R .nodes ≡ n → Closed R (now (closed .entry)) → (x : ℕ) → x < 256 → getD (now (bad .exit)) x false ≡ badNumber R x) ⌝ }
 {
     *bad = [true; 256];
-    let n = chart.nodes;
     let mut x = 0;
     while x < n {
-        bad[x] = bad_number(s, chart, x);
+        bad[x] = bad_number(x, n, closed);
         x += 1;
     }
 }
 
 // Row 13. No turn leaves the loop, so that several are taken at once.
 fn bad_numbers(s: &[u8], chart: Chart, claims: &[u8]) -> bool
-    requires { ⌜ Laid (now s) chart ⌝ }
+    requires { ⌜ Accepted (now s) chart × WellFormed (reading (now s) chart) ⌝ }
     ensures { λ r. ⌜ r ≡ badNumbers (reading (now (s .entry)) chart) (now (claims .entry)) ⌝ }
 {
+    let mut closed = [0u8; Chart::NODES];
+    load_closed(s, chart, &mut closed);
     let mut bad = [false; 256];
-    mark_bad(s, chart, &mut bad);
+    mark_bad(chart.nodes, &closed, &mut bad);
     let n = claims.len();
     let mut found = false;
     let mut j = 0;
@@ -80,7 +84,7 @@ fn first_false(claims: &[u8], marks: &MaskTable, sets: Sets) -> Verdict
 
 // Rows 12 and 13 over the whole list, then the verdict.
 pub fn judge_claims(s: &[u8], chart: Chart, claims: &[u8], marks: &MaskTable, sets: Sets) -> Verdict
-    requires { ⌜ Laid (now s) chart × Marks (reading (now s) chart) (now marks) sets ⌝ }
+    requires { ⌜ Accepted (now s) chart × Marks (reading (now s) chart) (now marks) sets ⌝ }
     ensures { λ r.
         let R = reading (now (s .entry)) chart in
         ⌜ r ≡ answered (firstOf (claimRows R (now (claims .entry)))) (verdict R (now (claims .entry))) ⌝ }

@@ -1,4 +1,4 @@
-// Judge: a list of claims, each that two nodes of a chart are never concurrent, passes or fails at its first false claim. What its number
+// Judge: a list of claims, each that two nodes of a region of a chart are never concurrent, passes or fails at its first false claim. What its number
 // says about finished runs is in crate verdicts, specs/Correct.antt.
 ghost use mathlib.Core.Path.{_≡_};
 ghost use Rattle.verdicts.specs.Judged.{judged};
@@ -11,12 +11,12 @@ use verdicts::Verdict;
 
 pub mod claims;
 
-// The first of rows 1 to 10, 12 and 13 that applies, or the verdict.
-pub fn judge(s: &[u8], claims: &[u8]) -> Verdict
-    ensures { λ r. ⌜ r ≡ judged (now (s .entry)) (now (claims .entry)) ⌝ }
+// The first of rows 1 to 10, 23, 12 and 13 that applies, or the verdict.
+pub fn judge(s: &[u8], region: usize, claims: &[u8]) -> Verdict
+    ensures { λ r. ⌜ r ≡ judged (now (s .entry)) region (now (claims .entry)) ⌝ }
 {
     let mut marks = [[0u64; Chart::NODES]; ROWS];
-    match survey(s, &mut marks) {
+    match survey(s, region, &mut marks) {
         Surveyed::Refused(refusal) => Verdict::Refused(refusal),
         Surveyed::Marked(chart, sets) => judge_claims(s, chart, claims, &marks, sets),
     }

@@ -8,11 +8,12 @@ use chart::format::Chart;
 use chart::format::Construct;
 use chart::format::Node;
 
-// What is written again and again: a plain node, a barrier, the begin and the end of construct k, a critical, a masked of edition 2 for thread
-// k, the edge from k to k + 1, edge k of all those from the first 32 nodes to nodes 1 to 32, or edge k of the longest chart.
+// What is written again and again: a plain node, a barrier, one of the region of parallel 0, the begin and the end of construct k, a critical, a
+// masked of edition 2 for thread k, the edge from k to k + 1, edge k of all those from the first 32 nodes to nodes 1 to 32, or edge k of the longest chart.
 enum Pattern {
     Plain,
     Barrier,
+    Inner,
     Frame,
     Critical,
     Masked,
@@ -56,6 +57,7 @@ fn put_pattern(out: &mut [u8], at: usize, pattern: Pattern, k: u16) -> usize {
     match pattern {
         Pattern::Plain => put_record(out, at, Node::PLAIN, Construct::NONE),
         Pattern::Barrier => put_record(out, at, Node::BARRIER, Construct::NONE),
+        Pattern::Inner => put_record(out, at, Node::BARRIER, 0),
         Pattern::Frame => put_frame(out, at, (k % 256) as u8),
         Pattern::Critical => put_record(out, at, Construct::CRITICAL, Construct::NONE),
         Pattern::Masked => put_masked(out, at, k),
@@ -104,6 +106,24 @@ fn generate(name: &[u8], nodes: Pattern, n: u16, edges: Pattern, e: u16, c: u16)
     finish(name, &mut buffer, ends);
 }
 
+// A line for a chart with so many barriers between the begin and the end of parallel 0, and so many edges in a row.
+fn generate_region(name: &[u8], barriers: u16, e: u16) {
+    let mut buffer = io::buffer();
+    let start_end = repeat(&mut buffer, 0, Pattern::Barrier, 1);
+    let begin_end = put_record(&mut buffer, start_end, Node::BEGIN, 0);
+    let barriers_end = repeat(&mut buffer, begin_end, Pattern::Inner, barriers);
+    let end_end = put_record(&mut buffer, barriers_end, Node::END, 0);
+    let nodes_end = repeat(&mut buffer, end_end, Pattern::Barrier, 1);
+    let edges_end = repeat(&mut buffer, nodes_end, Pattern::Step, e);
+    let ends = Ends {
+        edition: Chart::EDITION_1,
+        nodes: nodes_end,
+        edges: edges_end,
+        constructs: put_record(&mut buffer, edges_end, Construct::PARALLEL, Construct::NONE),
+    };
+    finish(name, &mut buffer, ends);
+}
+
 // A line for a chart of edition 2 at all limits: 94 plain nodes and 48 masked constructs, each with its begin and its end.
 fn generate_longest(name: &[u8]) {
     let mut buffer = io::buffer();
@@ -131,5 +151,7 @@ pub fn limits() {
     generate(b"constructs-49", Pattern::Frame, 49, Pattern::Step, 99, 49);
     generate(b"barriers-64", Pattern::Barrier, 62, Pattern::Step, 63, 0);
     generate(b"barriers-65", Pattern::Barrier, 63, Pattern::Step, 64, 0);
+    generate_region(b"region-barriers-64", 62, 65);
+    generate_region(b"region-barriers-65", 63, 66);
     generate_longest(b"bytes-3120");
 }

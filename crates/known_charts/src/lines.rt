@@ -1,6 +1,7 @@
 // Spelt charts, one on each line: name, nodes, edges and constructs, with a / between them. After one more / comes the trailer in
-// hexadecimal; where it is left out it follows from the parts. A | before the constructs, in place of a /, is for edition 2. A line with a ?
-// in front has pairs of nodes of the chart above it, and one with a # in front is a comment.
+// hexadecimal; where it is left out it follows from the parts. A | before the constructs, in place of a /, is for edition 2. A line with a ? in front has pairs
+// of nodes of the chart above it, of the outermost region or, after an @, of the region that the next letter names; one with a # in front is a
+// comment.
 use crate::report::report_before;
 use crate::report::report_pair_before;
 use crate::spelling::put;
@@ -8,9 +9,10 @@ use crate::spelling::value;
 use crate::trailer::Ends;
 use crate::trailer::put_trailer;
 use chart::format::Chart;
+use chart::format::Construct;
 
 // How far a line has been read: the part, the place for its next byte, where the nodes and the edges end, and the first half of a byte of
-// the trailer or of a pair; its edition; and how long the chart above it is.
+// the trailer or of a pair; its edition; how long the chart above it is; and the region that its pairs are asked in.
 struct Line {
     part: u8,
     at: usize,
@@ -19,6 +21,7 @@ struct Line {
     half: u8,
     edition: usize,
     above: usize,
+    region: u8,
 }
 
 impl Line {
@@ -35,6 +38,8 @@ impl Line {
     const PAIRS: u8 = 5;
 
     const COMMENT: u8 = 6;
+
+    const REGION: u8 = 7;
     // No half has been read.
     const WHOLE: u8 = 255;
 
@@ -47,6 +52,7 @@ impl Line {
             half: Line::WHOLE,
             edition: Chart::EDITION_1,
             above: above,
+            region: Construct::NONE,
         }
     }
 
@@ -70,6 +76,22 @@ impl Line {
         self.next()
     }
 
+    // The line at an @, which stands before a region in a line of pairs.
+    fn named(mut self, out: &mut [u8], letter: u8) -> Line {
+        if self.part == Line::PAIRS {
+            self.part = Line::REGION;
+            return self;
+        }
+        self.letter(out, letter)
+    }
+
+    // The line after the letter of a region.
+    fn within(mut self, region: u8) -> Line {
+        self.region = region;
+        self.part = Line::PAIRS;
+        self
+    }
+
     fn byte(mut self, out: &mut [u8], byte: u8) -> Line {
         self.at = put(out, self.at, byte);
         self.half = Line::WHOLE;
@@ -89,7 +111,7 @@ impl Line {
             self.half = node;
             return self;
         }
-        report_pair_before(out, self.above, self.half, node);
+        report_pair_before(out, self.above, self.region, self.half, node);
         self.half = Line::WHOLE;
         self
     }
@@ -100,6 +122,9 @@ impl Line {
         }
         if self.part == Line::PAIRS {
             return self.node(out, value(letter));
+        }
+        if self.part == Line::REGION {
+            return self.within(value(letter));
         }
         if self.part == Line::NAME {
             io::write_all(1, &[letter]);
@@ -138,6 +163,7 @@ impl Line {
             b'?' => Line::new(Line::PAIRS, self.above),
             b'/' => self.next(),
             b'|' => self.filtered(),
+            b'@' => self.named(out, letter),
             b' ' => self,
             _ => self.letter(out, letter),
         }

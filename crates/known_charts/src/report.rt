@@ -5,6 +5,7 @@ use admission::admit::admit;
 use calls::pair::Answered;
 use calls::pair::pair;
 use chart::cursor::wide;
+use chart::format::Construct;
 use chart::format::Refusal;
 
 fn print_number(word: &[u8], number: usize) {
@@ -38,8 +39,8 @@ pub fn report_before(buffer: &[u8], end: usize) {
     }
 }
 
-fn report_pair(s: &[u8], a: usize, b: usize) {
-    match pair(s, a, b) {
+fn report_pair(s: &[u8], region: usize, a: usize, b: usize) {
+    match pair(s, region, a, b) {
         Answered::Answer(answer) => {
             print_number(b" answered ", wide(answer.number));
             io::write_all(1, b"\n");
@@ -48,11 +49,19 @@ fn report_pair(s: &[u8], a: usize, b: usize) {
     }
 }
 
-// A line for a pair of nodes of that chart.
-pub fn report_pair_before(buffer: &[u8], end: usize, a: u8, b: u8) {
+// The words for a region, none for the outermost one.
+fn print_region(region: u8) {
+    if region != Construct::NONE {
+        print_number(b" in region ", wide(region));
+    }
+}
+
+// A line for a pair of nodes of that chart, in a region.
+pub fn report_pair_before(buffer: &[u8], end: usize, region: u8, a: u8, b: u8) {
     if end <= buffer.len() {
         print_number(b"  pair ", wide(a));
         print_number(b" ", wide(b));
-        report_pair(&buffer[0..end], wide(a), wide(b));
+        print_region(region);
+        report_pair(&buffer[0..end], wide(region), wide(a), wide(b));
     }
 }

@@ -1,3 +1,5 @@
 pub mod Accepted
+pub mod Columns
+pub mod Cutting
 pub mod Loading
 pub mod Rows

@@ -1,69 +1,62 @@
--- What the loops that load a chart keep: columns, stops, barriers, begins and ends; and the tables of the edges.
+-- What the loops that load a chart keep: stops, barriers, begins and ends, and the rows of the table of the edges that are not written.
 -- Assumes nothing.
 use mathlib.Core.Path.{_≡_, refl, ap, sym, _∙_, subst}
-use mathlib.Core.Logic.{⊎-elim}
-use mathlib.Core.Bool.{Bool, true, false, not, cond}
+use mathlib.Core.Bool.{Bool, true, false, _&&_, not, cond}
 use mathlib.Core.List.{List, [], _∷_, _++_}
 use Prim.Native.Nat.{ℕ, zero, suc, _+_, _-_, _≤_, _<_}
 use native.Mathlib.Omega.{arith}
 use native.Mathlib.Decide.{ℕ-discrete, decLt}
-use lib.Dec.{eqb}
+use lib.Dec.{eqb, leb}
 use lib.ListN.{length, getD, set, replicate, length-set, length-append, length-replicate, List·getD-eq-default}
-use borrow.Author.Tests.{eqb-true, lt-ltb, eq-eqb, ne-eqb}
-use Rattle.lists.specs.Truth.{and-both, both-and}
-use Rattle.lists.specs.Range.{count, first-passes, any-at, at-any}
-use Rattle.lists.specs.Counting.{count-hit, count-mono, count-all, count-up}
-use Rattle.lists.specs.Recount.{count-same}
+use borrow.Author.Tests.{eq-eqb, ne-eqb, not-true}
+use Rattle.lists.specs.Truth.{same-truth}
+use Rattle.lists.specs.Range.{count, first-passes, at-any}
+use Rattle.lists.specs.Counting.{count-hit, count-mono, count-up}
 use Rattle.lists.specs.Store.{at-set, zeros}
 use Rattle.lists.specs.Select.{select, select-hit, select-miss, select-length, select-passes, append-at, append-off}
-use Rattle.chart.specs.Format.{outside, Node, Edge, Decoded, decode, nodeAt, edgeAt}
-use Rattle.chart.specs.Region.{plain, barrier, opens, closes, Region}
-use Rattle.chart.specs.Scope.{roleOf, roleAt}
-use Rattle.chart.specs.Reading.{region, edgeIn, frameOf}
-use Rattle.chart.specs.Refusal.{isBarrier}
+use Rattle.chart.specs.Format.{Node, Decoded, decode, nodeAt}
+use Rattle.chart.specs.Region.{Role, Region}
+use Rattle.chart.specs.Nested.{roleIn}
+use Rattle.chart.specs.Reading.{frameOf}
+use Rattle.chart.specs.Refusal.{barrierOf}
+use Rattle.chart.specs.Checked.{reading}
 use Rattle.chart.specs.declared.format.Chart.{Chart}
-use Rattle.chart.proofs.Records.{nodes-length, edges-length, constructs-length}
+use Rattle.chart.proofs.Records.{nodes-length, constructs-length}
 use Rattle.chart.proofs.Facts.{FrameAt, OneFrame, isFrame, is-frame, frame-is, frame-construct}
+use Rattle.chart.proofs.Tables.{no-node}
+use Rattle.chart.proofs.Kept.{barrier-counted, counted-barrier}
 use Rattle.paths.specs.Decide.{noBarrier}
-use Rattle.paths.specs.Graph.{lower, Listed, Places, Rising}
-use Rattle.splitting.specs.Parts.{row, Beside, Split}
+use Rattle.splitting.specs.Parts.{row, Beside}
 use Rattle.phases.specs.Phases.{barriers}
+use Rattle.phases.specs.PhasesLaws.{is-barrier}
 use Rattle.loading.proofs.Accepted.{tables}
-use Rattle.loading.specs.Tables.{Accepted, Stops, Barriers, Noted, skip, put, Framed, Columns, firstEdge, FirstEdges, Blank, Arranged, Handed}
+use Rattle.loading.specs.Tables.{Accepted, Stops, Barriers, Noted, skip, put, Framed, Blank}
 
--- past the last record an edge leads from 0 to 0
-pub edge-past : (edges : List Edge) (i : ℕ) → length edges ≤ i → (edgeAt edges i .from ≡ 0) × (edgeAt edges i .to ≡ 0)
-unfolding edgeAt
-edge-past edges i l =
-    let q = List·getD-eq-default edges (record { from = 0; to = 0 }) l in
-    (ap (λ (e : Edge). e .from) q, ap (λ (e : Edge). e .to) q)
+-- a barrier of the region by its bytes, as row 8 counts them
 
--- a barrier by its byte
+abbrev pub stopOf : List ℕ → Chart → ℕ → ℕ
+stopOf s chart x = cond (noBarrier (reading s chart .role x)) 0 1
 
-pub kind-role : (kind number : ℕ) → eqb kind 1 ≡ not (noBarrier (roleOf kind number))
-unfolding roleOf
-kind-role kind number = go (eqb kind 1) (eqb kind 2) (eqb kind 3)
-  where
-    go : (a b c : Bool) → a ≡ not (noBarrier (cond a barrier (cond b (opens number) (cond c (closes number) plain))))
-    go true b c = refl
-    go false true c = refl
-    go false false true = refl
-    go false false false = refl
+module _ (s : List ℕ) (chart : Chart) (A : Accepted s chart) where
+  pub barrier-test : (x : ℕ) → barrierOf (decode s .nodes) (chart .region) x ≡ not (noBarrier (reading s chart .role x))
+  barrier-test x =
+      let F = tables s chart A in
+      same-truth _ (not (noBarrier (reading s chart .role x)))
+      (λ h. ap (λ (r : Role). not (noBarrier r)) (counted-barrier (decode s) F (chart .region) x h))
+      (λ h. barrier-counted (decode s) F (chart .region) x (is-barrier _ (not-true _ h)))
 
-abbrev pub stopOf : List Node → ℕ → ℕ
-stopOf nodes x = cond (noBarrier (roleAt nodes x)) 0 1
+  pub stop-byte : (x kind number v : ℕ) → kind ≡ nodeAt (decode s .nodes) x .kind → number ≡ nodeAt (decode s .nodes) x .number
+      → v ≡ cond (leb 1 kind && eqb number (chart .region)) 1 0 → v ≡ stopOf s chart x
+  unfolding barrierOf
+  stop-byte x kind number v k n e = e ∙ rw (k, n, barrier-test x) (go (noBarrier (reading s chart .role x)))
+    where
+      go : (b : Bool) → _≡_ {A = ℕ} (cond (not b) 1 0) (cond b 0 1)
+      go true = refl
+      go false = refl
 
-pub stop-byte : (nodes : List Node) (x kind : ℕ) → kind ≡ nodeAt nodes x .kind → cond (eqb kind 1) 1 0 ≡ stopOf nodes x
-unfolding roleAt
-stop-byte nodes x kind e = rw (e, kind-role (nodeAt nodes x .kind) (nodeAt nodes x .number)) (go (noBarrier (roleOf (nodeAt nodes x .kind) (nodeAt nodes x .number))))
-  where
-    go : (b : Bool) → _≡_ {A = ℕ} (cond (not b) 1 0) (cond b 0 1)
-    go true = refl
-    go false = refl
-
-pub stop-past : (nodes : List Node) (x : ℕ) → length nodes ≤ x → stopOf nodes x ≡ 0
-unfolding roleAt nodeAt roleOf
-stop-past nodes x l = rw (List·getD-eq-default nodes (record { kind = 0; number = outside; tag = 0 }) l)
+  pub stop-past : (x : ℕ) → length (decode s .nodes) ≤ x → stopOf s chart x ≡ 0
+  unfolding roleIn
+  stop-past x l = rw (no-node (decode s) x l)
 
 -- the list of the barriers
 
@@ -113,35 +106,34 @@ module _ (R : Region) (stops : List ℕ) (S : Stops R stops) (x : ℕ) where
 
 -- row 8 leaves room for each of them
 
-few : (s : List ℕ) (chart : Chart) → Accepted s chart → (x : ℕ) → x ≤ chart .nodes → count x (noted (region (decode s))) ≤ 64
-unfolding isBarrier roleAt
+few : (s : List ℕ) (chart : Chart) → Accepted s chart → (x : ℕ) → x ≤ chart .nodes → count x (noted (reading s chart)) ≤ 64
 few s chart A x l =
     let D = decode s in
     let n = length (D .nodes) in
     let q : x + (n - x) ≡ n = omega (arith, nodes-length s chart (A .laid)) in
     omega (
       arith,
-      rw q at (count-up (isBarrier (D .nodes)) x (n - x)),
-      count-mono x (noted (region D)) (isBarrier (D .nodes)) (λ k b t. kind-role (nodeAt (D .nodes) k .kind) (nodeAt (D .nodes) k .number) ∙ t),
-      tables s chart A .barriers .most,
+      rw q at (count-up (barrierOf (D .nodes) (chart .region)) x (n - x)),
+      count-mono x (noted (reading s chart)) (barrierOf (D .nodes) (chart .region)) (λ k b t. barrier-test s chart A k ∙ t),
+      tables s chart A .barriers .most (chart .region) (A .named),
     )
 
-module _ (s : List ℕ) (chart : Chart) (A : Accepted s chart) {x : ℕ} {nodes : List ℕ} {total : ℕ} (L : Listing (region (decode s)) x nodes total) where
+module _ (s : List ℕ) (chart : Chart) (A : Accepted s chart) {x : ℕ} {nodes : List ℕ} {total : ℕ} (L : Listing (reading s chart) x nodes total) where
   pub most : x ≤ chart .nodes → total ≤ 64
-  most l = omega (arith, L .count, select-length x (noted (region (decode s))), few s chart A x l)
+  most l = omega (arith, L .count, select-length x (noted (reading s chart)), few s chart A x l)
 
-  pub room : x < chart .nodes → noted (region (decode s)) x ≡ true → total < 64
+  pub room : x < chart .nodes → noted (reading s chart) x ≡ true → total < 64
   room l h =
-      let f = noted (region (decode s)) in
+      let f = noted (reading s chart) in
       omega (arith, L .count, select-length x f, count-hit f x h, few s chart A (x + 1) (omega arith))
 
-pub barriers-most : (s : List ℕ) (chart : Chart) → Accepted s chart → length (barriers (region (decode s))) ≤ 64
+pub barriers-most : (s : List ℕ) (chart : Chart) → Accepted s chart → length (barriers (reading s chart)) ≤ 64
 unfolding barriers
 barriers-most s chart A =
     let n = length (decode s .nodes) in
-    omega (arith, select-length n (noted (region (decode s))), few s chart A n (omega (arith, nodes-length s chart (A .laid))))
+    omega (arith, select-length n (noted (reading s chart)), few s chart A n (omega (arith, nodes-length s chart (A .laid))))
 
-pub barriers-below : (s : List ℕ) (chart : Chart) → Accepted s chart → (b : ℕ) → getD (barriers (region (decode s))) b 0 < 192
+pub barriers-below : (s : List ℕ) (chart : Chart) → Accepted s chart → (b : ℕ) → getD (barriers (reading s chart)) b 0 < 192
 unfolding barriers
 barriers-below s chart A b = go (decLt b (length (select n f)))
   where
@@ -149,14 +141,14 @@ barriers-below s chart A b = go (decLt b (length (select n f)))
     n = length (decode s .nodes)
 
     f : ℕ → Bool
-    f = noted (region (decode s))
+    f = noted (reading s chart)
 
     go : Dec (b < length (select n f)) → getD (select n f) b 0 < 192
     go (yes l) = omega (arith, select-passes n f b l .0, nodes-length s chart (A .laid), A .laid .nodes-most)
     go (no l) = let q = List·getD-eq-default (select n f) 0 {n = b} (omega arith) in omega arith
 
 pub listing-all : (s : List ℕ) (chart : Chart) → Accepted s chart → (nodes : List ℕ) (total : ℕ)
-    → Listing (region (decode s)) (chart .nodes) nodes total → Barriers (region (decode s)) nodes total
+    → Listing (reading s chart) (chart .nodes) nodes total → Barriers (reading s chart) nodes total
 unfolding barriers
 listing-all s chart A nodes total L =
     let q = nodes-length s chart (A .laid) in
@@ -185,7 +177,7 @@ module _ (s : List ℕ) (chart : Chart) (A : Accepted s chart) (kind : ℕ) (low
 
   pub frame-below : (x : ℕ) → x < chart .nodes → nodeAt (decode s .nodes) x .kind ≡ kind → nodeAt (decode s .nodes) x .number < length (decode s .constructs)
   frame-below x l e =
-      frame-construct (tables s chart A .nodes x (omega (arith, nodes-length s chart (A .laid)))) (omega arith)
+      frame-construct (tables s chart A .nodes .alone x (omega (arith, nodes-length s chart (A .laid)))) (omega arith)
 
   pub framing-more : (x : ℕ) (frames frames′ : List ℕ) (k c : ℕ) → x < chart .nodes → k ≡ nodeAt (decode s .nodes) x .kind → c ≡ nodeAt (decode s .nodes) x .number
       → Framing (decode s .nodes) kind x frames → frames′ ≡ cond (eqb k kind) (set frames c x) frames → Framing (decode s .nodes) kind (x + 1) frames′
@@ -242,84 +234,6 @@ module _ (s : List ℕ) (chart : Chart) (A : Accepted s chart) (kind : ℕ) (low
     there = λ c l. found c l .1 .0;
   }
 
--- the tables of the edges
-
-module _ (s : List ℕ) (chart : Chart) (A : Accepted s chart) {froms tos : List ℕ} (C : Columns (decode s) froms tos) where
-  pub ends-below : (i : ℕ) → (getD froms i 0 < 192) × (getD tos i 0 < 192)
-  ends-below i = go (decLt i (length (decode s .edges)))
-    where
-      go : Dec (i < length (decode s .edges)) → (getD froms i 0 < 192) × (getD tos i 0 < 192)
-      go (yes l) =
-          let e = tables s chart A .edges .alone i l in
-          let n = nodes-length s chart (A .laid) in
-          (omega (arith, C .from i, e .from-below, A .laid .nodes-most), omega (arith, C .to i, e .to-below, A .laid .nodes-most))
-      go (no l) = let (p, q) = edge-past (decode s .edges) i (omega arith) in (omega (arith, C .from i), omega (arith, C .to i))
-
-  -- the edges rise, so that the table of the edges has their ends as they stand
-  step : (i : ℕ) → suc i < chart .edges → getD froms i 0 ≤ getD froms (suc i) 0
-  step i l = ⊎-elim (λ p. omega (arith, C .from i, C .from (suc i))) (λ p. omega (arith, C .from i, C .from (suc i), p .0))
-      (tables s chart A .edges .rising i (omega (arith, edges-length s chart (A .laid))))
-
-  rise : (i d : ℕ) → i + d < chart .edges → getD froms i 0 ≤ getD froms (i + d) 0
-  rise i zero l = let q : i + 0 ≡ i = omega arith in rw q (omega arith)
-  rise i (suc d) l = let q : i + suc d ≡ suc (i + d) = omega arith in rw q (omega (arith, rise i d (omega arith), step (i + d) (omega arith)))
-
-  pub rising : Rising froms (chart .edges)
-  rising i j h l = let q : i + (j - i) ≡ j = omega arith in rw q at (rise i (j - i) (omega arith))
-
-  abbrev E : ℕ → ℕ → Type 0
-  E x y = edgeIn (decode s .edges) x y ≡ true
-
-  listed-edge : (x y : ℕ) → Listed froms tos (chart .edges) x y → E x y
-  unfolding edgeIn
-  listed-edge x y t = at-any (length (decode s .edges)) _ (t .at) (omega (arith, t .below, edges-length s chart (A .laid)))
-      (both-and _ _ (eq-eqb _ _ (sym (C .from (t .at)) ∙ t .key)) (eq-eqb _ _ (sym (C .to (t .at)) ∙ t .value)))
-
-  edge-listed : (x y : ℕ) → E x y → Listed froms tos (chart .edges) x y
-  unfolding edgeIn
-  edge-listed x y h =
-      let (i, l, p) = any-at (length (decode s .edges)) _ h in
-      let (a, b) = and-both (eqb (edgeAt (decode s .edges) i .from) x) _ p in
-      record { at = i; below = omega (arith, edges-length s chart (A .laid)); key = C .from i ∙ eqb-true _ _ a; value = C .to i ∙ eqb-true _ _ b }
-
-  pub arranged : {edges : List (List ℕ)} {places stops : List ℕ} {ups low ins : ℕ} → row edges 0 ≡ froms → row edges 1 ≡ tos
-      → Split edges (chart .edges) stops ups low ins → Places (row edges 0) (chart .edges) places → Arranged (region (decode s)) edges places stops ups low ins
-  arranged p q T P = record {
-    count = chart .edges;
-    split = T;
-    begins = P;
-    listed-edge = rw (p, q) listed-edge;
-    edge-listed = rw (p, q) edge-listed;
-  }
-
--- the places, as the chart has them and as the columns do
-
-lower-same : {D : Decoded} {froms tos : List ℕ} → Columns D froms tos → (x : ℕ) → count (length (D .edges)) (lower froms x) ≡ firstEdge D x
-unfolding firstEdge
-lower-same {D} C x = count-same (length (D .edges)) _ _ (λ i _. rw (C .from i))
-
-pub first-edges : {D : Decoded} {froms tos places : List ℕ} {e : ℕ} → Columns D froms tos → e ≡ length (D .edges) → Places froms e places → FirstEdges D places
-first-edges {froms = froms} C q P = record {
-  long = P .long;
-  at = λ x h. P .at x h ∙ ap (λ (n : ℕ). count n (lower froms x)) q ∙ lower-same C x;
-}
-
-pub places-first : {D : Decoded} {froms tos places : List ℕ} → Columns D froms tos → FirstEdges D places → Places froms (length (D .edges)) places
-places-first C F = record { long = F .long; at = λ x h. F .at x h ∙ sym (lower-same C x) }
-
-pub handed : (s : List ℕ) (chart : Chart) → Accepted s chart → {froms tos : List ℕ} {edges : List (List ℕ)} {places stops : List ℕ} {ups low ins : ℕ}
-    → Columns (decode s) froms tos → row edges 0 ≡ froms → row edges 1 ≡ tos → Split edges (chart .edges) stops ups low ins
-    → FirstEdges (decode s) places → Handed (decode s) edges places ups low ins
-unfolding firstEdge
-handed s chart A {stops = stops} C p q T F = record {
-  stops = stops;
-  split = rw (edges-length s chart (A .laid)) T;
-  columns = rw (p, q) C;
-  begins = F;
-  past = F .at (length (decode s .nodes)) (omega (arith, nodes-length s chart (A .laid), A .laid .nodes-most))
-      ∙ count-all (length (decode s .edges)) _ (λ i l. lt-ltb _ _ (tables s chart A .edges .alone i l .from-below));
-}
-
 -- a table whose first rows are written
 
 blank-row : {A : Type 0} (n : ℕ) (x d : A) (r : ℕ) → r < n → getD (replicate n x) r d ≡ x
@@ -342,20 +256,13 @@ blank-none = record {
   rest = λ r j _. elim (decLt r 6) [ yes l ↦ rw (blank-rows r l) (zeros 1024 j) | no n ↦ rw (blank-past 6 (replicate 1024 0) r (omega arith)) refl ];
 }
 
--- all its numbers are nodes
-pub nodes-fit : (s : List ℕ) (chart : Chart) → Accepted s chart → {table : List (List ℕ)} → Columns (decode s) (row table 0) (row table 1) → Blank table
-    → (r j : ℕ) → getD (row table r) j 0 < 192
-nodes-fit s chart A C b r j = elim (ℕ-discrete r 0) [
-  | yes e ↦ rw e (ends-below s chart A C j .0)
-  | no n ↦ elim (ℕ-discrete r 1) [ yes e ↦ rw e (ends-below s chart A C j .1) | no m ↦ omega (arith, b .rest r j (omega arith)) ]
-]
-
-pub blank-turn : {old new : List (List ℕ)} (i x y : ℕ) → Blank old → row new 0 ≡ set (row old 0) i x → row new 1 ≡ set (row old 1) i y → Beside 0 1 old new → Blank new
-blank-turn {old} {new} i x y b p q d = record {
+-- where two rows are written, and keep their lengths
+pub blank-turn : {old new : List (List ℕ)} → Blank old → length (row new 0) ≡ length (row old 0) → length (row new 1) ≡ length (row old 1) → Beside 0 1 old new → Blank new
+blank-turn {old} {new} b p q d = record {
   six = d .long ∙ b .six;
   long = λ r l. elim (ℕ-discrete r 0) [
-    | yes e ↦ rw (e, p) (length-set (row old 0) i x ∙ b .long 0 (omega arith))
-    | no n ↦ elim (ℕ-discrete r 1) [ yes e ↦ rw (e, q) (length-set (row old 1) i y ∙ b .long 1 (omega arith)) | no m ↦ rw (d .same r n m) (b .long r l) ]
+    | yes e ↦ rw (e, p) (b .long 0 (omega arith))
+    | no n ↦ elim (ℕ-discrete r 1) [ yes e ↦ rw (e, q) (b .long 1 (omega arith)) | no m ↦ rw (d .same r n m) (b .long r l) ]
   ];
   rest = λ r j l. rw (d .same r (λ e. omega arith) (λ e. omega arith)) (b .rest r j l);
 }

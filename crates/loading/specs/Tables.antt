@@ -1,5 +1,5 @@
--- What the searches work on, as it stands for a region: tables of its edges, forward and backward, its barriers as stops and as a list;
--- and the bytes that these are loaded from.
+-- What the searches work on, as it stands for a region: tables of its edges, forward and backward, its barriers as stops and as a list; the
+-- nodes that a claim may not name; and the bytes that these are loaded from.
 -- Assumes nothing.
 use mathlib.Core.Path.{_≡_}
 use mathlib.Core.Bool.{Bool, cond}
@@ -9,36 +9,43 @@ use Prim.Native.Nat.{ℕ, _+_, _≤_, _<_}
 use lib.Dec.{ltb}
 use lib.ListN.{length, getD, set}
 use Rattle.lists.specs.Range.{count}
-use Rattle.chart.specs.Format.{Decoded, decode, nodeAt, edgeAt}
+use Rattle.lists.specs.Store.{Written}
+use Rattle.chart.specs.Format.{Edge as Edge·Edge, Decoded, decode, nodeAt, edgeAt}
 use Rattle.chart.specs.Region.{Region}
 use Rattle.chart.specs.Refusal.{firstOf, tableRows}
 use Rattle.chart.specs.Reading.{frameOf}
+use Rattle.chart.specs.Scope.{leavingAt}
+use Rattle.chart.specs.Nested.{liesWithin}
 use Rattle.chart.specs.Checked.{Laid}
 use Rattle.chart.specs.declared.format.Chart.{Chart}
+use Rattle.chart.proofs.Facts.{Named}
 use Rattle.paths.specs.Path.{Edge, Open}
 use Rattle.paths.specs.Decide.{noBarrier, reachesAny}
 use Rattle.paths.specs.Graph.{Listed, Places}
+use Rattle.paths.specs.Cut.{edgesOf}
 use Rattle.splitting.specs.Parts.{row, Split}
+use Rattle.answers.specs.Numbers.{asked}
 use Rattle.phases.specs.Phases.{Direction, forward, backward, barriers, barrierAt, marks, nearest}
 
--- Bytes of a chart that rows 1 to 9 of the refusals let pass, with its counts.
+-- Bytes of a chart that rows 1 to 9 of the refusals let pass, with its counts, and the number of one of its regions.
 pub record Accepted (s : List ℕ) (chart : Chart) : Type 0 where
   pub laid : Laid s chart
   pub passes : firstOf (tableRows (decode s)) ≡ none
+  pub named : Named (decode s .constructs) (chart .region)
 
--- The edges in columns: the nodes that they leave, and those that they come to.
-pub record Columns (D : Decoded) (froms tos : List ℕ) : Type 0 where
-  pub from : (i : ℕ) → getD froms i 0 ≡ edgeAt (D .edges) i .from
-  pub to : (i : ℕ) → getD tos i 0 ≡ edgeAt (D .edges) i .to
+-- Edges in columns: the nodes that they leave, and those that they come to.
+pub record Columns (edges : List Edge·Edge) (froms tos : List ℕ) : Type 0 where
+  pub from : (i : ℕ) → getD froms i 0 ≡ edgeAt edges i .from
+  pub to : (i : ℕ) → getD tos i 0 ≡ edgeAt edges i .to
 
--- Where the edges of node x begin in the sorted edge table: the number of edges that leave lower nodes (02: Note 3).
-unfoldable pub firstEdge : Decoded → ℕ → ℕ
-firstEdge D x = count (length (D .edges)) (λ i. ltb (edgeAt (D .edges) i .from) x)
+-- Where the edges of node x begin in a sorted edge table: the number of edges that leave lower nodes (02: Note 3).
+unfoldable pub firstEdge : List Edge·Edge → ℕ → ℕ
+firstEdge edges x = count (length edges) (λ i. ltb (edgeAt edges i .from) x)
 
 -- The places of all nodes. Where a node's edges end, those of the next begin.
-pub record FirstEdges (D : Decoded) (places : List ℕ) : Type 0 where
+pub record FirstEdges (edges : List Edge·Edge) (places : List ℕ) : Type 0 where
   pub long : length places ≡ 193
-  pub at : (x : ℕ) → x ≤ 192 → getD places x 0 ≡ firstEdge D x
+  pub at : (x : ℕ) → x ≤ 192 → getD places x 0 ≡ firstEdge edges x
 
 -- Besides, a table of edges has rows that are not written yet.
 pub record Blank (table : List (List ℕ)) : Type 0 where
@@ -63,19 +70,24 @@ pub record Arranged (R : Region) (edges : List (List ℕ)) (places stops : List 
   pub listed-edge : (x y : ℕ) → Listed (row edges 0) (row edges 1) count x y → Edge R x y
   pub edge-listed : (x y : ℕ) → Edge R x y → Listed (row edges 0) (row edges 1) count x y
 
--- What the marking is handed: the edges of a chart, parted by some stops, and the places where the nodes' edges begin.
-pub record Handed (D : Decoded) (edges : List (List ℕ)) (places : List ℕ) (ups low ins : ℕ) : Type 0 where
+-- What the marking is handed: the edges of a chart as it is read for the region p, parted by some stops, and the places where the nodes'
+-- edges begin.
+pub record Handed (p : ℕ) (D : Decoded) (edges : List (List ℕ)) (places : List ℕ) (ups low ins : ℕ) : Type 0 where
   pub stops : List ℕ
-  pub split : Split edges (length (D .edges)) stops ups low ins
-  pub columns : Columns D (row edges 0) (row edges 1)
-  pub begins : FirstEdges D places
+  pub split : Split edges (length (edgesOf p D)) stops ups low ins
+  pub columns : Columns (edgesOf p D) (row edges 0) (row edges 1)
+  pub begins : FirstEdges (edgesOf p D) places
   -- past the last node stands the number of edges
-  pub past : getD places (length (D .nodes)) 0 ≡ length (D .edges)
+  pub past : getD places (length (D .nodes)) 0 ≡ length (edgesOf p D)
 
 -- A stop stands on each barrier.
 pub record Stops (R : Region) (stops : List ℕ) : Type 0 where
   pub long : length stops ≡ 192
   pub at : (x : ℕ) → getD stops x 0 ≡ cond (noBarrier (R .role x)) 0 1
+
+-- A flag on each node that a claim may not name: a barrier, or a node outside the region.
+pub record Closed (R : Region) (closed : List ℕ) : Type 0 where
+  pub at : (x : ℕ) → x < R .nodes → getD closed x 0 ≡ cond (asked R x) 0 1
 
 -- The nodes of the barriers, by number.
 pub record Barriers (R : Region) (nodes : List ℕ) (total : ℕ) : Type 0 where
@@ -100,3 +112,16 @@ pub record Framed (D : Decoded) (kind : ℕ) (frames : List ℕ) : Type 0 where
   pub at : (c : ℕ) → c < length (D .constructs) → getD frames c 0 ≡ frameOf (D .nodes) kind c
   pub node : (c : ℕ) → getD frames c 0 < 192
   pub there : (c : ℕ) → c < length (D .constructs) → nodeAt (D .nodes) (frameOf (D .nodes) kind c) .kind ≡ kind
+
+-- One edge more for the first `total` rows of two columns: it has no flag, or it is put behind the others.
+pub data Stored (flag from to : ℕ) (froms tos : List ℕ) (total : ℕ) : List ℕ → List ℕ → ℕ → Type 0 where
+  left : flag ≡ 0 → Stored flag from to froms tos total froms tos total
+  kept : (flag ≡ 0 → ⊥) → Stored flag from to froms tos total (set froms total from) (set tos total to) (total + 1)
+
+-- A flag on each construct that lies in the region p, at any depth; the others of these and all other places have none.
+abbrev pub Within : Decoded → ℕ → List ℕ → Type 0
+Within D p flags = Written (λ q. cond (liesWithin (D .constructs) p q) 1 0) (length (D .constructs)) flags
+
+-- A flag on each node whose edges are the region's.
+pub record Leaving (D : Decoded) (p : ℕ) (flags : List ℕ) : Type 0 where
+  pub at : (x : ℕ) → getD flags x 0 ≡ cond (liesWithin (D .constructs) p (leavingAt (D .nodes) (D .constructs) x)) 1 0

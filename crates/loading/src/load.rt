@@ -1,24 +1,32 @@
 // What the searches work on, from the bytes of a chart that rows 1 to 9 of the refusals let pass.
 ghost use mathlib.Core.Path.{_≡_};
-ghost use mathlib.Core.Bool.{cond};
+ghost use mathlib.Core.Bool.{_&&_, cond};
 ghost use Prim.Native.Nat.{_≤_, _<_};
-ghost use lib.Dec.{eqb};
+ghost use lib.Dec.{eqb, leb};
 ghost use lib.ListN.{length, set};
 ghost use Rattle.chart.specs.Format.{decode};
 ghost use Rattle.chart.specs.Scope.{beginNode, endNode};
 ghost use Rattle.chart.specs.Checked.{Laid, reading};
+ghost use Rattle.paths.specs.Cut.{edgesOf};
 ghost use Rattle.splitting.specs.Parts.{row};
 ghost use Rattle.loading.specs.Tables.{Accepted, Columns, Blank, Stops, Barriers, Noted, Framed};
+use crate::cut::cut_edges;
 use chart::cursor::wide;
 use chart::format::Chart;
 use chart::format::Edge;
 use chart::format::Node;
 use splitting::Parts;
 
-// The edges, as a row of the nodes that they leave and one of those that they come to; the other rows are blank.
-fn edges(s: &[u8], chart: Chart, table: &mut [[u8; Chart::EDGES]; Parts::ROWS])
+// How many edges and barriers a region has.
+pub struct Loaded {
+    pub edges: usize,
+    pub barriers: usize,
+}
+
+// All edges, as a row of the nodes that they leave and one of those that they come to; the other rows are blank.
+fn all_edges(s: &[u8], chart: Chart, table: &mut [[u8; Chart::EDGES]; Parts::ROWS])
     requires { ⌜ Laid (now s) chart ⌝ }
-    ensures { λ _. ⌜ Columns (decode (now (s .entry))) (row (now (table .exit)) 0) (row (now (table .exit)) 1) × Blank (now (table .exit)) ⌝ }
+    ensures { λ _. ⌜ Columns (decode (now (s .entry)) .edges) (row (now (table .exit)) 0) (row (now (table .exit)) 1) × Blank (now (table .exit)) ⌝ }
 {
     *table = [[0u8; Chart::EDGES]; Parts::ROWS];
     let e = chart.edges;
@@ -31,11 +39,26 @@ fn edges(s: &[u8], chart: Chart, table: &mut [[u8; Chart::EDGES]; Parts::ROWS])
     }
 }
 
-// 1 for a barrier, 0 for any other node.
-fn stop(node: Node) -> u8
-    ensures { λ r. ⌜ r ≡ cond (eqb (node .kind) 1) 1 0 ⌝ }
+// The edges of the region, in the same way, and how many there are.
+fn edges(s: &[u8], chart: Chart, table: &mut [[u8; Chart::EDGES]; Parts::ROWS]) -> usize
+    requires { ⌜ Accepted (now s) chart ⌝ }
+    ensures { λ r. ⌜ Columns (edgesOf (chart .region) (decode (now (s .entry)))) (row (now (table .exit)) 0) (row (now (table .exit)) 1) × Blank (now (table .exit)) × (r ≡ length (edgesOf (chart .region) (decode (now (s .entry))))) ⌝ }
 {
-    if node.kind == Node::BARRIER {
+    if chart.region == Chart::OUTERMOST {
+        all_edges(s, chart, table);
+        return chart.edges;
+    }
+    cut_edges(s, chart, table)
+}
+
+// 1 for a barrier of the region, its begin and its end among them, 0 for any other node.
+pub fn stop(node: Node, region: usize) -> u8
+    ensures { λ r. ⌜ r ≡ cond (leb 1 (node .kind) && eqb (node .number) region) 1 0 ⌝ }
+{
+    if node.kind == Node::PLAIN {
+        return 0;
+    }
+    if wide(node.number) == region {
         return 1;
     }
     0
@@ -43,14 +66,15 @@ fn stop(node: Node) -> u8
 
 // A stop on each barrier.
 pub fn load_stops(s: &[u8], chart: Chart, stops: &mut [u8; Chart::NODES])
-    requires { ⌜ Laid (now s) chart ⌝ }
+    requires { ⌜ Accepted (now s) chart ⌝ }
     ensures { λ _. ⌜ Stops (reading (now (s .entry)) chart) (now (stops .exit)) ⌝ }
 {
     *stops = [0u8; Chart::NODES];
     let n = chart.nodes;
+    let region = chart.region;
     let mut x = 0;
     while x < n {
-        stops[x] = stop(Node::read(s, chart, x));
+        stops[x] = stop(Node::read(s, chart, x), region);
         x += 1;
     }
 }
@@ -88,22 +112,23 @@ fn barriers(
     total
 }
 
-// Edges, stops and barriers, and how many barriers there are.
+// Edges, stops and barriers, and how many edges and barriers there are.
 pub fn load(
     s: &[u8],
     chart: Chart,
     table: &mut [[u8; Chart::EDGES]; Parts::ROWS],
     stops: &mut [u8; Chart::NODES],
     nodes: &mut [u8; Chart::BARRIERS],
-) -> usize
+) -> Loaded
     requires { ⌜ Accepted (now s) chart ⌝ }
-    ensures { λ _. ⌜ Columns (decode (now (s .entry))) (row (now (table .exit)) 0) (row (now (table .exit)) 1) × Blank (now (table .exit)) ⌝ }
+    ensures { λ r. ⌜ Columns (edgesOf (chart .region) (decode (now (s .entry)))) (row (now (table .exit)) 0) (row (now (table .exit)) 1) × Blank (now (table .exit)) × (r .edges ≡ length (edgesOf (chart .region) (decode (now (s .entry))))) ⌝ }
     ensures { λ _. ⌜ Stops (reading (now (s .entry)) chart) (now (stops .exit)) ⌝ }
-    ensures { λ r. ⌜ Barriers (reading (now (s .entry)) chart) (now (nodes .exit)) r ⌝ }
+    ensures { λ r. ⌜ Barriers (reading (now (s .entry)) chart) (now (nodes .exit)) (r .barriers) ⌝ }
 {
-    edges(s, chart, table);
+    let edges = edges(s, chart, table);
     load_stops(s, chart, stops);
-    barriers(s, chart, stops, nodes)
+    let barriers = barriers(s, chart, stops, nodes);
+    Loaded { edges, barriers }
 }
 
 // One node more: where it is of this kind, it is that of its construct.

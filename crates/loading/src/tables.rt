@@ -1,10 +1,11 @@
 // The table of the edges for all searches: the places where the edges of each node begin, and the edges parted by the stops.
 ghost use mathlib.Core.Path.{_≡_};
+ghost use mathlib.Core.List.{List};
 ghost use Prim.Native.Nat.{ℕ, _≤_, _<_};
 ghost use lib.ListN.{getD, length};
 ghost use Rattle.paths.specs.Graph.{Rising, Places};
 ghost use Rattle.splitting.specs.Parts.{row};
-ghost use Rattle.chart.specs.Format.{Decoded, decode};
+ghost use Rattle.chart.specs.Format.{Edge, decode};
 ghost use Rattle.chart.specs.Checked.{reading};
 ghost use Rattle.loading.specs.Tables.{Accepted, Columns, FirstEdges, Arranged, Handed, Stops, Barriers};
 use crate::load::load;
@@ -22,7 +23,7 @@ fn find_places(
 )
     requires { ⌜ (e ≤ 1024) × Rising (row (now table) 0) e × (length (now table) ≡ 6) × ((j : ℕ) → getD (row (now table) 0) j 0 < 192) ⌝ }
     ensures { λ _. ⌜ Places (row (now (table .entry)) 0) e (now (places .exit)) ⌝ }
-    ensures { λ _. ⌜ ((D : Decoded) → Columns D (row (now (table .entry)) 0) (row (now (table .entry)) 1) → e ≡ length (D .edges) → FirstEdges D (now (places .exit))) ⌝ }
+    ensures { λ _. ⌜ ((edges : List Edge) → Columns edges (row (now (table .entry)) 0) (row (now (table .entry)) 1) → e ≡ length edges → FirstEdges edges (now (places .exit))) ⌝ }
 {
     places_rising(&table[Parts::FROM], e, places);
 }
@@ -38,14 +39,14 @@ pub fn load_tables(
 ) -> Extent
     requires { ⌜ Accepted (now s) chart ⌝ }
     ensures { λ r. ⌜ Arranged (reading (now (s .entry)) chart) (now (table .exit)) (now (places .exit)) (now (stops .exit)) (r .parts .ups) (r .parts .low) (r .parts .ins) ⌝ }
-    ensures { λ r. ⌜ Handed (decode (now (s .entry))) (now (table .exit)) (now (places .exit)) (r .parts .ups) (r .parts .low) (r .parts .ins) ⌝ }
+    ensures { λ r. ⌜ Handed (chart .region) (decode (now (s .entry))) (now (table .exit)) (now (places .exit)) (r .parts .ups) (r .parts .low) (r .parts .ins) ⌝ }
     ensures { λ r. ⌜ Stops (reading (now (s .entry)) chart) (now (stops .exit)) × Barriers (reading (now (s .entry)) chart) (now (nodes .exit)) (r .barriers) × (r .nodes ≡ chart .nodes) ⌝ }
 {
-    let barriers = load(s, chart, table, stops, nodes);
-    find_places(table, chart.edges, places);
-    let parts = split(table, chart.edges, stops);
+    let loaded = load(s, chart, table, stops, nodes);
+    find_places(table, loaded.edges, places);
+    let parts = split(table, loaded.edges, stops);
     Extent {
-        barriers,
+        barriers: loaded.barriers,
         nodes: chart.nodes,
         parts,
     }

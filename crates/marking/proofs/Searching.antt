@@ -1,32 +1,40 @@
 -- What a search finds, as the masks and levels of a region, one time for both directions; as the constructs that return.
 -- Assumes nothing.
-use mathlib.Core.Path.{_≡_, refl, ap, sym, _∙_}
+use mathlib.Core.Path.{_≡_, refl, ap, sym, _∙_, subst}
 use mathlib.Core.Logic.{_⊎_, inl, inr}
 use mathlib.Core.Bool.{Bool, true, false, cond}
 use mathlib.Core.List.{List}
 use Prim.Native.Nat.{ℕ, _≤_, _<_}
 use native.Mathlib.Omega.{arith}
 use lib.ListN.{length, getD}
+use borrow.Author.Tests.{eqb-true}
 use Rattle.lists.specs.Truth.{truth, clash, false-if}
 use Rattle.lists.specs.Mask.{Mask, mask-carry, maskOf, mask-is}
 use Rattle.lists.specs.Least.{least-unique}
 use Rattle.lists.specs.Bits.{has, has-of, mask-same, mask-empty}
-use Rattle.chart.specs.Format.{Decoded}
-use Rattle.chart.specs.Region.{Region}
+use Rattle.chart.specs.Format.{Decoded, decode}
+use Rattle.chart.specs.Region.{barrier, Region}
 use Rattle.chart.specs.Scope.{beginNode, endNode}
-use Rattle.chart.specs.Reading.{region, frameOf}
+use Rattle.chart.specs.Reading.{frameOf}
+use Rattle.chart.specs.Checked.{reading}
+use Rattle.chart.specs.declared.format.Chart.{Chart}
+use Rattle.chart.proofs.Reading.{begin}
+use Rattle.chart.proofs.Tables.{frame-found}
+use Rattle.chart.proofs.RegionFacts.{barrier-at, start-inner}
 use Rattle.chart.specs.WellFormed.{WellFormed}
 use Rattle.paths.specs.Path.{Path, edges, Open}
-use Rattle.paths.specs.PathLaws.{carry, edges-carry, reverse, edges-reverse}
+use Rattle.paths.specs.PathLaws.{carry, edges-carry, reverse, edges-reverse, last-edge}
 use Rattle.paths.specs.ReachLaws.{distance-path, path-distance}
-use Rattle.paths.specs.Decide.{noBarrier, no-barrier, barrier-no, reachesFree, returns}
+use Rattle.paths.specs.Decide.{noBarrier, no-barrier, barrier-no, free-path, reachesFree, returns}
 use Rattle.paths.specs.Graph.{Listed}
 use Rattle.paths.specs.Found.{Clear, Reached, Found, Leveled}
 use Rattle.paths.specs.FoundLaws.{found-carry, leveled-carry}
 use Rattle.phases.specs.Phases.{Direction, forward, backward, leads, isBoundary, barriers, barrierAt, marked, marks, edgesFree, nearest, returning}
 use Rattle.phases.specs.PhasesLaws.{is-barrier, number-barrier, barrier-number, leads-free, free-leads}
-use Rattle.loading.specs.Tables.{Along, Arranged, Handed, Stops, Barriers, Framed}
-use Rattle.loading.proofs.Loading.{stop-byte, places-first}
+use Rattle.paths.specs.Cut.{edgesOf}
+use Rattle.loading.specs.Tables.{Accepted, Along, Arranged, Handed, Stops, Barriers, Framed}
+use Rattle.loading.proofs.Accepted.{tables, few-constructs, well-formed}
+use Rattle.loading.proofs.Columns.{places-first}
 use Rattle.splitting.specs.Parts.{row}
 use Rattle.search.specs.Search.{Ready, Standing, Spread, Marked}
 
@@ -138,27 +146,51 @@ module _ {R : Region} {stops : List ℕ} (S : Stops R stops) where
 
 -- what a search asks of the tables
 
-pub ready : {D : Decoded} {edges : List (List ℕ)} {places : List ℕ} {ups low ins : ℕ} → Handed D edges places ups low ins → Ready edges places ups low ins
-ready {D} H = record { count = length (D .edges); stops = H .stops; split = H .split; begins = places-first (H .columns) (H .begins) }
+pub ready : {p : ℕ} {D : Decoded} {edges : List (List ℕ)} {places : List ℕ} {ups low ins : ℕ} → Handed p D edges places ups low ins → Ready edges places ups low ins
+ready {p} {D} H = record { count = length (edgesOf p D); stops = H .stops; split = H .split; begins = places-first (H .columns) (H .begins) }
 
--- the constructs that return: bit c of the mask of the begin of c, in a search from the ends
+-- the constructs that return: bit c of the mask of the begin of c, in a search from the ends. Of the begins only that of the region's own
+-- parallel is a barrier, and no edge leads to it.
 
-pub ends-reach : (D : Decoded) → WellFormed (region D) → (n : ℕ) → n ≡ length (D .constructs)
-    → {edges : List (List ℕ)} {places stops begins ends masks : List ℕ} {ups low ins : ℕ} (T : Arranged (region D) edges places stops ups low ins)
-    → Stops (region D) stops → Framed D beginNode begins → Framed D endNode ends
-    → Spread (Listed (row edges 0) (row edges 1) (T .count)) stops ends n masks
-    → maskOf (λ c. has (getD masks (getD begins c 0) 0) c) n ≡ returning (region D)
-unfolding returning returns
-ends-reach D W n q {stops = stops} {begins} {ends} {masks} T S B E w = rw q (mask-same _ _ _ (λ c l. bit c l))
-  where
-    passable : (c : ℕ) → c < length (D .constructs) → Clear stops (getD begins c 0)
-    passable c l = rw (B .at c l) (S .at _ ∙ sym (stop-byte (D .nodes) (frameOf (D .nodes) beginNode c) beginNode (sym (B .there c l))))
+module _ (s : List ℕ) (chart : Chart) (A : Accepted s chart) where
+  abbrev D : Decoded
+  D = decode s
 
-    bit : (c : ℕ) → c < length (D .constructs)
-        → has (getD masks (getD begins c 0) 0) c ≡ reachesFree (region D) (frameOf (D .nodes) endNode c) (frameOf (D .nodes) beginNode c)
-    bit c l =
-        ap (λ (m : ℕ). has m c) (free-mask W forward ends n (getD begins c 0) _ (along-mask S forward (T .listed-edge) (T .edge-listed) ends n (getD begins c 0) _
-        (w .clear (getD begins c 0) (B .node c) (passable c l))))
-        ∙ has-of (λ b. reachesFree (region D) (getD ends b 0) (getD begins c 0)) n c (omega arith)
-        ∙ ap (λ (x : ℕ). reachesFree (region D) x (getD begins c 0)) (E .at c l)
-        ∙ ap (reachesFree (region D) (frameOf (D .nodes) endNode c)) (B .at c l)
+  abbrev R : Region
+  R = reading s chart
+
+  W : WellFormed R
+  W = well-formed s chart A
+
+  start-begin : (c : ℕ) → c < length (D .constructs) → R .role (frameOf (D .nodes) beginNode c) ≡ barrier → R .start ≡ frameOf (D .nodes) beginNode c
+  start-begin c l w =
+      let f = frame-found D (tables s chart A) begin c l in
+      let q : chart .region ≡ c = sym (barrier-at D (chart .region) (frameOf (D .nodes) beginNode c) w .1) ∙ f .1 in
+      start-inner D (chart .region) (λ o. omega (arith, few-constructs s chart A)) ∙ ap (frameOf (D .nodes) beginNode) q
+
+  none-back : (c x : ℕ) → c < length (D .constructs) → R .role (frameOf (D .nodes) beginNode c) ≡ barrier → R .edge x (frameOf (D .nodes) beginNode c) ≡ true → ⊥
+  none-back c x l w e = W .start-first (subst (λ (y : ℕ). R .edge x y ≡ true) (sym (start-begin c l w)) e)
+
+  pub ends-reach : (n : ℕ) → n ≡ length (decode s .constructs)
+      → {edges : List (List ℕ)} {places stops begins ends masks : List ℕ} {ups low ins : ℕ} (T : Arranged (reading s chart) edges places stops ups low ins)
+      → Stops (reading s chart) stops → Framed (decode s) beginNode begins → Framed (decode s) endNode ends
+      → Spread (Listed (row edges 0) (row edges 1) (T .count)) stops ends n masks
+      → maskOf (λ c. has (getD masks (getD begins c 0) 0) c) n ≡ returning (reading s chart)
+  unfolding returning returns
+  ends-reach n q {edges} {stops = stops} {begins} {ends} {masks} T S B E w = rw q (mask-same _ _ _ (λ c l. bit c l (truth (noBarrier (R .role (getD begins c 0))))))
+    where
+      edge-in : (c : ℕ) {y : ℕ} → Listed (row edges 0) (row edges 1) (T .count) (getD ends c 0) (getD begins c 0) → getD begins c 0 ≡ y → R .edge (getD ends c 0) y ≡ true
+      edge-in c e q = subst (λ (y : ℕ). R .edge (getD ends c 0) y ≡ true) q (T .listed-edge _ _ e)
+
+      bit : (c : ℕ) → c < length (D .constructs) → (noBarrier (R .role (getD begins c 0)) ≡ true) ⊎ (noBarrier (R .role (getD begins c 0)) ≡ false)
+          → has (getD masks (getD begins c 0) 0) c ≡ reachesFree R (frameOf (D .nodes) endNode c) (frameOf (D .nodes) beginNode c)
+      bit c l (inl t) =
+          ap (λ (m : ℕ). has m c) (free-mask W forward ends n (getD begins c 0) _ (along-mask S forward (T .listed-edge) (T .edge-listed) ends n (getD begins c 0) _
+          (w .clear (getD begins c 0) (B .node c) (S .at _ ∙ rw t))))
+          ∙ has-of (λ b. reachesFree R (getD ends b 0) (getD begins c 0)) n c (omega arith)
+          ∙ ap (λ (x : ℕ). reachesFree R x (getD begins c 0)) (E .at c l)
+          ∙ ap (reachesFree R (frameOf (D .nodes) endNode c)) (B .at c l)
+      bit c l (inr t) =
+          let b : R .role (frameOf (D .nodes) beginNode c) ≡ barrier = rw (← B .at c l) (is-barrier _ t) in
+          false-if (λ h. none-back c (getD ends c 0) l b (edge-in c (w .stop (getD begins c 0) (B .node c) (stopped S _ t) .only c (omega arith) (eqb-true _ 1 h)) (B .at c l)))
+          ∙ sym (false-if (λ h. let e = last-edge (free-path R W _ _ h) in none-back c (e .0) l b (e .1)))

@@ -52,7 +52,7 @@ pub fn returns(
     parts: Parts,
     stops: &[u8; Chart::NODES],
 ) -> u64
-    requires { ⌜ Accepted (now s) chart × Arranged (reading (now s) chart) (now edges) (now places) (now stops) (parts .ups) (parts .low) (parts .ins) × Stops (reading (now s) chart) (now stops) × Handed (decode (now s)) (now edges) (now places) (parts .ups) (parts .low) (parts .ins) ⌝ }
+    requires { ⌜ Accepted (now s) chart × Arranged (reading (now s) chart) (now edges) (now places) (now stops) (parts .ups) (parts .low) (parts .ins) × Stops (reading (now s) chart) (now stops) × Handed (chart .region) (decode (now s)) (now edges) (now places) (parts .ups) (parts .low) (parts .ins) ⌝ }
     ensures { λ r. ⌜ r ≡ returning (reading (now (s .entry)) chart) ⌝ }
 {
     let n = chart.constructs;

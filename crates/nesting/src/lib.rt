@@ -42,7 +42,7 @@ fn bad_construct(construct: Construct, c: usize) -> bool
     if kind < Construct::SINGLE {
         return true;
     }
-    if Construct::SECTION < kind {
+    if Construct::PARALLEL < kind {
         return true;
     }
     if bad_parent(construct.parent, c) {
@@ -79,7 +79,8 @@ fn excludes(
     inner.name == outer.name
 }
 
-// Whether some construct above c may not stand there. Parents are lower, so the walk upwards ends.
+// Whether some construct above c in its region may not stand there. The walk upwards stops at the first parallel, where nesting starts anew;
+// parents are lower, so it ends.
 fn bad_above(
     s: &[u8],
     chart: Chart,
@@ -93,6 +94,9 @@ fn bad_above(
     let mut p = inner.parent;
     while p != Construct::NONE {
         let outer = Construct::read(s, chart, wide(p));
+        if outer.kind == Construct::PARALLEL {
+            return false;
+        }
         if excludes(table, inner, outer) {
             return true;
         }

@@ -1,23 +1,28 @@
 // Rows 5, 7 and 8 of the refusals, over the nodes.
 ghost use mathlib.Core.Path.{_≡_};
-ghost use mathlib.Core.Bool.{true, false, _&&_, not, cond};
+ghost use mathlib.Core.Bool.{_&&_, not, cond};
 ghost use Prim.Native.Nat.{ℕ, _+_, _-_, _≤_, _<_};
-ghost use lib.Dec.{eqb};
+ghost use lib.Dec.{eqb, leb};
 ghost use lib.ListN.{getD, length};
-ghost use Rattle.lists.specs.Range.{any, count};
-ghost use Rattle.chart.specs.Format.{decode};
-ghost use Rattle.chart.specs.Scope.{beginNode, endNode};
-ghost use Rattle.chart.specs.Refusal.{badNode, badNodes, badFrames, isBarrier, badBarriers};
+ghost use Rattle.lists.specs.Range.{any};
+ghost use Rattle.chart.specs.Format.{outside, decode};
+ghost use Rattle.chart.specs.Scope.{barrierNode, beginNode, endNode};
+ghost use Rattle.chart.specs.Nested.{isParallel};
+ghost use Rattle.chart.specs.Refusal.{badNode, badNodes, badFrames, tooManyIn, badBarriers};
 ghost use Rattle.chart.specs.Checked.{Laid};
-ghost use Rattle.nodes.specs.Frames.{Frames};
+ghost use Rattle.nodes.specs.Counted.{Counted, isFrame, aloneAt};
 use chart::cursor::wide;
 use chart::format::Chart;
 use chart::format::Construct;
 use chart::format::Node;
 
-// Row 5, of one node.
-fn bad_node(node: Node, constructs: usize) -> bool
-    ensures { λ r. ⌜ r ≡ badNode constructs (node .kind) (node .number) ⌝ }
+// How many numbers a node may have.
+const NUMBERS: usize = 256;
+
+// Row 5, of one node by itself.
+fn bad_node(s: &[u8], chart: Chart, node: Node) -> bool
+    requires { ⌜ Laid (now s) chart ⌝ }
+    ensures { λ r. ⌜ r ≡ badNode (decode (now (s .entry)) .constructs) (node .kind) (node .number) ⌝ }
 {
     let kind = node.kind;
     let number = node.number;
@@ -27,22 +32,25 @@ fn bad_node(node: Node, constructs: usize) -> bool
     if number == Construct::NONE {
         return Node::BEGIN <= kind;
     }
-    if constructs <= wide(number) {
+    let c = wide(number);
+    if chart.constructs <= c {
         return true;
     }
-    kind == Node::BARRIER
+    if kind != Node::BARRIER {
+        return false;
+    }
+    Construct::read(s, chart, c).kind != Construct::PARALLEL
 }
 
-// Row 5.
-pub fn bad_nodes(s: &[u8], chart: Chart) -> bool
+// Row 5, of each node by itself.
+fn bad_each(s: &[u8], chart: Chart) -> bool
     requires { ⌜ Laid (now s) chart ⌝ }
-    ensures { λ r. ⌜ r ≡ badNodes (decode (now (s .entry))) ⌝ }
+    ensures { λ r. ⌜ r ≡ any (length (decode (now (s .entry)) .nodes)) (aloneAt (decode (now (s .entry)))) ⌝ }
 {
     let n = chart.nodes;
-    let c = chart.constructs;
     let mut x = 0;
     while x < n {
-        if bad_node(Node::read(s, chart, x), c) {
+        if bad_node(s, chart, Node::read(s, chart, x)) {
             return true;
         }
         x += 1;
@@ -50,40 +58,60 @@ pub fn bad_nodes(s: &[u8], chart: Chart) -> bool
     false
 }
 
-// One node more: where it is of this kind, it counts for its number.
-fn count_frame(node: Node, kind: u8, found: &mut [u8; Chart::CONSTRUCTS])
-    requires { ⌜ (length (now found) ≡ 48) × (node .kind ≡ kind → node .number < 48) × ((c : ℕ) → getD (now found) c 0 < 192) ⌝ }
-    ensures { λ _. ⌜ (length (now (found .exit)) ≡ 48) × ((c : ℕ) → getD (now (found .exit)) c 0 ≡ getD (now (found .entry)) c 0 + cond (eqb (node .kind) kind && eqb (node .number) c) 1 0) ⌝ }
+// A barrier that names a region, as none may at either end of the chart.
+fn names_region(node: Node) -> bool
+    ensures { λ r. ⌜ r ≡ (eqb (node .kind) barrierNode && not (eqb (node .number) outside)) ⌝ }
 {
-    if node.kind == kind {
-        let c = wide(node.number);
+    let number = node.number;
+    if node.kind != Node::BARRIER {
+        return false;
+    }
+    number != Construct::NONE
+}
+
+// Row 5.
+pub fn bad_nodes(s: &[u8], chart: Chart) -> bool
+    requires { ⌜ Laid (now s) chart ⌝ }
+    ensures { λ r. ⌜ r ≡ badNodes (decode (now (s .entry))) ⌝ }
+{
+    if names_region(Node::read(s, chart, 0)) {
+        return true;
+    }
+    if names_region(Node::read(s, chart, chart.nodes - 1)) {
+        return true;
+    }
+    bad_each(s, chart)
+}
+
+// Where that holds of a node, it counts for its number.
+fn count_if(holds: bool, number: u8, found: &mut [u8; NUMBERS])
+    requires { ⌜ (length (now found) ≡ 256) × ((c : ℕ) → getD (now found) c 0 < 192) ⌝ }
+    ensures { λ _. ⌜ (length (now (found .exit)) ≡ 256) × ((c : ℕ) → getD (now (found .exit)) c 0 ≡ getD (now (found .entry)) c 0 + cond (holds && eqb number c) 1 0) ⌝ }
+{
+    if holds {
+        let c = wide(number);
         found[c] += 1;
     }
 }
 
 // How many begins and how many ends each construct has.
-fn count_frames(
-    s: &[u8],
-    chart: Chart,
-    begins: &mut [u8; Chart::CONSTRUCTS],
-    ends: &mut [u8; Chart::CONSTRUCTS],
-)
-    requires { ⌜ Laid (now s) chart × (badNodes (decode (now s)) ≡ false) × Frames (decode (now s)) beginNode 0 (now begins) × Frames (decode (now s)) endNode 0 (now ends) ⌝ }
-    ensures { λ _. ⌜ Frames (decode (now (s .entry))) beginNode (chart .nodes) (now (begins .exit)) × Frames (decode (now (s .entry))) endNode (chart .nodes) (now (ends .exit)) ⌝ }
+fn count_frames(s: &[u8], chart: Chart, begins: &mut [u8; NUMBERS], ends: &mut [u8; NUMBERS])
+    requires { ⌜ Laid (now s) chart × Counted (decode (now s)) (isFrame beginNode) 0 (now begins) × Counted (decode (now s)) (isFrame endNode) 0 (now ends) ⌝ }
+    ensures { λ _. ⌜ Counted (decode (now (s .entry))) (isFrame beginNode) (chart .nodes) (now (begins .exit)) × Counted (decode (now (s .entry))) (isFrame endNode) (chart .nodes) (now (ends .exit)) ⌝ }
 {
     let n = chart.nodes;
     let mut x = 0;
     while x < n {
         let node = Node::read(s, chart, x);
-        count_frame(node, Node::BEGIN, begins);
-        count_frame(node, Node::END, ends);
+        count_if(node.kind == Node::BEGIN, node.number, begins);
+        count_if(node.kind == Node::END, node.number, ends);
         x += 1;
     }
 }
 
 // Whether one of the first c counts is not 1.
-fn not_ones(found: &[u8; Chart::CONSTRUCTS], c: usize) -> bool
-    requires { ⌜ (c ≤ 48) × (length (now found) ≡ 48) ⌝ }
+fn not_ones(found: &[u8; NUMBERS], c: usize) -> bool
+    requires { ⌜ (c ≤ 48) × (length (now found) ≡ 256) ⌝ }
     ensures { λ r. ⌜ r ≡ any c (λ k. not (eqb (getD (now (found .entry)) k 0) 1)) ⌝ }
 {
     let mut k = 0;
@@ -98,11 +126,11 @@ fn not_ones(found: &[u8; Chart::CONSTRUCTS], c: usize) -> bool
 
 // Row 7.
 pub fn bad_frames(s: &[u8], chart: Chart) -> bool
-    requires { ⌜ Laid (now s) chart × (badNodes (decode (now s)) ≡ false) ⌝ }
+    requires { ⌜ Laid (now s) chart ⌝ }
     ensures { λ r. ⌜ r ≡ badFrames (decode (now (s .entry))) ⌝ }
 {
-    let mut begins = [0u8; Chart::CONSTRUCTS];
-    let mut ends = [0u8; Chart::CONSTRUCTS];
+    let mut begins = [0u8; NUMBERS];
+    let mut ends = [0u8; NUMBERS];
     count_frames(s, chart, &mut begins, &mut ends);
     let c = chart.constructs;
     if not_ones(&begins, c) {
@@ -111,29 +139,45 @@ pub fn bad_frames(s: &[u8], chart: Chart) -> bool
     not_ones(&ends, c)
 }
 
-// 1 for a barrier, 0 for any other node.
-fn barrier(node: Node) -> usize
-    ensures { λ r. ⌜ r ≡ cond (eqb (node .kind) 1) 1 0 ⌝ }
-{
-    if node.kind == Node::BARRIER {
-        return 1;
-    }
-    0
-}
-
-// How many of the nodes are barriers.
-fn count_barriers(s: &[u8], chart: Chart) -> usize
-    requires { ⌜ Laid (now s) chart ⌝ }
-    ensures { λ r. ⌜ r ≡ count (chart .nodes) (isBarrier (decode (now (s .entry)) .nodes)) ⌝ }
+// How many barriers each region has, its begin and its end among them, if the number is a region's.
+fn count_barriers(s: &[u8], chart: Chart, found: &mut [u8; NUMBERS])
+    requires { ⌜ Laid (now s) chart × Counted (decode (now s)) (leb barrierNode) 0 (now found) ⌝ }
+    ensures { λ _. ⌜ Counted (decode (now (s .entry))) (leb barrierNode) (chart .nodes) (now (found .exit)) ⌝ }
 {
     let n = chart.nodes;
-    let mut barriers = 0;
     let mut x = 0;
     while x < n {
-        barriers += barrier(Node::read(s, chart, x));
+        let node = Node::read(s, chart, x);
+        count_if(Node::BARRIER <= node.kind, node.number, found);
         x += 1;
     }
-    barriers
+}
+
+// Whether c is a parallel whose region has over 64 barriers. Few numbers are counted so often: the construct is read last.
+fn crowded_at(s: &[u8], chart: Chart, found: &[u8; NUMBERS], c: usize) -> bool
+    requires { ⌜ Laid (now s) chart × Counted (decode (now s)) (leb barrierNode) (chart .nodes) (now found) × (c < chart .constructs) ⌝ }
+    ensures { λ r. let D = decode (now (s .entry)) in ⌜ r ≡ (isParallel (D .constructs) c && tooManyIn (D .nodes) c) ⌝ }
+{
+    if wide(found[c]) <= Chart::BARRIERS {
+        return false;
+    }
+    Construct::read(s, chart, c).kind == Construct::PARALLEL
+}
+
+// Whether the region of some parallel has over 64 barriers.
+fn crowded(s: &[u8], chart: Chart, found: &[u8; NUMBERS]) -> bool
+    requires { ⌜ Laid (now s) chart × Counted (decode (now s)) (leb barrierNode) (chart .nodes) (now found) ⌝ }
+    ensures { λ r. let D = decode (now (s .entry)) in ⌜ r ≡ any (length (D .constructs)) (λ c. isParallel (D .constructs) c && tooManyIn (D .nodes) c) ⌝ }
+{
+    let n = chart.constructs;
+    let mut c = 0;
+    while c < n {
+        if crowded_at(s, chart, found, c) {
+            return true;
+        }
+        c += 1;
+    }
+    false
 }
 
 // Row 8.
@@ -148,5 +192,10 @@ pub fn bad_barriers(s: &[u8], chart: Chart) -> bool
     if Node::read(s, chart, n - 1).kind != Node::BARRIER {
         return true;
     }
-    Chart::BARRIERS < count_barriers(s, chart)
+    let mut found = [0u8; NUMBERS];
+    count_barriers(s, chart, &mut found);
+    if Chart::BARRIERS < wide(found[Chart::OUTERMOST]) {
+        return true;
+    }
+    crowded(s, chart, &found)
 }

@@ -1,32 +1,24 @@
--- Row 13 of a number, by the chart's table of nodes.
+-- Row 13 of a number, by the flags of the nodes that a claim may not name.
 -- Assumes nothing.
 use mathlib.Core.Path.{_≡_}
-use mathlib.Core.Bool.{true, not}
+use mathlib.Core.Bool.{true, false, not}
+use mathlib.Core.Logic.{inl, inr}
+use mathlib.Core.List.{List}
 use Prim.Native.Nat.{ℕ, _≤_, _<_}
-use native.Mathlib.Decide.{ℕ-discrete}
+use native.Mathlib.Omega.{arith}
 use lib.Dec.{eqb}
-use lib.ListN.{length}
-use borrow.Author.Tests.{eq-eqb, ne-eqb, lt-ltb, le-ltb}
-use Rattle.chart.specs.Format.{Decoded, nodeAt}
-use Rattle.chart.specs.Region.{barrier}
-use Rattle.chart.specs.Scope.{barrierNode, roleOf, roleAt}
-use Rattle.chart.specs.Reading.{region}
-use Rattle.chart.proofs.Scopes.{role-is, barrier-role}
-use Rattle.paths.specs.Decide.{noBarrier, barrier-no}
-use Rattle.answers.specs.Numbers.{asked, badNumber}
+use lib.ListN.{getD}
+use Rattle.lists.specs.Truth.{truth}
+use Rattle.chart.specs.Region.{Region}
+use Rattle.chart.specs.WellFormed.{WellFormed}
+use Rattle.answers.specs.Numbers.{asked, asked-node, badNumber}
+use Rattle.loading.specs.Tables.{Closed}
 
-barrier-kind : (kind number : ℕ) → eqb kind barrierNode ≡ not (noBarrier (roleOf kind number))
-barrier-kind kind number = go (ℕ-discrete kind barrierNode)
-  where
-    go : Dec (kind ≡ barrierNode) → eqb kind barrierNode ≡ not (noBarrier (roleOf kind number))
-    go (yes q) = rw (eq-eqb kind barrierNode q, barrier-role number q)
-    go (no d) = rw (ne-eqb kind barrierNode d, barrier-no (roleOf kind number) (λ h. d (role-is kind number barrier h)))
+module _ (R : Region) (x : ℕ) where
+  pub past-bad : WellFormed R → R .nodes ≤ x → badNumber R x ≡ true
+  unfolding badNumber
+  past-bad W l = elim (truth (asked R x)) [ inl h ↦ absurd (omega (arith, W .kept-below (asked-node R x h .0))) | inr h ↦ rw h ]
 
-module _ (D : Decoded) (x : ℕ) where
-  pub past-bad : length (D .nodes) ≤ x → badNumber (region D) x ≡ true
-  unfolding badNumber asked
-  past-bad l = rw (le-ltb x (length (D .nodes)) l)
-
-  pub node-bad : x < length (D .nodes) → eqb (nodeAt (D .nodes) x .kind) barrierNode ≡ badNumber (region D) x
-  unfolding badNumber asked roleAt
-  node-bad l = rw (lt-ltb x (length (D .nodes)) l) (barrier-kind _ _)
+  pub flag-bad : (closed : List ℕ) → Closed R closed → x < R .nodes → badNumber R x ≡ not (eqb (getD closed x 0) 0)
+  unfolding badNumber
+  flag-bad closed C l = elim (truth (asked R x)) [ inl h ↦ rw (C .at x l, h) | inr h ↦ rw (C .at x l, h) ]

@@ -1,18 +1,19 @@
 // Node numbers that a caller hands over.
 ghost use mathlib.Core.Path.{_≡_};
-ghost use Rattle.chart.specs.Checked.{Laid, reading};
+ghost use Prim.Native.Nat.{_≤_};
+ghost use Rattle.chart.specs.Region.{Region};
+ghost use Rattle.chart.specs.WellFormed.{WellFormed};
 ghost use Rattle.answers.specs.Numbers.{badNumber};
+ghost use Rattle.loading.specs.Tables.{Closed};
 use chart::format::Chart;
-use chart::format::Node;
 
-// Row 13, of one number.
-pub fn bad_number(s: &[u8], chart: Chart, x: usize) -> bool
-    requires { ⌜ Laid (now s) chart ⌝ }
-    ensures { λ r. ⌜ r ≡ badNumber (reading (now (s .entry)) chart) x ⌝ }
+// Row 13, of one number: that of none of n nodes, or of one that a claim may not name.
+pub fn bad_number(x: usize, n: usize, closed: &[u8; Chart::NODES]) -> bool
+    requires { ⌜ n ≤ 192 ⌝ }
+    ensures { λ r. ⌜ ((R : Region) → WellFormed R → R .nodes ≡ n → Closed R (now (closed .entry)) → r ≡ badNumber R x) ⌝ }
 {
-    let n = chart.nodes;
     if x >= n {
         return true;
     }
-    Node::read(s, chart, x).kind == Node::BARRIER
+    closed[x] != 0
 }

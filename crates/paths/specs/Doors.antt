@@ -4,7 +4,7 @@ use mathlib.Core.Path.{_≡_, subst}
 use mathlib.Core.Logic.{_⊎_, inl, inr, _≢_}
 use Prim.Native.Nat.{ℕ}
 use native.Mathlib.Decide.{ℕ-discrete}
-use Rattle.paths.specs.Path.{Path, last, next}
+use Rattle.paths.specs.Path.{Path, last, next, Any}
 
 abbrev pub Both : (ℕ → Type 0) → (ℕ → Type 0) → ℕ → Type 0
 Both P Q x = P x × Q x
@@ -45,3 +45,15 @@ module _ {E : ℕ → ℕ → Type 0} (I Door Out : ℕ → Type 0) {d : ℕ} (o
 
   pub by-door : {P : ℕ → Type 0} {x y : ℕ} → ¬ (I x) → ¬ (Door x) → Path E P x y → I y ⊎ Out y → Path E P x d × Path E (Both P I) d y
   by-door n o w b = elim (last-entry w b) [ inl h ↦ absurd (n (h .0)) | inr h ↦ elim (h .0) [ inl q ↦ absurd (o q) | inr v ↦ (v, h .1) ] ]
+
+-- a path whose nodes have S stays one along other edges, where those that leave S are among these
+pub carry-from : {E F : ℕ → ℕ → Type 0} {P Q : ℕ → Type 0} (S : ℕ → Type 0) → ((x y : ℕ) → S x → E x y → F x y) → ((z : ℕ) → P z → S z × Q z)
+    → {x y : ℕ} → S x → Path E P x y → Path F Q x y
+carry-from S f g s (last e) = last (f _ _ s e)
+carry-from S f g s (next e p w) = let (a, q) = g _ p in next (f _ _ s e) q (carry-from S f g a w)
+
+-- a path from elsewhere into a set with one door, along edges that leave the set and the door
+module _ {E F : ℕ → ℕ → Type 0} (I Door Out : ℕ → Type 0) {d : ℕ} (one : (x : ℕ) → Door x → x ≡ d) (own : Door d)
+    (back : (x y : ℕ) → E x y → I y ⊎ Out y → I x ⊎ Door x) (kept : (x y : ℕ) → I x ⊎ Door x → E x y → F x y) where
+  pub inner-path : {x y : ℕ} → ¬ (I x) → ¬ (Door x) → Path E Any x y → I y ⊎ Out y → Path F Any d y
+  inner-path n o w b = carry-from (λ z. I z ⊎ Door z) kept (λ z p. (inl (p .1), tt)) (inr own) (by-door I Door Out one back n o w b .1)

@@ -11,4 +11,6 @@ pub mod Found
 pub mod FoundLaws
 pub mod Admission
 pub mod Row10
+pub mod Inner
 pub mod AdmissionLaws
+pub mod Cut

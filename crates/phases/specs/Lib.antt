@@ -1,2 +1,3 @@
 pub mod Phases
 pub mod PhasesLaws
+pub mod Counted

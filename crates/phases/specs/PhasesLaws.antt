@@ -16,6 +16,7 @@ use Rattle.lists.specs.Select.{select-passes, select-at, select-number}
 use Rattle.chart.specs.Region.{Role, plain, barrier, opens, closes, Region}
 use Rattle.chart.specs.WellFormed.{WellFormed}
 use Rattle.paths.specs.Path.{Path, last, next, Edge, Open, BarrierFree}
+use Rattle.paths.specs.PathLaws.{first-edge, last-edge}
 use Rattle.paths.specs.Decide.{noBarrier, no-barrier, barrier-no, free-path, path-free, returns}
 use Rattle.phases.specs.Phases.{Direction, forward, backward, Free, leads, Boundary, isBoundary, barriers, barrierAt, marked, marks, phase}
 
@@ -98,6 +99,11 @@ module _ (R : Region) (W : WellFormed R) where
   pub ends-below : {P : ℕ → Type 0} {x y : ℕ} → Path (Edge R) P x y → y < R .nodes
   ends-below (last e) = W .to-below e
   ends-below (next e p w) = ends-below w
+
+  -- only nodes of the region have starts and ends
+  pub boundary-kept : (d : Direction) {x s : ℕ} → Boundary d R x s → R .kept x ≡ true
+  boundary-kept forward B = W .to-kept (last-edge (B .path) .1)
+  boundary-kept backward B = W .from-kept (first-edge (B .path) .1)
 
   -- the pairs that `phaseCount` counts
   pub phase-means : (b c : ℕ) → ((b < length (barriers R)) × (c < length (barriers R)) × (phase R b c ≡ true)) ↔ Phase R b c

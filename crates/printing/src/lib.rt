@@ -18,14 +18,14 @@ fn print_refusal(refusal: Refusal) {
     io::write_all(1, b"\n");
 }
 
-// The lines of an admitted chart.
+// The lines of an admitted chart: those of its outermost region.
 fn print_admitted(s: &[u8], counts: Counts)
     requires { ⌜ counts .nodes ≤ 192 ⌝ }
 {
     let mut masks = [0u8; 3072];
     let mut answers = [0u8; 36864];
-    phases(s, &mut masks);
-    sheet(s, &mut answers);
+    phases(s, Chart::OUTERMOST, &mut masks);
+    sheet(s, Chart::OUTERMOST, &mut answers);
     lines::counts(counts);
     lines::nodes(&masks, &answers, counts.nodes);
     lines::pairs(&answers, counts.nodes);

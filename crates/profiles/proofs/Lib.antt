@@ -1,4 +1,5 @@
 pub mod Constructs
 pub mod Masters
+pub mod Membership
 pub mod Facts
 pub mod Nodes

@@ -13,7 +13,7 @@ use Rattle.lists.specs.Mask.{Mask, maskOf, mask-of, mask-carry}
 use Rattle.chart.specs.Format.{Construct, decode, constructAt}
 use Rattle.chart.specs.Region.{master, Region}
 use Rattle.chart.specs.Scope.{masterByte, criticalByte, kindOf}
-use Rattle.chart.specs.Reading.{region}
+use Rattle.chart.specs.Checked.{reading}
 use Rattle.chart.specs.declared.format.Chart.{Chart}
 use Rattle.chart.proofs.Records.{no-filter}
 use Rattle.loading.specs.Tables.{Accepted}
@@ -24,7 +24,7 @@ use Rattle.profiles.proofs.Constructs.{kind-byte}
 
 module _ (s : List ℕ) (chart : Chart) (A : Accepted s chart) (c : ℕ) where
   abbrev R : Region
-  R = region (decode s)
+  R = reading s chart
 
   abbrev at : ℕ → Construct
   at d = constructAt (decode s .constructs) d

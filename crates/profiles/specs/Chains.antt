@@ -1,7 +1,7 @@
 -- What is computed of the constructs on the way to the masks of nodes: what a node in each construct holds, and the constructs of one kind.
 -- Assumes nothing.
 use mathlib.Core.Path.{_≡_}
-use mathlib.Core.Bool.{Bool, _&&_, cond}
+use mathlib.Core.Bool.{Bool, _&&_, _||_, not, cond}
 use mathlib.Core.List.{List}
 use Prim.Native.Nat.{ℕ, _^_, _<_}
 use lib.Dec.{eqb}
@@ -9,8 +9,8 @@ use lib.ListN.{length, getD}
 use Rattle.lists.specs.Mask.{Mask}
 use Rattle.lists.specs.Bits.{has}
 use Rattle.chart.specs.Format.{outside, Construct, constructAt}
-use Rattle.chart.specs.Region.{Kind, single, master, critical, loop, ordered, sections, section, Region}
-use Rattle.chart.specs.Scope.{singleByte, masterByte, orderedByte, sectionByte, Encloses}
+use Rattle.chart.specs.Region.{Kind, single, master, critical, loop, ordered, sections, section, parallel, Region}
+use Rattle.chart.specs.Scope.{singleByte, masterByte, orderedByte, sectionByte, parallelByte, Encloses}
 use Rattle.answers.specs.Unexcluded.{Returns}
 
 -- What makes a node inside construct c hold construct d, by the kind of c.
@@ -22,6 +22,7 @@ Gives R c d loop = ⊥
 Gives R c d ordered = (d ≡ R .parent c) × (Returns R d → ⊥)
 Gives R c d sections = ⊥
 Gives R c d section = (d ≡ c) × (Returns R (R .parent d) → ⊥)
+Gives R c d parallel = ⊥
 
 -- A node that lies in p holds d: so a construct of the region gives it, which is p or stands above p.
 abbrev pub HeldIn : Region → (ℕ → Type 0) → ℕ → ℕ → Type 0
@@ -46,6 +47,10 @@ ownMask kind parent c returning masters =
     cond (eqb kind masterByte) masters
     (cond (eqb kind singleByte) (lastingBit returning c c)
     (cond (eqb kind orderedByte) (lastingBit returning parent parent) (cond (eqb kind sectionByte) (lastingBit returning parent c) 0)))
+
+-- A construct of this kind and parent is one of the region p, of whose constructs of lower numbers the mask tells.
+unfoldable pub isMember : ℕ → ℕ → ℕ → ℕ → Bool
+isMember kind parent p members = not (eqb kind parallelByte) && (eqb parent p || (not (eqb parent outside) && has members parent))
 
 -- Construct c is of this kind.
 unfoldable pub isOf : List Construct → ℕ → ℕ → Bool

@@ -7,7 +7,7 @@ use mathlib.Core.List.{List, []}
 use Prim.Native.Nat.{ℕ, _≤_, _<_}
 use lib.ListN.{getD}
 use Rattle.lists.specs.Mask.{Mask}
-use Rattle.chart.specs.Region.{Kind, single, master, critical, loop, ordered, sections, section, Region}
+use Rattle.chart.specs.Region.{Kind, single, master, critical, loop, ordered, sections, section, parallel, Region}
 use Rattle.chart.specs.InOrdered.{InOrdered}
 use Rattle.chart.specs.InSection.{InSection}
 use Rattle.chart.specs.WellFormed.{WellFormed}
@@ -25,6 +25,7 @@ Holds R x d loop = InOrdered R x d × (Returns R d → ⊥)
 Holds R x d ordered = ⊥
 Holds R x d sections = ⊥
 Holds R x d section = InSection R x d × (Returns R (R .parent d) → ⊥)
+Holds R x d parallel = ⊥
 
 -- The mask of the constructs that x holds, and that of the constructs of a kind.
 abbrev pub Held : Region → ℕ → ℕ → Type 0

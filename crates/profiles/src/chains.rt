@@ -1,16 +1,21 @@
 // Masks of constructs: what a node in each of them holds, and the constructs of each kind.
 ghost use mathlib.Core.Path.{_≡_};
+ghost use mathlib.Core.Bool.{cond};
 ghost use Prim.Native.Nat.{_+_, _<_};
 ghost use lib.ListN.{length};
+ghost use Rattle.lists.specs.Bits.{has as hasBit};
+ghost use Rattle.lists.specs.Mask.{maskOf};
 ghost use Rattle.chart.specs.Format.{outside, decode};
 ghost use Rattle.chart.specs.Region.{master};
 ghost use Rattle.chart.specs.Scope.{orderedByte, sectionByte};
+ghost use Rattle.chart.specs.Nested.{countsIn};
 ghost use Rattle.chart.specs.Checked.{reading};
-ghost use Rattle.chart.proofs.Whole.{Counts};
+ghost use Rattle.chart.proofs.RegionFacts.{Counts};
 ghost use Rattle.phases.specs.Phases.{returning as returningMask};
 ghost use Rattle.loading.specs.Tables.{Accepted};
 ghost use Rattle.profiles.specs.Chains.{Chains, maskAt, lastingBit, ownMask};
 ghost use Rattle.profiles.specs.Marks.{OfKind, Kinds};
+use crate::members::members_of;
 use crate::peers::add_if;
 use crate::peers::masters_like;
 use bits::bit;
@@ -64,21 +69,33 @@ fn own(construct: Construct, c: usize, returning: u64, masters: u64) -> u64
     0
 }
 
+// The same, where construct c is one of the region's; a deeper one gives nothing.
+fn gives(construct: Construct, c: usize, members: u64, returning: u64, masters: u64) -> u64
+    requires { ⌜ (c < 48) × (construct .kind ≡ orderedByte → construct .parent < 48) × (construct .kind ≡ sectionByte → construct .parent < 48) ⌝ }
+    ensures { λ r. ⌜ r ≡ cond (hasBit members c) (ownMask (construct .kind) (construct .parent) c returning masters) 0 ⌝ }
+{
+    if !has(members, c) {
+        return 0;
+    }
+    own(construct, c, returning, masters)
+}
+
 // One construct more. Its parent is lower, and so done.
 fn add_construct(
     s: &[u8],
     chart: Chart,
     c: usize,
+    members: u64,
     returning: u64,
     masters: u64,
     held: &mut [u64; Chart::CONSTRUCTS],
 )
-    requires { ⌜ Accepted (now s) chart × (c < chart .constructs) × (returning ≡ returningMask (reading (now s) chart)) × OfKind (reading (now s) chart) master masters × Chains (reading (now s) chart) (Counts (decode (now s))) c (now held) ⌝ }
-    ensures { λ _. ⌜ Chains (reading (now (s .entry)) chart) (Counts (decode (now (s .entry)))) (c + 1) (now (held .exit)) ⌝ }
+    requires { ⌜ Accepted (now s) chart × (c < chart .constructs) × (members ≡ maskOf (countsIn (decode (now s) .constructs) (chart .region)) (chart .constructs)) × (returning ≡ returningMask (reading (now s) chart)) × OfKind (reading (now s) chart) master masters × Chains (reading (now s) chart) (Counts (decode (now s)) (chart .region)) c (now held) ⌝ }
+    ensures { λ _. ⌜ Chains (reading (now (s .entry)) chart) (Counts (decode (now (s .entry))) (chart .region)) (c + 1) (now (held .exit)) ⌝ }
 {
     let construct = Construct::read(s, chart, c);
     let like = masters_like(s, chart, c, masters);
-    held[c] = mask_at(held, construct.parent) | own(construct, c, returning, like);
+    held[c] = mask_at(held, construct.parent) | gives(construct, c, members, returning, like);
 }
 
 // For each construct what a node that lies in it holds, given the constructs that return and the masters.
@@ -90,12 +107,13 @@ pub fn fill_chains(
     held: &mut [u64; Chart::CONSTRUCTS],
 )
     requires { ⌜ Accepted (now s) chart × (returning ≡ returningMask (reading (now s) chart)) × OfKind (reading (now s) chart) master masters × (length (now held) ≡ 48) ⌝ }
-    ensures { λ _. ⌜ Chains (reading (now (s .entry)) chart) (Counts (decode (now (s .entry)))) (chart .constructs) (now (held .exit)) ⌝ }
+    ensures { λ _. ⌜ Chains (reading (now (s .entry)) chart) (Counts (decode (now (s .entry))) (chart .region)) (chart .constructs) (now (held .exit)) ⌝ }
 {
+    let members = members_of(s, chart);
     let n = chart.constructs;
     let mut c = 0;
     while c < n {
-        add_construct(s, chart, c, returning, masters, held);
+        add_construct(s, chart, c, members, returning, masters, held);
         c += 1;
     }
 }

@@ -1,5 +1,6 @@
 // What the pair rules read of a node, as masks: its starts and ends, which the searches find, and the constructs that it holds, made in one
-// pass over the constructs (`chains`, with `peers`) and one over the nodes (`marks`).
+// pass over the constructs (`chains`, with `members` and `peers`) and one over the nodes (`marks`).
 pub mod chains;
 pub mod marks;
+pub mod members;
 pub mod peers;

@@ -5,7 +5,7 @@ ghost use lib.ListN.{length, getD};
 ghost use Rattle.chart.specs.Format.{decode};
 ghost use Rattle.chart.specs.Region.{section};
 ghost use Rattle.chart.specs.Checked.{reading};
-ghost use Rattle.chart.proofs.Whole.{Counts};
+ghost use Rattle.chart.proofs.RegionFacts.{Counts};
 ghost use Rattle.phases.specs.Phases.{returning as returningMask};
 ghost use Rattle.loading.specs.Tables.{Accepted};
 ghost use Rattle.profiles.specs.Chains.{Chains};
@@ -38,7 +38,7 @@ fn held_at(
     chains: &[u64; Chart::CONSTRUCTS],
     sections: u64,
 ) -> u64
-    requires { ⌜ Accepted (now s) chart × (x < chart .nodes) × Chains (reading (now s) chart) (Counts (decode (now s))) (chart .constructs) (now chains) × OfKind (reading (now s) chart) section sections ⌝ }
+    requires { ⌜ Accepted (now s) chart × (x < chart .nodes) × Chains (reading (now s) chart) (Counts (decode (now s)) (chart .region)) (chart .constructs) (now chains) × OfKind (reading (now s) chart) section sections ⌝ }
     ensures { λ r. ⌜ Held (reading (now (s .entry)) chart) x r ⌝ }
 {
     let node = Node::read(s, chart, x);
@@ -58,7 +58,7 @@ fn mark_nodes(
     sections: u64,
     held: &mut [u64; Chart::NODES],
 )
-    requires { ⌜ Accepted (now s) chart × Chains (reading (now s) chart) (Counts (decode (now s))) (chart .constructs) (now chains) × OfKind (reading (now s) chart) section sections × (length (now held) ≡ 192) ⌝ }
+    requires { ⌜ Accepted (now s) chart × Chains (reading (now s) chart) (Counts (decode (now s)) (chart .region)) (chart .constructs) (now chains) × OfKind (reading (now s) chart) section sections × (length (now held) ≡ 192) ⌝ }
     ensures { λ _. ⌜ ((x : ℕ) → x < chart .nodes → Held (reading (now (s .entry)) chart) x (getD (now (held .exit)) x 0)) ⌝ }
 {
     let n = chart.nodes;

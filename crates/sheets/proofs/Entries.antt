@@ -8,26 +8,18 @@ use Prim.Native.Nat.{ℕ, _<_}
 use native.Mathlib.Omega.{arith}
 use lib.ListN.{length, getD}
 use lib.Seq.{ext-getD}
-use borrow.Author.Tests.{lt-ltb}
 use Rattle.lists.specs.Truth.{truth}
 use Rattle.lists.specs.Tab.{tab, tab-at, tab-length}
-use Rattle.chart.specs.Format.{Decoded}
 use Rattle.chart.specs.Region.{Region}
-use Rattle.chart.specs.Reading.{region}
 use Rattle.answers.specs.Numbers.{asked}
 use Rattle.answers.specs.Sheet.{entry, row}
-use Rattle.loading.specs.Tables.{Stops}
+use Rattle.loading.specs.Tables.{Closed}
 use Rattle.profiles.specs.Marks.{Marks}
 use Rattle.profiles.specs.declared.chains.Sets.{Sets}
 use Rattle.pairs.specs.Rules.{profileAt, answer-by}
 use Rattle.eights.specs.Eights.{covered}
 use Rattle.pairs.specs.declared.rules.Profile.{Profile}
-use Rattle.sheets.specs.Sheet.{Closed, rowOf}
-
--- of a chart read whole, the nodes that a claim may not name are the barriers
-pub stops-closed : (D : Decoded) (stops : List ℕ) → Stops (region D) stops → Closed (region D) stops
-unfolding asked
-stops-closed D stops S = record { at = λ x l. rw (lt-ltb x (length (D .nodes)) l) (S .at x) }
+use Rattle.sheets.specs.Sheet.{rowOf}
 
 -- what a flag says
 module _ {R : Region} {closed : List ℕ} (C : Closed R closed) (x : ℕ) (l : x < R .nodes) where

@@ -8,18 +8,12 @@ use lib.Dec.{eqb}
 use lib.ListN.{getD}
 use Rattle.lists.specs.Bits.{has}
 use Rattle.lists.specs.Common.{common}
-use Rattle.chart.specs.Region.{Region}
-use Rattle.answers.specs.Numbers.{asked}
 use Rattle.profiles.specs.declared.chains.Sets.{Sets}
 use Rattle.unions.specs.declared.Words.{Words}
 use Rattle.nodesets.specs.Gathered.{Gathered}
 use Rattle.eights.specs.Eights.{Fence, covered}
 use Rattle.pairs.specs.Rules.{profileAt, answerBy}
 use Rattle.pairs.specs.declared.rules.Profile.{Profile}
-
--- A flag on each node that a claim may not name.
-pub record Closed (R : Region) (closed : List ℕ) : Type 0 where
-  pub at : (x : ℕ) → x < R .nodes → getD closed x 0 ≡ cond (asked R x) 0 1
 
 -- Entry j of the row of a node with no flag and these masks.
 unfoldable pub rowOf : List ℕ → Sets → List (List ℕ) → Profile → ℕ → ℕ

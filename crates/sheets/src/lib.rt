@@ -5,11 +5,11 @@ ghost use mathlib.Core.List.{_++_};
 ghost use Prim.Native.Nat.{ℕ, _*_, _≤_, _<_};
 ghost use lib.ListN.{length, getD, drop};
 ghost use Rattle.chart.specs.Region.{Region};
-ghost use Rattle.chart.specs.Checked.{Laid, reading};
+ghost use Rattle.chart.specs.Checked.{reading};
 ghost use Rattle.answers.specs.Numbers.{asked};
 ghost use Rattle.answers.specs.Sheet.{entry as entryOf, row, sheet};
+ghost use Rattle.loading.specs.Tables.{Accepted, Closed};
 ghost use Rattle.profiles.specs.Marks.{Marks};
-ghost use Rattle.sheets.specs.Sheet.{Closed};
 use crate::rows::NodeSets;
 use crate::rows::SETS;
 use crate::rows::gather_all;
@@ -19,7 +19,7 @@ use chart::format::Chart;
 use eights::BYTES;
 use eights::WORDS;
 use eights::fill_spread;
-use loading::load::load_stops;
+use loading::closed::load_closed;
 use pairs::rules::Answer;
 use pairs::rules::Profile;
 use pairs::rules::profile_of;
@@ -69,13 +69,13 @@ pub fn fill_row(a: usize, closed: &[u8; Chart::NODES], last: &[u8; Chart::NODES]
 
 // The sheet fills the front of `out`: row a is the part that starts at a * n, lent on to the row's filler.
 pub fn fill_sheet(s: &[u8], chart: Chart, marks: &MaskTable, sets: Sets, out: &mut [u8])
-    requires { ⌜ Laid (now s) chart × Marks (reading (now s) chart) (now marks) sets × (chart .nodes * chart .nodes ≤ length (now out)) ⌝ }
+    requires { ⌜ Accepted (now s) chart × Marks (reading (now s) chart) (now marks) sets × (chart .nodes * chart .nodes ≤ length (now out)) ⌝ }
     ensures { λ _.
         let result = sheet (reading (now (s .entry)) chart) in
         ⌜ now (out .exit) ≡ result ++ drop (length result) (now (out .entry)) ⌝ }
 {
     let mut closed = [0u8; Chart::NODES];
-    load_stops(s, chart, &mut closed);
+    load_closed(s, chart, &mut closed);
     let mut nodes = [[0u64; WORDS]; SETS];
     gather_all(marks, &closed, &mut nodes);
     let mut spread = [0u64; BYTES];

@@ -1,5 +1,5 @@
--- What the entrance of the calls that answer pairs says: the first of rows 1 to 10 that applies, or the counts of a chart, whose nodes have
--- all their masks then.
+-- What the entrance of the calls that answer pairs says: the first of rows 1 to 10 and 23 that applies, or the counts of a chart that is read
+-- for the region, whose nodes have all their masks then.
 -- Assumes nothing.
 use mathlib.Core.List.{List}
 use Prim.Native.Nat.{ℕ}

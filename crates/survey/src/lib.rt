@@ -1,15 +1,20 @@
-// The entrance of the calls that answer pairs: rows 1 to 10 of the refusals, and everything that the answers of a chart are read off.
+// The entrance of the calls that answer pairs: rows 1 to 10 and 23 of the refusals, and everything that the answers of a region are read off.
 ghost use mathlib.Core.Path.{_≡_};
-ghost use lib.ListN.{length};
+ghost use Prim.Native.Nat.{ℕ, _<_};
+ghost use lib.ListN.{length, getD};
 ghost use Rattle.chart.specs.Refusal.{firstOf};
-ghost use Rattle.chart.specs.Checked.{countsOf, answer, checked};
+ghost use Rattle.chart.specs.Checked.{countsOf, readFor, answer, checked, reading};
 ghost use Rattle.chart.specs.declared.format.Checked.the-variants.{Passed};
-ghost use Rattle.paths.specs.Admission.{admitRows};
+ghost use Rattle.paths.specs.Admission.{admitRows, regionRows};
+ghost use Rattle.loading.specs.Tables.{Accepted};
+ghost use Rattle.profiles.specs.Marks.{Held, Kinds};
 ghost use Rattle.survey.specs.Surveyed.{checkedOf, Survey};
 ghost use Rattle.survey.specs.declared.Surveyed.the-variants.{Marked};
 use chart::format::Chart;
 use chart::format::Checked;
 use chart::format::Refusal;
+use entrance::Entered;
+use entrance::enter;
 use loading::tables::load_tables;
 use marking::masks::fill_ends;
 use marking::masks::fill_starts;
@@ -54,8 +59,8 @@ fn survey_chart(s: &[u8], chart: Chart, marks: &mut MaskTable) -> Surveyed
     Surveyed::Marked(chart, sets)
 }
 
-// The first of rows 1 to 10 that applies, or all masks of all nodes.
-pub fn survey(s: &[u8], marks: &mut MaskTable) -> Surveyed
+// The first of rows 1 to 10 that applies, or all masks of all nodes, of the outermost region.
+fn survey_outermost(s: &[u8], marks: &mut MaskTable) -> Surveyed
     requires { ⌜ length (now marks) ≡ 3 ⌝ }
     ensures { λ r. ⌜ checkedOf r ≡ answer (firstOf (admitRows (now (s .entry)))) (countsOf (now (s .entry))) ⌝ }
     ensures { λ r. ⌜ ((chart : Chart) (sets : Sets) → r ≡ Marked chart sets → Survey (now (s .entry)) chart (now (marks .exit)) sets) ⌝ }
@@ -64,4 +69,52 @@ pub fn survey(s: &[u8], marks: &mut MaskTable) -> Surveyed
         Checked::Refused(refusal) => Surveyed::Refused(refusal),
         Checked::Passed(chart) => survey_chart(s, chart, marks),
     }
+}
+
+// What each node of any region of a chart holds, and the constructs of each kind.
+fn hold(s: &[u8], chart: Chart, held: &mut [u64; Chart::NODES]) -> Sets
+    requires { ⌜ Accepted (now s) chart ⌝ }
+    ensures { λ r. ⌜ Kinds (reading (now (s .entry)) chart) r ⌝ }
+    ensures { λ _. ⌜ ((x : ℕ) → x < chart .nodes → Held (reading (now (s .entry)) chart) x (getD (now (held .exit)) x 0)) ⌝ }
+{
+    let mut edges = [[0u8; Chart::EDGES]; Parts::ROWS];
+    let mut places = [0usize; Chart::PLACES];
+    let mut stops = [0u8; Chart::NODES];
+    let mut nodes = [0u8; Chart::BARRIERS];
+    let extent = load_tables(s, chart, &mut edges, &mut places, &mut stops, &mut nodes);
+    let returning = returns(s, chart, &edges, &places, extent.parts, &stops);
+    fill_held(s, chart, returning, held)
+}
+
+// The first of rows 1 to 10 and 23 that applies, or all masks of all nodes, of any region: the entrance marks it, and its tables are loaded
+// once more for what the nodes hold.
+fn survey_inner(s: &[u8], region: usize, marks: &mut MaskTable) -> Surveyed
+    requires { ⌜ length (now marks) ≡ 3 ⌝ }
+    ensures { λ r. ⌜ checkedOf r ≡ answer (firstOf (regionRows (now (s .entry)) region)) (readFor (countsOf (now (s .entry))) region) ⌝ }
+    ensures { λ r. ⌜ ((chart : Chart) (sets : Sets) → r ≡ Marked chart sets → Survey (now (s .entry)) chart (now (marks .exit)) sets) ⌝ }
+{
+    let mut starts = [0u64; Chart::NODES];
+    let mut ends = [0u64; Chart::NODES];
+    let mut levels = [0u8; Chart::NODES];
+    match enter(s, region, &mut starts, &mut ends, &mut levels) {
+        Entered::Refused(refusal) => Surveyed::Refused(refusal),
+        Entered::Marked(chart, _) => {
+            marks[STARTS] = starts;
+            marks[ENDS] = ends;
+            let sets = hold(s, chart, &mut marks[HELD]);
+            Surveyed::Marked(chart, sets)
+        }
+    }
+}
+
+// The first of rows 1 to 10 and 23 that applies, or all masks of all nodes of the region. The outermost one is loaded and marked once.
+pub fn survey(s: &[u8], region: usize, marks: &mut MaskTable) -> Surveyed
+    requires { ⌜ length (now marks) ≡ 3 ⌝ }
+    ensures { λ r. ⌜ checkedOf r ≡ answer (firstOf (regionRows (now (s .entry)) region)) (readFor (countsOf (now (s .entry))) region) ⌝ }
+    ensures { λ r. ⌜ ((chart : Chart) (sets : Sets) → r ≡ Marked chart sets → Survey (now (s .entry)) chart (now (marks .exit)) sets) ⌝ }
+{
+    if region == Chart::OUTERMOST {
+        return survey_outermost(s, marks);
+    }
+    survey_inner(s, region, marks)
 }

@@ -5,7 +5,7 @@ use mathlib.Core.Path.{_≡_}
 use mathlib.Core.Logic.{_⊎_, _≢_}
 use mathlib.Core.Bool.{true, false}
 use Prim.Native.Nat.{ℕ, suc, _≤_, _<_}
-use Rattle.chart.specs.Region.{Role, plain, barrier, opens, closes, Kind, single, master, critical, loop, ordered, sections, section, Region}
+use Rattle.chart.specs.Region.{Role, plain, barrier, opens, closes, Kind, single, master, critical, loop, ordered, sections, section, parallel, Region}
 use Rattle.chart.specs.InOrdered.{InOrdered}
 use Rattle.chart.specs.InSection.{SectionOf}
 use Rattle.team.specs.State.{State, moved, left, took, released}
@@ -38,6 +38,7 @@ AllTaken R m σ c k = (x : ℕ) → SectionOf R c x → Taken m σ c k x
 
 -- What lets thread t, at the begin of c, take an edge, by the kind of c (01: single begin, master begin, do begin, ordered begin). Into a
 -- master goes the thread of its number alone (02: the filter of a masked). The begin of a sections construct is left by `take` and `pass` alone.
+-- A parallel is no construct of the region that it stands in: there its begin and end are plain nodes.
 abbrev pub MayEnter : Region → ℕ → State → ℕ → ℕ → Kind → Type 0
 MayEnter R m σ t c single = First m σ t c
 MayEnter R m σ t c master = t ≡ R .thread c
@@ -46,6 +47,7 @@ MayEnter R m σ t c loop = Unit {0}
 MayEnter R m σ t c ordered = NoneOrdered R m σ t (R .parent c)
 MayEnter R m σ t c sections = ⊥
 MayEnter R m σ t c section = Unit {0}
+MayEnter R m σ t c parallel = ⊥
 
 -- What lets it go straight to the end of c. A single or a master allows one of the two and not the other; at a do the thread chooses; the begin of
 -- a sections leads straight to the end once all its sections are taken in the instance that t comes to; criticals, ordereds and the sections
@@ -58,6 +60,7 @@ MayPass R m σ t c loop = Unit {0}
 MayPass R m σ t c ordered = ⊥
 MayPass R m σ t c sections = AllTaken R m σ c (suc (σ .encounters t c))
 MayPass R m σ t c section = ⊥
+MayPass R m σ t c parallel = ⊥
 
 -- What lets it take an edge from a node that is no begin, by the node's role. The end of a sections construct is left so once all its sections are
 -- taken in t's instance (02: "Once all are taken, the begin leads straight to the end, and the end is left along an edge").

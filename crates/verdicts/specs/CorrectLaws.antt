@@ -15,12 +15,12 @@ use Rattle.lists.specs.Truth.{clash, truth, false-if}
 use Rattle.lists.specs.Range.{any, first, any-none, none-passes, at-any, first-passes, first-least, first-is}
 use Rattle.chart.specs.Format.{decode}
 use Rattle.chart.specs.Region.{Region}
-use Rattle.chart.specs.Reading.{region}
+use Rattle.chart.specs.Reading.{regionOf}
 use Rattle.chart.specs.WellFormed.{WellFormed}
 use Rattle.chart.specs.Refusal.{firstOf}
 use Rattle.chart.proofs.Rows.{none-applies, both-pass}
 use Rattle.paths.specs.Path.{Open}
-use Rattle.paths.specs.Admission.{admitRows}
+use Rattle.paths.specs.Admission.{regionRows}
 use Rattle.exact.specs.Answered.{chart-exact}
 use Rattle.answers.specs.Numbers.{badNumber, good-open, good-number}
 use Rattle.verdicts.specs.Claims.{total, left, right, badNumbers, isFalse}
@@ -79,36 +79,36 @@ module _ (R : Region) (claims : List ℕ) (h : badNumbers R claims ≡ false) (j
   good-numbers W = good-number R (getD claims j 0) W good
 
 -- in a list that is not refused, a claim is false exactly when its pair is concurrent
-pub false-concurrent : (s claims : List ℕ) → firstOf (judgeRows s claims) ≡ none → (k : ℕ) → k < total claims
-    → (isFalse (region (decode s)) claims k ≡ true) ↔ ConcurrentAt s claims k
+pub false-concurrent : (s : List ℕ) (p : ℕ) (claims : List ℕ) → firstOf (judgeRows s p claims) ≡ none → (k : ℕ) → k < total claims
+    → (isFalse (regionOf p (decode s)) claims k ≡ true) ↔ ConcurrentAt s p claims k
 unfolding judgeRows claimRows total left right isFalse
-false-concurrent s claims h k l =
-    let R = region (decode s) in
-    let (admitted, rest) = both-pass (admitRows s) (claimRows R claims) h in
+false-concurrent s p claims h k l =
+    let R = regionOf p (decode s) in
+    let (admitted, rest) = both-pass (regionRows s p) (claimRows R claims) h in
     let free = open-numbers R claims (none-applies (claimRows R claims) rest .1 .0) in
-    let E = chart-exact s admitted (free (2 * k) (omega arith)) (free (2 * k + 1) (omega arith)) in
+    let E = chart-exact s p admitted (free (2 * k) (omega arith)) (free (2 * k + 1) (omega arith)) in
     ((λ e. E .0 (eqb-true _ _ e)), λ M. eq-eqb _ _ (E .1 M))
 
 -- Demand 3.
-pub judged-correct : (s claims : List ℕ) → Correct s claims (numberOf (judged s claims))
+pub judged-correct : (s : List ℕ) (p : ℕ) (claims : List ℕ) → Correct s p claims (numberOf (judged s p claims))
 unfolding judged answered verdict numberOf
-judged-correct s claims = record {
+judged-correct s p claims = record {
   refuses = λ row h. rw h;
-  passes = λ h. rw h (passes (total claims) (isFalse (region (decode s)) claims) (ConcurrentAt s claims) (false-concurrent s claims h));
-  fails = λ h. rw h (fails (total claims) (isFalse (region (decode s)) claims) (ConcurrentAt s claims) (false-concurrent s claims h));
+  passes = λ h. rw h (passes (total claims) (isFalse (regionOf p (decode s)) claims) (ConcurrentAt s p claims) (false-concurrent s p claims h));
+  fails = λ h. rw h (fails (total claims) (isFalse (regionOf p (decode s)) claims) (ConcurrentAt s p claims) (false-concurrent s p claims h));
 }
 
 -- No other number is correct.
-pub correct-only : (s claims : List ℕ) (number : ℤ) → Correct s claims number → number ≡ numberOf (judged s claims)
+pub correct-only : (s : List ℕ) (p : ℕ) (claims : List ℕ) (number : ℤ) → Correct s p claims number → number ≡ numberOf (judged s p claims)
 unfolding judged answered verdict numberOf
-correct-only s claims number C = go (firstOf (judgeRows s claims)) refl
+correct-only s p claims number C = go (firstOf (judgeRows s p claims)) refl
   where
-    J : Correct s claims (numberOf (judged s claims))
-    J = judged-correct s claims
+    J : Correct s p claims (numberOf (judged s p claims))
+    J = judged-correct s p claims
 
-    go : (o : Option ℕ) → firstOf (judgeRows s claims) ≡ o → number ≡ numberOf (judged s claims)
+    go : (o : Option ℕ) → firstOf (judgeRows s p claims) ≡ o → number ≡ numberOf (judged s p claims)
     go (some row) h = C .refuses row h ∙ sym (J .refuses row h)
-    go none h = elim (truth (any (total claims) (isFalse (region (decode s)) claims))) [
-      | inl g ↦ (let z : numberOf (judged s claims) ≡ pos (first (total claims) (isFalse (region (decode s)) claims) + 1) = rw (h, g) in C .fails h _ .1 (J .fails h _ .0 z) ∙ sym z)
-      | inr g ↦ (let z : numberOf (judged s claims) ≡ pos 0 = rw (h, g) in C .passes h .1 (J .passes h .0 z) ∙ sym z)
+    go none h = elim (truth (any (total claims) (isFalse (regionOf p (decode s)) claims))) [
+      | inl g ↦ (let z : numberOf (judged s p claims) ≡ pos (first (total claims) (isFalse (regionOf p (decode s)) claims) + 1) = rw (h, g) in C .fails h _ .1 (J .fails h _ .0 z) ∙ sym z)
+      | inr g ↦ (let z : numberOf (judged s p claims) ≡ pos 0 = rw (h, g) in C .passes h .1 (J .passes h .0 z) ∙ sym z)
     ]

@@ -1,5 +1,5 @@
-//! The calls of the archive that `BOHRALI_BEFORE` names, by its own header. Where a call has come to
-//! take more since, what it takes now is left out here.
+//! The calls of the archive that `BOHRALI_BEFORE` names, by its own header, in which no call names a
+//! region. Where a call has come to take more since, what it takes now is left out here.
 
 use crate::calls::Calls;
 

@@ -1,5 +1,7 @@
-//! What is measured: the five calls of one implementation, each by C's one number.
+//! What is measured: the five calls of one implementation, for the outermost region, each by C's one
+//! number.
 
+use bohrali::Region::Outermost;
 use bohrali::{Counts, Refusal, Verdict};
 
 /// The calls by one implementation. Pointers, so that none of them is merged with the loop that
@@ -19,14 +21,21 @@ pub const LIBRARY: Calls = Calls {
         let packed = |counts: Counts| counts.nodes + 256 * counts.barriers + 65_536 * counts.phases;
         number(bohrali::admit(chart), packed)
     },
-    phases: |chart, out| number(bohrali::phases(chart, out), |bytes| bytes),
-    pair: |chart, a, b| number(bohrali::pair(chart, a, b), |answer| answer as usize),
-    sheet: |chart, out| number(bohrali::sheet(chart, out), |bytes| bytes),
-    judge: |chart, claims| {
-        number(bohrali::judge(chart, claims), |verdict| match verdict {
-            Verdict::Pass => 0,
-            Verdict::Fail(index) => index + 1,
+    phases: |chart, out| number(bohrali::phases(chart, Outermost, out), |bytes| bytes),
+    pair: |chart, a, b| {
+        number(bohrali::pair(chart, Outermost, a, b), |answer| {
+            answer as usize
         })
+    },
+    sheet: |chart, out| number(bohrali::sheet(chart, Outermost, out), |bytes| bytes),
+    judge: |chart, claims| {
+        number(
+            bohrali::judge(chart, Outermost, claims),
+            |verdict| match verdict {
+                Verdict::Pass => 0,
+                Verdict::Fail(index) => index + 1,
+            },
+        )
     },
 };
 

@@ -4,7 +4,7 @@ use crate::calls::Calls;
 use crate::timing::least;
 use bohrali::layout::BYTES_PHASES;
 use reference::answers::Rules;
-use reference::refusals::decode_checked;
+use reference::regions::read_outermost;
 use std::hint::black_box;
 
 const CLAIMS: usize = 1_024;
@@ -51,10 +51,10 @@ fn refused(chart: Vec<u8>) -> Asked {
 
 impl Asked {
     fn new(chart: Vec<u8>) -> Asked {
-        let Ok(decoded) = decode_checked(&chart) else {
+        let Ok(outermost) = read_outermost(&chart) else {
             return refused(chart);
         };
-        let rules = Rules::of(decoded);
+        let rules = Rules::of(outermost);
         let nodes = rules.chart.nodes.len();
         let open: Vec<usize> = (0..nodes).filter(|&x| !rules.chart.is_barrier(x)).collect();
         let pairs = open.iter().flat_map(|&a| open.iter().map(move |&b| (a, b)));

@@ -32,7 +32,7 @@ impl Answer {
         Answer::Section,
     ];
 
-    /// What a sheet has where one of the two nodes is a barrier, or both are; every other byte of it
-    /// is the number of an answer.
+    /// What a sheet has where one of the two nodes is a barrier or outside the region, or both are; every
+    /// other byte of it is the number of an answer.
     pub const AT_BARRIER: u8 = 255;
 }

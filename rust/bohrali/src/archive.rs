@@ -5,10 +5,29 @@ extern "C" {
     pub fn bohrali_judge(
         chart: *const u8,
         chart_len: usize,
+        region: usize,
         claims: *const u8,
         claims_len: usize,
     ) -> i64;
-    pub fn bohrali_pair(chart: *const u8, chart_len: usize, a: usize, b: usize) -> i64;
-    pub fn bohrali_phases(chart: *const u8, chart_len: usize, out: *mut u8, out_len: usize) -> i64;
-    pub fn bohrali_sheet(chart: *const u8, chart_len: usize, out: *mut u8, out_len: usize) -> i64;
+    pub fn bohrali_pair(
+        chart: *const u8,
+        chart_len: usize,
+        region: usize,
+        a: usize,
+        b: usize,
+    ) -> i64;
+    pub fn bohrali_phases(
+        chart: *const u8,
+        chart_len: usize,
+        region: usize,
+        out: *mut u8,
+        out_len: usize,
+    ) -> i64;
+    pub fn bohrali_sheet(
+        chart: *const u8,
+        chart_len: usize,
+        region: usize,
+        out: *mut u8,
+        out_len: usize,
+    ) -> i64;
 }

@@ -7,7 +7,7 @@
 pub enum NodeKind {
     /// Its number names the innermost construct around it, or `CONSTRUCT_NONE`.
     Plain = 0,
-    /// Its number is `CONSTRUCT_NONE`.
+    /// Its number names its region, the parallel that it lies in, or is `CONSTRUCT_NONE` in the outermost.
     Barrier = 1,
     /// Its number names the construct that it opens.
     Begin = 2,
@@ -30,6 +30,8 @@ pub enum ConstructKind {
     Sections = 6,
     /// One section of a `Sections`.
     Section = 7,
+    /// A region of its own, with a team of its own.
+    Parallel = 8,
 }
 
 /// In place of a construct's number: none.

@@ -1,18 +1,20 @@
 //! Whether two threads of one OpenMP team can be at two nodes of a parallel region together, in a run
 //! that finishes: the calls of the proved library, on slices. What a chart is and what each call does
-//! is documented in include/bohrali.h; here C's one number becomes a `Result`, and C's constants are
-//! `limits`, `layout`, `Answer` and `Refusal`, by the same words.
+//! is documented in include/bohrali.h; here C's one number becomes a `Result`, C's constants are
+//! `limits`, `layout`, `Answer` and `Refusal`, by the same words, and a region's number is a `Region`.
 
 mod answer;
 mod archive;
 pub mod layout;
 pub mod limits;
 mod refusal;
+mod region;
 
 pub use answer::Answer;
 pub use refusal::Refusal;
+pub use region::Region;
 
-/// The counts of an admitted chart.
+/// The counts of an admitted chart, barriers and phases of the outermost region.
 #[derive(Clone, Copy, Debug, PartialEq, Eq)]
 pub struct Counts {
     pub nodes: usize,
@@ -38,12 +40,18 @@ pub fn admit(chart: &[u8]) -> Result<Counts, Refusal> {
     })
 }
 
-/// Whether all claims hold: pairs of node numbers, of which each is said never to have two threads of
-/// one team at its two nodes together, in a run that finishes.
-pub fn judge(chart: &[u8], claims: &[u8]) -> Result<Verdict, Refusal> {
-    // SAFETY: as above, for both slices.
+/// Whether all claims about a region hold: pairs of node numbers, of which each is said never to have two
+/// threads of the region's team at its two nodes together, in a run that finishes.
+pub fn judge(chart: &[u8], region: Region, claims: &[u8]) -> Result<Verdict, Refusal> {
+    // SAFETY: as above, for both slices; the region is a number.
     let number = unsafe {
-        archive::bohrali_judge(chart.as_ptr(), chart.len(), claims.as_ptr(), claims.len())
+        archive::bohrali_judge(
+            chart.as_ptr(),
+            chart.len(),
+            region.number(),
+            claims.as_ptr(),
+            claims.len(),
+        )
     };
     accepted(number).map(|after| match after.checked_sub(1) {
         None => Verdict::Pass,
@@ -51,34 +59,49 @@ pub fn judge(chart: &[u8], claims: &[u8]) -> Result<Verdict, Refusal> {
     })
 }
 
-/// The answer for two nodes, which may be equal.
-pub fn pair(chart: &[u8], a: usize, b: usize) -> Result<Answer, Refusal> {
+/// The answer for two nodes of a region, which may be equal.
+pub fn pair(chart: &[u8], region: Region, a: usize, b: usize) -> Result<Answer, Refusal> {
     // SAFETY: as above; a and b are numbers.
-    let number = unsafe { archive::bohrali_pair(chart.as_ptr(), chart.len(), a, b) };
+    let number =
+        unsafe { archive::bohrali_pair(chart.as_ptr(), chart.len(), region.number(), a, b) };
     accepted(number).map(|answer| Answer::ALL[answer])
 }
 
-/// Writes the starts and ends of each node, `layout::BYTES_PHASES` bytes, and gives the number of
-/// bytes written.
-pub fn phases(chart: &[u8], out: &mut [u8]) -> Result<usize, Refusal> {
+/// Writes the starts and ends of each node in a region, `layout::BYTES_PHASES` bytes, and gives the number
+/// of bytes written. Nodes outside the region have none.
+pub fn phases(chart: &[u8], region: Region, out: &mut [u8]) -> Result<usize, Refusal> {
     // SAFETY: as above; `out` is lent for the call alone and does not overlap `chart`.
     accepted(unsafe {
-        archive::bohrali_phases(chart.as_ptr(), chart.len(), out.as_mut_ptr(), out.len())
+        archive::bohrali_phases(
+            chart.as_ptr(),
+            chart.len(),
+            region.number(),
+            out.as_mut_ptr(),
+            out.len(),
+        )
     })
 }
 
-/// Writes the answers of all pairs, row by row, and gives the number of bytes written.
-pub fn sheet(chart: &[u8], out: &mut [u8]) -> Result<usize, Refusal> {
+/// Writes the answers of all pairs in a region, row by row, and gives the number of bytes written. Nodes
+/// outside the region are written as barriers.
+pub fn sheet(chart: &[u8], region: Region, out: &mut [u8]) -> Result<usize, Refusal> {
     // SAFETY: as above.
     accepted(unsafe {
-        archive::bohrali_sheet(chart.as_ptr(), chart.len(), out.as_mut_ptr(), out.len())
+        archive::bohrali_sheet(
+            chart.as_ptr(),
+            chart.len(),
+            region.number(),
+            out.as_mut_ptr(),
+            out.len(),
+        )
     })
 }
 
 /// C's number: what a call gives, or a refusal's number negated.
 fn accepted(number: i64) -> Result<usize, Refusal> {
     usize::try_from(number).map_err(|_| {
-        let row = usize::try_from(-number).expect("a refusal's number, negated");
-        Refusal::ALL[row - 1]
+        let named = |x: &Refusal| i64::from(x.number()) == -number;
+        let refusal = Refusal::ALL.into_iter().find(named);
+        refusal.expect("a refusal's number, negated")
     })
 }

@@ -1,5 +1,5 @@
-//! The limits of a chart: a count outside them is refused. Constructs may be none, and barriers are
-//! never fewer than two, Start and Finish.
+//! The limits of a chart: a count outside them is refused. Constructs may be none. Barriers are counted in
+//! each region by itself, and are never fewer than two, its Start and its Finish.
 
 pub const LEAST_NODES: usize = 2;
 pub const MOST_NODES: usize = 192;

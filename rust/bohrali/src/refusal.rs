@@ -3,7 +3,8 @@
 use std::error::Error;
 use std::fmt;
 
-/// Why a call was refused: the first of its rows that applies, in the order of these numbers.
+/// Why a call was refused: the first of its rows that applies, in the order of these numbers, but that
+/// `Region` comes straight after `Paths`.
 #[derive(Clone, Copy, Debug, PartialEq, Eq, Hash)]
 #[non_exhaustive]
 #[repr(u8)]
@@ -16,14 +17,14 @@ pub enum Refusal {
     Counts = 3,
     /// Length or a distance of the trailer differs from what the edition asks.
     Lengths = 4,
-    /// A node's kind or construct number.
+    /// A node's kind or construct number, or a barrier naming what is no parallel.
     Node = 5,
     /// A construct's kind, parent or name, a filter on a kind that is not masked, the nesting, or a node
     /// or construct wrongly in a sections.
     Construct = 6,
     /// Not exactly one begin and one end for each construct.
     Frame = 7,
-    /// First or last node no barrier, or over 64 barriers.
+    /// First or last node no barrier, or over 64 barriers in one region.
     Barrier = 8,
     /// An edge names no node, is out of order or is not allowed.
     Edge = 9,
@@ -33,13 +34,15 @@ pub enum Refusal {
     Room = 11,
     /// An odd number of bytes.
     Claims = 12,
-    /// A node number that no node has, or that of a barrier.
+    /// A node number that no node of the region has, or that of a barrier.
     Numbers = 13,
+    /// A region's number that names no parallel construct.
+    Region = 23,
 }
 
 impl Refusal {
     /// All refusals, in the order of their numbers.
-    pub const ALL: [Refusal; 13] = [
+    pub const ALL: [Refusal; 14] = [
         Refusal::Short,
         Refusal::Marks,
         Refusal::Counts,
@@ -53,6 +56,7 @@ impl Refusal {
         Refusal::Room,
         Refusal::Claims,
         Refusal::Numbers,
+        Refusal::Region,
     ];
 
     /// The number that C gets, negated.
@@ -71,12 +75,15 @@ impl Refusal {
                 "a construct's kind, parent, name or filter, the nesting or what is in a sections is wrong"
             }
             Refusal::Frame => "a construct has not exactly one begin and one end",
-            Refusal::Barrier => "the first or last node is no barrier, or there are over 64",
+            Refusal::Barrier => {
+                "the first or last node is no barrier, or there are over 64 in one region"
+            }
             Refusal::Edge => "an edge names no node, is out of order or is not allowed",
             Refusal::Paths => "a node is not reached from Start or does not reach Finish",
             Refusal::Room => "the buffer is shorter than the result",
             Refusal::Claims => "the claims are an odd number of bytes",
-            Refusal::Numbers => "a node number is too large or a barrier's",
+            Refusal::Numbers => "a node number is a barrier's or that of no node of the region",
+            Refusal::Region => "the region's number names no parallel",
         }
     }
 }

@@ -2,7 +2,7 @@
 //! with the same numbers.
 
 use bohrali::layout::{self, ConstructKind, NodeKind};
-use bohrali::{limits, Answer, Refusal};
+use bohrali::{limits, Answer, Refusal, Region};
 use std::collections::BTreeMap;
 use std::{fs, path::PathBuf};
 
@@ -16,7 +16,7 @@ const LIMITS: [(&str, usize); 7] = [
     ("MOST_CHART_BYTES", limits::MOST_CHART_BYTES),
 ];
 
-const LAYOUT: [(&str, usize); 21] = [
+const LAYOUT: [(&str, usize); 22] = [
     ("BYTES_NODE", layout::BYTES_NODE),
     ("BYTES_EDGE", layout::BYTES_EDGE),
     ("BYTES_CONSTRUCT", layout::BYTES_CONSTRUCT),
@@ -37,10 +37,12 @@ const LAYOUT: [(&str, usize); 21] = [
     ("CONSTRUCT_ORDERED", ConstructKind::Ordered as usize),
     ("CONSTRUCT_SECTIONS", ConstructKind::Sections as usize),
     ("CONSTRUCT_SECTION", ConstructKind::Section as usize),
+    ("CONSTRUCT_PARALLEL", ConstructKind::Parallel as usize),
     ("CONSTRUCT_NONE", layout::CONSTRUCT_NONE as usize),
 ];
 
 const AT_BARRIER: (&str, usize) = ("ANSWER_AT_BARRIER", Answer::AT_BARRIER as usize);
+const OUTERMOST: (&str, usize) = ("REGION_OUTERMOST", Region::OUTERMOST);
 
 /// A name such as `NoCommonPhase` as C spells it, `NO_COMMON_PHASE`.
 fn spelt(name: &str) -> String {
@@ -56,7 +58,10 @@ fn spelt(name: &str) -> String {
 
 /// The constants of this crate, by their names in C without `BOHRALI_`.
 fn ours() -> BTreeMap<String, usize> {
-    let named = LIMITS.iter().chain(&LAYOUT).chain([&AT_BARRIER]);
+    let named = LIMITS
+        .iter()
+        .chain(&LAYOUT)
+        .chain([&AT_BARRIER, &OUTERMOST]);
     let named = named.map(|&(name, number)| (name.to_string(), number));
     let answers = Answer::ALL
         .iter()
@@ -106,7 +111,15 @@ fn all_lists_are_in_the_order_of_the_numbers() {
     for (place, answer) in Answer::ALL.into_iter().enumerate() {
         assert_eq!(answer as usize, place);
     }
-    for (place, refusal) in Refusal::ALL.into_iter().enumerate() {
-        assert_eq!(refusal as usize, place + 1);
+    let refusals = Refusal::ALL.map(|refusal| refusal.number());
+    assert!(refusals.is_sorted_by(|one, next| one < next));
+}
+
+#[test]
+fn regions_have_the_numbers_of_c() {
+    for number in [0, 47, 254, 255, 256, 511, usize::MAX] {
+        assert_eq!(Region::from(number).number(), number);
     }
+    assert_eq!(Region::from(Region::OUTERMOST), Region::Outermost);
+    assert_eq!(Region::default(), Region::Outermost);
 }

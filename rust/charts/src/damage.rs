@@ -2,8 +2,9 @@
 //! apply, or with some bytes changed at random; and noise.
 
 use crate::random::Random;
+use crate::regions::{crowded, parallels, same_name, wrong_barrier, wrong_parallel};
 use reference::builder::ChartBuilder;
-use reference::chart::{Construct, Edge, Node, Trailer};
+use reference::chart::{Chart, Construct, Edge, Node, Trailer};
 use reference::masked;
 
 /// The rows of the table that can be aimed at.
@@ -56,7 +57,7 @@ pub fn noise(random: &mut Random) -> Vec<u8> {
     }
     for _ in 0..random.between(0, 3) {
         chart.add(Construct {
-            kind: random.between(1, 7) as u8,
+            kind: random.between(1, 8) as u8,
             parent: random.pick(&[0, 255]),
             name: 0,
             filter: random.pick(&[0, 0, 1]),
@@ -110,6 +111,9 @@ pub fn other_edition(mut bytes: Vec<u8>) -> Vec<u8> {
 }
 
 fn wrong_node(random: &mut Random, chart: &mut ChartBuilder) -> Vec<u8> {
+    if !parallels(chart).is_empty() && random.percent(50) {
+        return wrong_barrier(random, chart);
+    }
     let beyond = chart.constructs.len() + random.below(255 - chart.constructs.len());
     let count = chart.nodes.len();
     let node = &mut chart.nodes[random.below(count)];
@@ -122,6 +126,12 @@ fn wrong_node(random: &mut Random, chart: &mut ChartBuilder) -> Vec<u8> {
 }
 
 fn wrong_construct(random: &mut Random, chart: &mut ChartBuilder) -> Vec<u8> {
+    if !parallels(chart).is_empty() && random.percent(50) && chart.constructs.len() + 2 <= 48 {
+        return match random.percent(50) {
+            true => wrong_parallel(random, chart),
+            false => same_name(random, chart, false),
+        };
+    }
     if random.percent(30) && chart.constructs.len() + 2 <= 48 && chart.nodes.len() < 192 {
         return wrong_in_sections(random, chart);
     }
@@ -134,7 +144,7 @@ fn wrong_construct(random: &mut Random, chart: &mut ChartBuilder) -> Vec<u8> {
     let number = random.below(chart.constructs.len());
     let own = &mut chart.constructs[number];
     match random.below(5) {
-        0 => own.kind = random.pick(&[0, 8, 9, 255]),
+        0 => own.kind = random.pick(&[0, 16, 9, 255]),
         1 => own.parent = random.between(number, 254) as u8,
         2 if own.kind != Construct::CRITICAL => own.name = random.pick(&[1, 256]),
         3 => own.kind = random.between(1, 7) as u8,
@@ -171,7 +181,7 @@ pub fn wrong_in_sections(random: &mut Random, chart: &mut ChartBuilder) -> Vec<u
             chart.plain(sections);
         }
         1 => {
-            let kind = random.pick(&[1, 2, 3, 3, 3, 4, 5, 6]);
+            let kind = random.pick(&[1, 2, 3, 3, 8, 4, 5, 6]);
             chart.construct(kind, sections, 0);
         }
         _ => {
@@ -200,8 +210,14 @@ fn wrong_begin_or_end(random: &mut Random, chart: &mut ChartBuilder) -> Vec<u8> 
 }
 
 fn wrong_barriers(random: &mut Random, chart: &mut ChartBuilder) -> Vec<u8> {
+    if let Some(bytes) = crowded(random, chart, Chart::MOST_BARRIERS + 1) {
+        if random.percent(50) {
+            return bytes;
+        }
+    }
     let last = chart.nodes.len() - 1;
-    let barriers = chart.nodes.iter().filter(|x| x.kind == Node::BARRIER);
+    let is_outer = |x: &&Node| x.kind == Node::BARRIER && x.construct == Construct::NONE;
+    let barriers = chart.nodes.iter().filter(is_outer);
     let missing = 65usize.saturating_sub(barriers.count());
     if random.percent(40) && chart.nodes.len() + missing <= 192 {
         for _ in 0..missing {

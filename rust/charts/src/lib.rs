@@ -4,6 +4,7 @@
 pub mod benchmark;
 pub mod damage;
 pub mod random;
+pub mod regions;
 pub mod valid;
 
 use random::Random;

@@ -3,6 +3,7 @@
 //! its scope may be added.
 
 use crate::random::Random;
+use crate::regions::{any_region, parallels, NESTED_KINDS};
 use reference::builder::ChartBuilder;
 use reference::chart::{Construct, Node};
 use reference::masked;
@@ -13,8 +14,10 @@ use reference::scopes::may_enclose;
 pub struct Shape {
     pub constructs: usize,
     pub plain: usize,
-    /// Barriers other than Start and Finish.
+    /// Barriers of the outermost region other than Start and Finish.
     pub barriers: usize,
+    /// Barriers of inner regions; plain nodes where there is no such region.
+    pub inner_barriers: usize,
     /// Edges to draw beyond those that connect the chart; some of them may coincide.
     pub further_edges: usize,
     /// How far apart in their order the two nodes of an edge may be.
@@ -50,6 +53,9 @@ impl Shape {
             let filters = random.pick(&[NEAR_FILTERS, FAR_FILTERS, FAR_FILTERS]);
             return Shape::masked(random, filters);
         }
+        if random.percent(30) {
+            return Shape::nested(random);
+        }
         let dealt = random.percent(40);
         let least = if dealt { 8 } else { 0 };
         let inner = random.between(least, 10).max(random.between(0, 10));
@@ -63,6 +69,7 @@ impl Shape {
             constructs,
             plain: inner - 2 * constructs - barriers,
             barriers,
+            inner_barriers: 0,
             further_edges: random.between(0, 4),
             window: 10,
             returning: 35,
@@ -80,6 +87,7 @@ impl Shape {
             constructs,
             plain: inner - 2 * constructs - barriers,
             barriers,
+            inner_barriers: 0,
             further_edges: random.between(0, 3),
             window: 10,
             returning: 20,
@@ -102,14 +110,16 @@ impl Shape {
         };
         let constructs = up_to(random, 48.min(inner / 2));
         let barriers = up_to(random, 62.min(inner - 2 * constructs));
+        let inner_barriers = up_to(random, 62.min(inner - 2 * constructs - barriers));
         Shape {
             constructs,
-            plain: inner - 2 * constructs - barriers,
+            plain: inner - 2 * constructs - barriers - inner_barriers,
             barriers,
+            inner_barriers,
             further_edges: up_to(random, 900),
             window: random.pick(&[1, 3, 20, 192]),
             returning: random.pick(&[0, 20, 100]),
-            kinds: random.pick(&[ALL_KINDS, ALL_KINDS, DEALT_KINDS, MASKED_KINDS]),
+            kinds: random.pick(&[ALL_KINDS, NESTED_KINDS, DEALT_KINDS, MASKED_KINDS]),
             filters: random.pick(&[EDITION_1, EDITION_1, NEAR_FILTERS, FAR_FILTERS]),
         }
     }
@@ -166,7 +176,11 @@ fn add_construct(random: &mut Random, chart: &mut ChartBuilder, shape: &Shape) {
             Construct::ORDERED => below(random, chart, Construct::ORDERED, Construct::DO),
             Construct::SECTION => below(random, chart, Construct::SECTION, Construct::SECTIONS),
             kind @ (Construct::MASTER | Construct::CRITICAL) => (kind, any_scope(random, chart)),
-            kind => (kind, Construct::NONE),
+            // half of them directly in another region, so that some stand deep
+            Construct::PARALLEL if random.percent(50) => {
+                (Construct::PARALLEL, any_scope(random, chart))
+            }
+            kind => (kind, any_region(random, chart)),
         };
         let name = match kind {
             Construct::CRITICAL => random.pick(&[0, 1, 2, 256, 65_535]),
@@ -198,7 +212,7 @@ fn below(random: &mut Random, chart: &ChartBuilder, kind: u8, above: u8) -> (u8,
         .map(|(number, _)| number)
         .collect();
     match parents.is_empty() {
-        true => (above, Construct::NONE),
+        true => (above, any_region(random, chart)),
         false => (kind, random.pick(&parents) as u8),
     }
 }
@@ -211,15 +225,15 @@ fn any_scope(random: &mut Random, chart: &ChartBuilder) -> u8 {
     }
 }
 
-/// Whether a construct may stand below its parent: by the nesting table, and in a sections only if
-/// it is a section.
+/// Whether a construct may stand below its parent: by the nesting table, up to the nearest parallel, and
+/// in a sections only if it is a section.
 fn may_add(chart: &ChartBuilder, own: Construct) -> bool {
     let above = |number: u8| chart.constructs.get(usize::from(number));
     let mut next = above(own.parent);
     if next.is_some_and(|x| x.kind == Construct::SECTIONS) && own.kind != Construct::SECTION {
         return false;
     }
-    while let Some(enclosing) = next {
+    while let Some(enclosing) = next.filter(|x| x.kind != Construct::PARALLEL) {
         if !may_enclose(enclosing, &own) {
             return false;
         }
@@ -239,23 +253,20 @@ fn add_nodes(random: &mut Random, chart: &mut ChartBuilder, shape: &Shape) -> Ve
         items[parent].push((begin, end));
         ports.push((begin, end));
     }
-    let open: Vec<usize> = (0..shape.constructs)
-        .filter(|&scope| !is_dealt(chart, scope))
-        .collect();
-    for _ in 0..shape.plain {
-        let inner = !open.is_empty() && random.percent(60);
-        let (scope, number) = if inner {
-            let scope = random.pick(&open);
-            (scope, scope as u8)
-        } else {
-            (shape.constructs, Construct::NONE)
-        };
-        let node = chart.plain(number);
-        items[scope].push((node, node));
-    }
+    let regions = parallels(chart);
+    let (plain, barriers) = match regions.is_empty() {
+        true => (shape.plain + shape.inner_barriers, 0),
+        false => (shape.plain, shape.inner_barriers),
+    };
+    add_plain(random, chart, plain, &mut items);
     for _ in 0..shape.barriers {
         let node = chart.barrier();
         items[shape.constructs].push((node, node));
+    }
+    for _ in 0..barriers {
+        let region = random.pick(&regions);
+        let node = chart.barrier_of(region);
+        items[usize::from(region)].push((node, node));
     }
     ports.push((START, chart.barrier()));
     let numbered = ports.into_iter().zip(items).enumerate();
@@ -267,6 +278,30 @@ fn add_nodes(random: &mut Random, chart: &mut ChartBuilder, shape: &Shape) -> Ve
             dealt: is_dealt(chart, scope),
         })
         .collect()
+}
+
+/// Adds plain nodes to scopes that may have some, of which the last is the outermost.
+fn add_plain(
+    random: &mut Random,
+    chart: &mut ChartBuilder,
+    count: usize,
+    items: &mut [Vec<(usize, usize)>],
+) {
+    let outermost = items.len() - 1;
+    let open: Vec<usize> = (0..outermost)
+        .filter(|&scope| !is_dealt(chart, scope))
+        .collect();
+    for _ in 0..count {
+        let inner = !open.is_empty() && random.percent(60);
+        let (scope, number) = if inner {
+            let scope = random.pick(&open);
+            (scope, scope as u8)
+        } else {
+            (outermost, Construct::NONE)
+        };
+        let node = chart.plain(number);
+        items[scope].push((node, node));
+    }
 }
 
 /// Whether a scope is a sections construct; the outermost one is no construct.

@@ -5,6 +5,7 @@ use charts::random::Random;
 use charts::{benchmark, damage, draw, large, small, valid, Source};
 use reference::chart::{Chart, Construct, Edge};
 use reference::refusals::decode_checked;
+use reference::regions::{read_outermost, OUTERMOST};
 
 #[test]
 fn valid_charts_are_admitted() {
@@ -37,11 +38,16 @@ fn large_charts_meet_the_limits() {
 fn small_charts_have_every_kind_and_returns() {
     let draws = (0..2_000).map(|seed| small(&mut Random::new(seed)));
     let charts: Vec<Chart> = draws.map(|x| decode_checked(&x).unwrap()).collect();
-    for kind in Construct::SINGLE..=Construct::SECTION {
+    for kind in Construct::SINGLE..=Construct::PARALLEL {
         let has_kind = |x: &Chart| x.constructs.iter().any(|c| c.kind == kind);
         assert!(share(&charts, has_kind) > 100, "kind {kind}");
     }
-    let returns = |x: &Chart| reference::phases::Phases::of(x).returns.contains(&true);
+    let returns = |x: &Chart| {
+        let outermost = x.read_for(OUTERMOST).chart;
+        reference::phases::Phases::of(&outermost)
+            .returns
+            .contains(&true)
+    };
     assert!(share(&charts, returns) > 500);
     assert!(share(&charts, |x| x.nodes.len() > 12) == 0);
 }
@@ -49,7 +55,7 @@ fn small_charts_have_every_kind_and_returns() {
 #[test]
 fn small_charts_have_sections_of_every_form() {
     let draws = (0..4_000).map(|seed| small(&mut Random::new(seed)));
-    let charts: Vec<Chart> = draws.map(|x| decode_checked(&x).unwrap()).collect();
+    let charts: Vec<Chart> = draws.map(|x| read_outermost(&x).unwrap()).collect();
     let dealt = |chart: &Chart, property: &dyn Fn(usize) -> bool| {
         let constructs = chart.constructs.iter().enumerate();
         let mut dealt = constructs.filter(|(_, x)| x.kind == Construct::SECTIONS);
@@ -193,7 +199,7 @@ fn damaged_sections_are_refused() {
         let bytes = damage::wrong_in_sections(&mut random, &mut chart);
         assert_eq!(decode_checked(&bytes), Err(6), "seed {seed}");
     }
-    assert!(joined > 200, "{joined}");
+    assert!(joined > 150, "{joined}");
 }
 
 #[test]

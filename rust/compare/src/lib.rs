@@ -1,11 +1,13 @@
-//! The archive's calls, through the safe wrapper, as the numbers that C gets. All bytes that are lent
-//! to them stand between pages that may not be touched. And the proved programs, run as they are.
+//! The archive's calls, through the safe wrapper, as the numbers that C gets, a region by C's number too.
+//! All bytes that are lent to them stand between pages that may not be touched. And the proved programs,
+//! run as they are.
 
 mod agreement;
 mod guarded;
 pub mod programs;
+pub mod regions;
 
-use bohrali::{Counts, Refusal, Verdict};
+use bohrali::{Counts, Refusal, Region, Verdict};
 use guarded::Guarded;
 
 /// Longer than any chart, list or result of the tests.
@@ -46,7 +48,7 @@ impl Archive {
         })
     }
 
-    pub fn judge(&mut self, chart: &[u8], claims: &[u8]) -> i64 {
+    pub fn judge(&mut self, chart: &[u8], region: usize, claims: &[u8]) -> i64 {
         let Archive {
             chart: charts,
             claims: lists,
@@ -54,7 +56,8 @@ impl Archive {
         } = self;
         charts.with(chart, |chart| {
             lists.with(claims, |claims| {
-                number(bohrali::judge(chart, claims), |verdict| match verdict {
+                let verdict = bohrali::judge(chart, region.into(), claims);
+                number(verdict, |verdict| match verdict {
                     Verdict::Pass => 0,
                     Verdict::Fail(index) => index + 1,
                 })
@@ -62,31 +65,35 @@ impl Archive {
         })
     }
 
-    pub fn pair(&mut self, chart: &[u8], a: usize, b: usize) -> i64 {
+    pub fn pair(&mut self, chart: &[u8], region: usize, a: usize, b: usize) -> i64 {
         self.chart.with(chart, |lent| {
-            number(bohrali::pair(lent, a, b), |answer| answer as usize)
+            let answer = bohrali::pair(lent, region.into(), a, b);
+            number(answer, |answer| answer as usize)
         })
     }
 
     /// Phases into a buffer, which afterwards holds what the call left there.
-    pub fn phases(&mut self, chart: &[u8], out: &mut [u8]) -> i64 {
-        self.write(chart, out, bohrali::phases)
+    pub fn phases(&mut self, chart: &[u8], region: usize, out: &mut [u8]) -> i64 {
+        self.write(chart, region, out, bohrali::phases)
     }
 
     /// Sheet, in the same way.
-    pub fn sheet(&mut self, chart: &[u8], out: &mut [u8]) -> i64 {
-        self.write(chart, out, bohrali::sheet)
+    pub fn sheet(&mut self, chart: &[u8], region: usize, out: &mut [u8]) -> i64 {
+        self.write(chart, region, out, bohrali::sheet)
     }
 
     fn write(
         &mut self,
         chart: &[u8],
+        region: usize,
         out: &mut [u8],
-        call: impl Fn(&[u8], &mut [u8]) -> Result<usize, Refusal>,
+        call: impl Fn(&[u8], Region, &mut [u8]) -> Result<usize, Refusal>,
     ) -> i64 {
         let outs = &mut self.out;
         self.chart.with(chart, |chart| {
-            outs.with_mut(out, |out| number(call(chart, out), |bytes| bytes))
+            outs.with_mut(out, |out| {
+                number(call(chart, region.into(), out), |bytes| bytes)
+            })
         })
     }
 }

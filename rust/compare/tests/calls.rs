@@ -1,7 +1,8 @@
 //! Every call of the archive against the second implementation: results, and every lent byte, on
-//! valid, damaged and random charts, with buffers longer and shorter than the result.
+//! valid, damaged and random charts, for any region, with buffers longer and shorter than the result.
 
 use charts::random::Random;
+use compare::regions::{any_region, OUTERMOST};
 use compare::Archive;
 use reference::calls;
 use std::io::Write;
@@ -15,24 +16,28 @@ const SEED: u64 = 2_026_111_501;
 const FILL: u8 = 0xA5;
 
 /// A call that writes, by the plain implementation.
-type Writer = fn(&[u8], &mut [u8]) -> i64;
+type Writer = fn(&[u8], u64, &mut [u8]) -> i64;
 
-/// The archive and how often each outcome was seen, 0 for what is not refused.
+/// The archive, the region that is asked about, and how often each outcome was seen, 0 for what is not
+/// refused.
 struct Comparison {
     archive: Archive,
-    outcomes: [usize; 14],
+    region: usize,
+    outcomes: [usize; 24],
 }
 
 impl Comparison {
     fn new() -> Comparison {
         Comparison {
             archive: Archive::new(),
-            outcomes: [0; 14],
+            region: OUTERMOST,
+            outcomes: [0; 24],
         }
     }
 
     fn agree(&mut self, call: &str, chart: &[u8], ours: i64, theirs: i64) {
-        assert_eq!(ours, theirs, "{call}, chart {chart:02X?}");
+        let region = self.region;
+        assert_eq!(ours, theirs, "{call}, region {region}, chart {chart:02X?}");
         self.outcomes[(-ours).max(0) as usize] += 1;
     }
 
@@ -48,31 +53,32 @@ impl Comparison {
 
     fn phases(&mut self, chart: &[u8], room: usize) {
         let mut ours = vec![FILL; room];
-        let number = self.archive.phases(chart, &mut ours);
+        let number = self.archive.phases(chart, self.region, &mut ours);
         self.written("phases", chart, calls::phases, number, &ours);
     }
 
     fn sheet(&mut self, chart: &[u8], room: usize) {
         let mut ours = vec![FILL; room];
-        let number = self.archive.sheet(chart, &mut ours);
+        let number = self.archive.sheet(chart, self.region, &mut ours);
         self.written("sheet", chart, calls::sheet, number, &ours);
     }
 
     fn written(&mut self, call: &str, chart: &[u8], plain: Writer, number: i64, ours: &[u8]) {
         let mut theirs = vec![FILL; ours.len()];
-        self.agree(call, chart, number, plain(chart, &mut theirs));
+        let expected = plain(chart, self.region as u64, &mut theirs);
+        self.agree(call, chart, number, expected);
         assert_eq!(ours, theirs, "{call}, chart {chart:02X?}");
     }
 
     fn pair(&mut self, chart: &[u8], a: usize, b: usize) {
-        let number = self.archive.pair(chart, a, b);
-        let theirs = calls::pair(chart, a as u64, b as u64);
+        let number = self.archive.pair(chart, self.region, a, b);
+        let theirs = calls::pair(chart, self.region as u64, a as u64, b as u64);
         self.agree(&format!("pair {a} {b}"), chart, number, theirs);
     }
 
     fn judge(&mut self, chart: &[u8], claims: &[u8]) {
-        let number = self.archive.judge(chart, claims);
-        let theirs = calls::judge(chart, claims);
+        let number = self.archive.judge(chart, self.region, claims);
+        let theirs = calls::judge(chart, self.region as u64, claims);
         self.agree(&format!("judge {claims:?}"), chart, number, theirs);
     }
 }
@@ -96,6 +102,7 @@ fn all_calls_agree() {
     for index in 0..CHARTS {
         let (_, chart) = charts::draw(&mut random);
         let nodes = comparison.admit(&chart);
+        comparison.region = any_region(&mut random, &chart);
         for room in rooms(calls::PHASE_BYTES * nodes) {
             comparison.phases(&chart, room);
         }
@@ -108,9 +115,10 @@ fn all_calls_agree() {
         }
     }
     let outcomes = comparison.outcomes;
-    let line = format!("{CHARTS} charts from seed {SEED}; outcomes 0 to 13: {outcomes:?}");
+    let line = format!("{CHARTS} charts from seed {SEED}; outcomes 0 to 23: {outcomes:?}");
     writeln!(std::io::stderr(), "{line}").expect("standard error is open");
-    assert!(outcomes.iter().all(|&times| times > 500), "{line}");
+    let mut rows = (0..=13).chain([23]);
+    assert!(rows.all(|row| outcomes[row] > 500), "{line}");
 }
 
 #[test]

@@ -1,11 +1,11 @@
 //! The constants of the wrapper, which are those of the header, are the second implementation's.
 
 use bohrali::layout::{self, ConstructKind, NodeKind};
-use bohrali::{limits, Answer};
+use bohrali::{limits, Answer, Region};
 use reference::answers::Rules;
 use reference::calls::PHASE_BYTES;
 use reference::chart::{Chart, Construct, Edge, Node, Trailer};
-use reference::{masked, printing};
+use reference::{masked, printing, regions};
 
 #[test]
 fn limits_of_a_chart() {
@@ -48,6 +48,8 @@ fn kinds() {
     assert_eq!(ConstructKind::Ordered as u8, Construct::ORDERED);
     assert_eq!(ConstructKind::Sections as u8, Construct::SECTIONS);
     assert_eq!(ConstructKind::Section as u8, Construct::SECTION);
+    assert_eq!(ConstructKind::Parallel as u8, Construct::PARALLEL);
+    assert_eq!(Region::OUTERMOST, usize::from(regions::OUTERMOST));
     assert_eq!(Answer::Concurrent as u8, Rules::CONCURRENT);
     assert_eq!(Answer::AT_BARRIER, Rules::BARRIER);
 }

@@ -4,6 +4,7 @@
 use charts::damage;
 use charts::random::Random;
 use charts::valid::{valid, Shape, FAR_FILTERS, NEAR_FILTERS};
+use compare::regions::OUTERMOST;
 use compare::Archive;
 use reference::builder::ChartBuilder;
 use reference::chart::Construct;
@@ -23,10 +24,17 @@ fn chart_y_with_all_filters() {
             let chart = chart_y([one, other], &[]);
             assert_eq!(archive.agree(&chart), 66_056, "{one} {other}");
             let answer = if one == other { 2 } else { 0 };
-            assert_eq!(archive.pair(&chart, 2, 5), answer, "{one} {other}");
-            assert_eq!(archive.pair(&chart, 2, 2), 2, "{one} {other}");
+            assert_eq!(
+                archive.pair(&chart, OUTERMOST, 2, 5),
+                answer,
+                "{one} {other}"
+            );
+            assert_eq!(archive.pair(&chart, OUTERMOST, 2, 2), 2, "{one} {other}");
             let verdict = if one == other { 0 } else { 3 };
-            assert_eq!(archive.judge(&chart, &[2, 2, 5, 5, 5, 2]), verdict);
+            assert_eq!(
+                archive.judge(&chart, OUTERMOST, &[2, 2, 5, 5, 5, 2]),
+                verdict
+            );
         }
     }
 }

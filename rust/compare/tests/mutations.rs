@@ -3,6 +3,7 @@
 
 use charts::damage::scattered;
 use charts::random::Random;
+use compare::regions::any_region;
 use compare::Archive;
 use reference::{calls, known};
 
@@ -20,6 +21,9 @@ fn mutated_charts_and_claims() {
         known::chart_x(&[(7, 1)]),
         known::chart_y([1, 2], &[]),
         known::figure_2b(),
+        known::chart_z(&[(6, 1)]),
+        known::chart_w(),
+        known::chart_t(1, &[]),
     ];
     let mut admitted = 0;
     let mut chart = from[0].clone();
@@ -36,15 +40,16 @@ fn mutated_charts_and_claims() {
         let number = archive.admit(&chart);
         assert_eq!(number, calls::admit(&chart), "step {step}: {chart:02X?}");
         admitted += usize::from(number > 0);
+        let region = any_region(&mut random, &chart);
         assert_eq!(
-            archive.judge(&chart, &claims),
-            calls::judge(&chart, &claims),
+            archive.judge(&chart, region, &claims),
+            calls::judge(&chart, region as u64, &claims),
             "step {step}: {chart:02X?} {claims:?}"
         );
         let (a, b) = (claims[0], claims[1]);
         assert_eq!(
-            archive.pair(&chart, a.into(), b.into()),
-            calls::pair(&chart, a.into(), b.into()),
+            archive.pair(&chart, region, a.into(), b.into()),
+            calls::pair(&chart, region as u64, a.into(), b.into()),
             "step {step}: {chart:02X?} {claims:?}"
         );
     }

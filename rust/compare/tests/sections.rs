@@ -4,6 +4,7 @@
 use charts::damage;
 use charts::random::Random;
 use charts::valid::{valid, Shape};
+use compare::regions::OUTERMOST;
 use compare::Archive;
 use reference::builder::ChartBuilder;
 use reference::chart::Construct;
@@ -36,9 +37,12 @@ fn chart_x_and_edges_added_to_it() {
         }
     }
     assert_eq!(archive.admit(&chart_x(&[(4, 5)])), -9);
-    assert_eq!(archive.pair(&chart_x(&[]), 2, 4), 5);
-    assert_eq!(archive.pair(&chart_x(&[(7, 1)]), 2, 4), 0);
-    assert_eq!(archive.judge(&chart_x(&[]), &[3, 3, 2, 4, 3, 5]), 3);
+    assert_eq!(archive.pair(&chart_x(&[]), OUTERMOST, 2, 4), 5);
+    assert_eq!(archive.pair(&chart_x(&[(7, 1)]), OUTERMOST, 2, 4), 0);
+    assert_eq!(
+        archive.judge(&chart_x(&[]), OUTERMOST, &[3, 3, 2, 4, 3, 5]),
+        3
+    );
 }
 
 #[test]

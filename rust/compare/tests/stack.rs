@@ -1,21 +1,40 @@
 //! Every call, on the costliest charts, in a thread with a stack of 64 KiB.
 
 use bohrali::limits::MOST_NODES;
+use bohrali::Region::{self, Outermost};
+use reference::builder::ChartBuilder;
+use reference::known::{longest, one_region};
 use std::thread;
 
 const STACK: usize = 64 * 1024;
 
+/// A parallel around 188 plain nodes in a row.
+fn inner() -> Vec<u8> {
+    let plain = |chart: &mut ChartBuilder, region: u8| {
+        for _ in 0..188 {
+            chart.plain(region);
+        }
+    };
+    one_region(plain).bytes()
+}
+
 #[test]
 fn calls_fit_a_small_stack() {
-    let longest = ("the longest chart", reference::known::longest());
-    for (name, chart) in charts::benchmark::all().into_iter().chain([longest]) {
+    let outermost = charts::benchmark::all().map(|(name, chart)| (name, chart, Outermost));
+    let others = [
+        ("the longest chart", longest(), Outermost),
+        ("an inner region", inner(), Region::Parallel(0)),
+    ];
+    for (name, chart, region) in outermost.into_iter().chain(others) {
         let mut out = vec![0; MOST_NODES * MOST_NODES];
         let calls = move || {
             bohrali::admit(&chart).expect(name);
-            bohrali::judge(&chart, &[1, 1]).expect(name);
-            bohrali::pair(&chart, 1, 1).expect(name);
-            bohrali::phases(&chart, &mut out).expect(name);
-            bohrali::sheet(&chart, &mut out).expect(name);
+            let node = if region == Outermost { 1 } else { 2 };
+            bohrali::judge(&chart, region, &[node; 2]).expect(name);
+            let node = usize::from(node);
+            bohrali::pair(&chart, region, node, node).expect(name);
+            bohrali::phases(&chart, region, &mut out).expect(name);
+            bohrali::sheet(&chart, region, &mut out).expect(name);
         };
         let thread = thread::Builder::new().stack_size(STACK).spawn(calls);
         thread.expect("a thread").join().expect(name);

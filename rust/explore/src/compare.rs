@@ -1,12 +1,14 @@
-//! The comparison: for every pair of non-barrier nodes of a chart, the exploration finds the pair met
-//! exactly when the answer is 0 and the team has two threads, and among them one for each node; a large
-//! enough team has all that.
+//! The comparison: for every pair of non-barrier nodes of each region of a chart, the exploration finds
+//! the pair met exactly when the answer is 0 and the team has two threads, and among them one for each
+//! node; a large enough team has all that.
 
 use crate::fault::Fault;
+use crate::regions::Readings;
 use crate::search::{met, Met};
 use crate::team::Team;
 use reference::answers::Rules;
 use reference::chart::Chart;
+use reference::regions::OUTERMOST;
 
 /// How far an exploration goes.
 #[derive(Clone, Copy, Debug)]
@@ -23,8 +25,10 @@ pub struct Bounds<'a> {
 /// What was compared.
 #[derive(Clone, Copy, Debug, Default)]
 pub struct Tally {
-    /// Charts with every pair decided.
+    /// Charts as read for a region with every pair decided.
     pub charts: usize,
+    /// Of those, the ones read for an inner region.
+    pub inner: usize,
     /// Pairs by their answer.
     pub answers: [usize; 6],
     /// Of those answered 0, the pairs for which the team lacks a thread.
@@ -33,28 +37,42 @@ pub struct Tally {
     pub skipped: usize,
 }
 
-/// A pair whose answer and exploration disagree.
+/// A pair whose answer and exploration disagree, by the numbers of the chart as read for a region.
 #[derive(Clone, Copy, Debug)]
 pub struct Mismatch {
+    pub region: u8,
     pub a: usize,
     pub b: usize,
     pub answer: u8,
     pub encounters: u8,
 }
 
-/// Compares all pairs of one chart, with or without a planted fault.
+/// Compares all pairs of all regions of one chart, with or without a planted fault.
 pub fn compare(
     chart: &Chart,
     bounds: &Bounds,
     fault: Option<Fault>,
     tally: &mut Tally,
 ) -> Result<(), Mismatch> {
-    let mut rules = Rules::of(chart.clone());
+    let mut regions = chart.regions().into_iter();
+    regions.try_for_each(|region| {
+        let readings = Readings::of(chart, region, fault);
+        compare_region(&readings, bounds, fault, tally)
+    })
+}
+
+fn compare_region(
+    readings: &Readings,
+    bounds: &Bounds,
+    fault: Option<Fault>,
+    tally: &mut Tally,
+) -> Result<(), Mismatch> {
+    let mut rules = Rules::of(readings.ruled.clone());
     if let Some(fault) = fault {
         fault.plant(&mut rules);
     }
     for encounters in bounds.first_encounters..=bounds.most_encounters {
-        let team = Team::of_numbers(chart, bounds.threads, encounters).with_fault(fault);
+        let team = Team::of_numbers(&readings.run, bounds.threads, encounters).with_fault(fault);
         let Some(met) = met(&team, bounds.most_states) else {
             tally.skipped += 1;
             return Ok(());
@@ -64,6 +82,7 @@ pub fn compare(
         let raise = missed.is_some() && encounters < bounds.most_encounters;
         if let Some((a, b)) = unlike(false).or(missed.filter(|_| !raise)) {
             return Err(Mismatch {
+                region: readings.region,
                 a,
                 b,
                 answer: rules.answer(a, b),
@@ -72,6 +91,7 @@ pub fn compare(
         }
         if !raise {
             tally.add(&rules, &team);
+            tally.inner += usize::from(readings.region != OUTERMOST);
             break;
         }
     }
@@ -80,7 +100,7 @@ pub fn compare(
 
 /// The first pair expected and not met, or the first one not expected and met.
 fn first_unlike(rules: &Rules, team: &Team, met: &Met, expected: bool) -> Option<(usize, usize)> {
-    pairs(&rules.chart).find(|&(a, b)| {
+    pairs(team.chart).find(|&(a, b)| {
         let is_met = met[a] >> b & 1 == 1;
         let zero = rules.answer(a, b) == Rules::CONCURRENT;
         let due = zero && team.suffices_for(a, b);
@@ -98,7 +118,7 @@ fn pairs(chart: &Chart) -> impl Iterator<Item = (usize, usize)> + '_ {
 impl Tally {
     fn add(&mut self, rules: &Rules, team: &Team) {
         self.charts += 1;
-        for (a, b) in pairs(&rules.chart) {
+        for (a, b) in pairs(team.chart) {
             let answer = rules.answer(a, b);
             self.answers[usize::from(answer)] += 1;
             let lacking = answer == Rules::CONCURRENT && !team.suffices_for(a, b);

@@ -34,11 +34,17 @@ pub enum Fault {
     AnyThreadEnters,
     /// The thread of the filter's number may go past it.
     MaskedSkipped,
+    /// Constructs of deeper regions count for the region that is read.
+    DeeperConstructsCounted,
+    /// A barrier of a deeper region stays one for the region that is read.
+    InnerBarrierKept,
+    /// The edge from a region's end to its begin is not cut away, and its Finish opens along it.
+    EndToBeginKept,
 }
 
 impl Fault {
     /// Those that change an answer or a pair met.
-    pub const COMPARED: [Fault; 11] = [
+    pub const COMPARED: [Fault; 13] = [
         Fault::SingleReturnDropped,
         Fault::OrderedReturnDropped,
         Fault::CommonEndsDropped,
@@ -50,12 +56,15 @@ impl Fault {
         Fault::FilterIgnored,
         Fault::FilterLowByte,
         Fault::AnyThreadEnters,
+        Fault::DeeperConstructsCounted,
+        Fault::InnerBarrierKept,
     ];
     /// Those that allow further runs, in which no further pair is met.
-    pub const TRACED: [Fault; 3] = [
+    pub const TRACED: [Fault; 4] = [
         Fault::SectionsLeftEarly,
         Fault::PastForgotten,
         Fault::MaskedSkipped,
+        Fault::EndToBeginKept,
     ];
 
     /// Puts a fault of the pair rules into what they look at; team faults change nothing here.

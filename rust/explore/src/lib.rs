@@ -1,9 +1,11 @@
 //! Explicit-state exploration of the team rules on small charts, to compare what teams can do with
-//! what the pair rules answer: answer 0 exactly when a finished run meets the pair.
+//! what the pair rules answer: answer 0 exactly when a finished run meets the pair, for the team of each
+//! region over the chart so read.
 
 pub mod compare;
 pub mod fault;
 pub mod masked;
+pub mod regions;
 pub mod search;
 mod sections;
 pub mod team;

@@ -43,7 +43,7 @@ impl State {
     }
 }
 
-/// A team over an admitted chart of at most `MOST_CONSTRUCTS` constructs.
+/// A team over a chart as read for its region, of at most `MOST_CONSTRUCTS` constructs.
 pub struct Team<'a> {
     pub(crate) chart: &'a Chart,
     successors: Vec<Vec<usize>>,
@@ -100,7 +100,7 @@ impl<'a> Team<'a> {
     /// "All counts begin at 0, all threads at Start"; no section is taken.
     pub fn first_state(&self) -> State {
         State {
-            nodes: [self.chart.start() as u8; MOST_THREADS],
+            nodes: [self.chart.start as u8; MOST_THREADS],
             encounters: [[0; MOST_CONSTRUCTS]; MOST_THREADS],
             taken: [0; MOST_THREADS],
         }
@@ -113,7 +113,7 @@ impl<'a> Team<'a> {
 
     /// "A finished run is one after which all threads are at Finish."
     pub fn is_finished(&self, state: &State) -> bool {
-        self.all_at(state, self.chart.finish())
+        self.all_at(state, self.chart.finish)
     }
 
     fn all_at(&self, state: &State, node: usize) -> bool {
@@ -133,7 +133,8 @@ impl<'a> Team<'a> {
     /// taken "after an opening".
     fn release(&self, state: &State, next: &mut Vec<State>) {
         let barrier = usize::from(state.nodes[0]);
-        let closed = !self.chart.is_barrier(barrier) || barrier == self.chart.finish();
+        let last = barrier == self.chart.finish && self.fault != Some(Fault::EndToBeginKept);
+        let closed = !self.chart.is_barrier(barrier) || last;
         if closed || !self.all_at(state, barrier) {
             return;
         }

@@ -35,14 +35,15 @@ fn agree(threads: &[u16], first_seed: u64, time: Duration) -> Tally {
     }
     let Tally {
         charts,
+        inner,
         answers,
         lacking,
         skipped,
     } = tally;
     let pairs: usize = answers.iter().sum();
     report(&format!(
-        "threads {threads:?}, seeds {first_seed} to {}: {charts} charts, {pairs} pairs agree \
-         (answers 0 to 5: {answers:?}, a thread lacks for {lacking}); {skipped} explorations skipped",
+        "threads {threads:?}, seeds {first_seed} to {}: {charts} regions, {inner} of them inner, {pairs} pairs \
+         agree (answers 0 to 5: {answers:?}, a thread lacks for {lacking}); {skipped} explorations skipped",
         seed - 1
     ));
     tally

@@ -91,7 +91,7 @@ fn teams_smaller_than_a_filter_go_past() {
     for (filters, threads) in [([3, 3], 3), ([2, 3], 2), ([65_535, 256], 4), ([1, 2], 1)] {
         let chart = y(filters);
         let met = met(&Team::new(&chart, threads, 2), 100_000).expect("few states");
-        let finish = chart.finish();
+        let finish = chart.finish;
         let waited = met[finish] >> finish & 1 == 1;
         assert_eq!(waited, threads > 1, "{filters:?}: the run finishes");
         assert_eq!((met[2], met[5]), (0, 0), "{filters:?}");

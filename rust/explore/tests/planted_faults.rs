@@ -1,11 +1,12 @@
 //! Each planted fault of the comparison makes an answer and an exploration disagree within two
 //! thousand charts, on a chart where they agree without it. Under the others the same pairs are met,
-//! by other steps; `sections` and `masked` have runs for each that the rules forbid.
+//! by other steps; `sections`, `masked` and `regions` have runs for each that the rules forbid.
 
 use charts::random::Random;
 use explore::compare::{compare, Bounds, Tally};
 use explore::fault::Fault;
 use explore::masked::large_enough;
+use explore::regions::Readings;
 use explore::search::steps;
 use explore::team::Team;
 use reference::refusals::decode_checked;
@@ -41,15 +42,17 @@ fn every_planted_fault_is_noticed() {
     }
 }
 
-/// Whether the team of a seed's chart takes the same steps with a fault as without.
+/// Whether the teams of a seed's chart take the same steps with a fault as without.
 fn same_steps(seed: u64, fault: Fault) -> bool {
     let bytes = charts::small(&mut Random::new(seed));
     let chart = decode_checked(&bytes).expect("a valid chart");
-    let taken = |fault: Option<Fault>| {
-        let team = Team::new(&chart, 2, FIRST_ENCOUNTERS);
+    let taken = |region: u8, fault: Option<Fault>| {
+        let read = Readings::of(&chart, region, fault).run;
+        let team = Team::new(&read, 2, FIRST_ENCOUNTERS);
         steps(&team.with_fault(fault), MOST_STATES)
     };
-    taken(Some(fault)) == taken(None)
+    let mut regions = chart.regions().into_iter();
+    regions.all(|region| taken(region, Some(fault)) == taken(region, None))
 }
 
 #[test]

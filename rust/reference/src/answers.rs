@@ -7,7 +7,7 @@ use crate::phases::Phases;
 /// One rule: whether it applies to two nodes.
 type Rule = fn(&Rules, usize, usize) -> bool;
 
-/// An admitted chart with its phases and, for each node, the constructs around it; for answer 5 the
+/// A chart as read for a region with its phases and, for each node, the constructs around it; for answer 5 the
 /// sections that it is inside, their begins and ends counted as inside.
 #[derive(Clone, Debug)]
 pub struct Rules {
@@ -19,7 +19,7 @@ pub struct Rules {
 
 impl Rules {
     pub const CONCURRENT: u8 = 0;
-    /// What Sheet writes where either node is a barrier.
+    /// What Sheet writes where either node is a barrier or outside the region.
     pub const BARRIER: u8 = 255;
 
     pub fn of(chart: Chart) -> Rules {

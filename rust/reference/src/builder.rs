@@ -74,6 +74,11 @@ impl ChartBuilder {
         self.node(Node::BARRIER, Construct::NONE)
     }
 
+    /// A barrier of an inner region.
+    pub fn barrier_of(&mut self, region: u8) -> usize {
+        self.node(Node::BARRIER, region)
+    }
+
     pub fn plain(&mut self, construct: u8) -> usize {
         self.node(Node::PLAIN, construct)
     }

@@ -51,6 +51,8 @@ impl Construct {
     pub const ORDERED: u8 = 5;
     pub const SECTIONS: u8 = 6;
     pub const SECTION: u8 = 7;
+    /// A region of its own.
+    pub const PARALLEL: u8 = 8;
     /// "255 for none": no construct, or no parent.
     pub const NONE: u8 = 255;
 }
@@ -102,13 +104,15 @@ impl Trailer {
     }
 }
 
-/// A chart as its records.
+/// A chart as its records, with the nodes where its team starts and finishes.
 #[derive(Clone, Debug, PartialEq, Eq)]
 pub struct Chart {
     pub edition: u16,
     pub nodes: Vec<Node>,
     pub edges: Vec<Edge>,
     pub constructs: Vec<Construct>,
+    pub start: usize,
+    pub finish: usize,
 }
 
 impl Chart {
@@ -117,7 +121,7 @@ impl Chart {
     pub const CONSTRUCT_LIMITS: std::ops::RangeInclusive<usize> = 0..=48;
     pub const MOST_BARRIERS: usize = 64;
 
-    /// Decodes a chart whose trailer passed rows 2 to 4.
+    /// Decodes a chart whose trailer passed rows 2 to 4. "Node 0 is Start, node n-1 is Finish."
     pub fn decode(bytes: &[u8], trailer: &Trailer) -> Chart {
         let (nodes, rest) = bytes.split_at(Node::BYTES * trailer.nodes);
         let (edges, rest) = rest.split_at(Edge::BYTES * trailer.edges);
@@ -128,15 +132,9 @@ impl Chart {
             nodes: nodes.chunks(Node::BYTES).map(node).collect(),
             edges: edges.chunks(Edge::BYTES).map(edge).collect(),
             constructs: constructs.chunks(width).map(construct).collect(),
+            start: 0,
+            finish: trailer.nodes - 1,
         }
-    }
-
-    pub fn start(&self) -> usize {
-        0
-    }
-
-    pub fn finish(&self) -> usize {
-        self.nodes.len() - 1
     }
 
     pub fn is_barrier(&self, node: usize) -> bool {

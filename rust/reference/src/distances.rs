@@ -3,12 +3,12 @@
 
 use crate::calls::result_part;
 use crate::chart::Chart;
-use crate::refusals::decode_checked;
+use crate::regions::read;
 
-/// What stands for a barrier.
+/// What stands for a barrier, and for a node outside the region.
 pub const AT_BARRIER: u8 = 255;
 
-/// The distance of each node of an admitted chart. A search from all barriers at once finds a node
+/// The distance of each node of a chart as read for a region. A search from all barriers at once finds a node
 /// first by a path with the fewest edges; it does not go on from a barrier that it meets.
 pub fn distances(chart: &Chart) -> Vec<u8> {
     let successors = chart.successors();
@@ -31,11 +31,15 @@ pub fn distances(chart: &Chart) -> Vec<u8> {
 }
 
 /// The call: a byte for each node. Refusals and what is returned are as for Phases.
-pub fn write(chart: &[u8], out: &mut [u8]) -> i64 {
-    let written = decode_checked(chart).and_then(|chart| {
-        let result = result_part(out, chart.nodes.len())?;
-        result.copy_from_slice(&distances(&chart));
-        Ok(chart.nodes.len() as i64)
+pub fn write(chart: &[u8], region: u64, out: &mut [u8]) -> i64 {
+    let written = read(chart, region).and_then(|region| {
+        let nodes = region.place.len();
+        let result = result_part(out, nodes)?;
+        let known = distances(&region.chart);
+        for (distance, place) in result.iter_mut().zip(&region.place) {
+            *distance = place.map_or(AT_BARRIER, |x| known[x]);
+        }
+        Ok(nodes as i64)
     });
     written.unwrap_or_else(|refusal| -i64::from(refusal))
 }

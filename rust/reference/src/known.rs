@@ -1,5 +1,6 @@
-//! The charts of 01's "Charts with known answers", one with sections and one of edition 2, as bytes:
-//! for the tests here, for the exploration and for the comparison with other implementations.
+//! The charts of 01's "Charts with known answers", one with sections, one of edition 2 and some with
+//! regions, as bytes: for the tests here, for the exploration and for the comparison with other
+//! implementations.
 
 use crate::builder::ChartBuilder;
 use crate::chart::Construct;
@@ -107,6 +108,91 @@ pub fn chart_y(filters: [u16; 2], added: &[(usize, usize)]) -> Vec<u8> {
     chart.barrier();
     chart.row();
     added.iter().for_each(|&(from, to)| chart.edge(from, to));
+    chart.bytes()
+}
+
+/// Constructs (kind, name), each the only child of the one before, with a plain node in the innermost
+/// one or none; edges in a row.
+pub fn nested(constructs: &[(u8, u16)], filled: bool) -> ChartBuilder {
+    let mut chart = ChartBuilder::new();
+    chart.barrier();
+    for (number, &(kind, name)) in constructs.iter().enumerate() {
+        let parent = number.checked_sub(1);
+        let parent = parent.map_or(Construct::NONE, |above| above as u8);
+        let construct = chart.construct(kind, parent, name);
+        chart.begin(construct);
+    }
+    if filled {
+        chart.plain((constructs.len() - 1) as u8);
+    }
+    for construct in (0..constructs.len()).rev() {
+        chart.end(construct as u8);
+    }
+    chart.barrier();
+    chart.row();
+    chart
+}
+
+/// A parallel from node 1 on around what `fill` adds to it; edges in a row.
+pub fn one_region(fill: impl Fn(&mut ChartBuilder, u8)) -> ChartBuilder {
+    let mut chart = ChartBuilder::new();
+    let region = chart.construct(Construct::PARALLEL, Construct::NONE, 0);
+    chart.barrier();
+    chart.begin(region);
+    fill(&mut chart, region);
+    chart.end(region);
+    chart.barrier();
+    chart.row();
+    chart
+}
+
+/// Chart Z: a parallel, in it a single around one plain node and then a barrier; edges added.
+pub fn chart_z(added: &[(usize, usize)]) -> Vec<u8> {
+    let mut chart = one_region(|chart, region| {
+        let single = chart.construct(Construct::SINGLE, region, 0);
+        chart.begin(single);
+        chart.plain(single);
+        chart.end(single);
+        chart.barrier_of(region);
+    });
+    added.iter().for_each(|&(from, to)| chart.edge(from, to));
+    chart.bytes()
+}
+
+/// Chart W: a parallel with a barrier whose number is below those of its begin and end.
+pub fn chart_w() -> Vec<u8> {
+    let mut chart = ChartBuilder::new();
+    let region = chart.construct(Construct::PARALLEL, Construct::NONE, 0);
+    chart.barrier();
+    chart.barrier_of(region);
+    chart.begin(region);
+    chart.end(region);
+    chart.plain(region);
+    chart.barrier();
+    for (from, to) in [(0, 2), (1, 3), (2, 4), (3, 5), (4, 1)] {
+        chart.edge(from, to);
+    }
+    chart.bytes()
+}
+
+/// Chart V: a parallel in a parallel, around one plain node.
+pub fn chart_v() -> Vec<u8> {
+    nested(&[(Construct::PARALLEL, 0); 2], true).bytes()
+}
+
+/// Chart T: a single in a parallel in a construct of one kind, around one plain node, with edges added.
+pub fn chart_t(outer: u8, added: &[(usize, usize)]) -> Vec<u8> {
+    let inner = [Construct::PARALLEL, Construct::SINGLE];
+    let mut chart = nested(&[(outer, 0), (inner[0], 0), (inner[1], 0)], true);
+    added.iter().for_each(|&(from, to)| chart.edge(from, to));
+    chart.bytes()
+}
+
+/// Chart U: a single in a parallel, around one plain node, and an edge from the parallel's end to its
+/// begin.
+pub fn chart_u() -> Vec<u8> {
+    let mut chart = nested(&[(Construct::PARALLEL, 0), (Construct::SINGLE, 0)], true);
+    chart.edge(5, 1);
     chart.bytes()
 }
 

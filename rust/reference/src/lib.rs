@@ -13,10 +13,11 @@ pub mod masked;
 pub mod phases;
 pub mod printing;
 pub mod refusals;
+pub mod regions;
 pub mod scopes;
 pub mod sections;
 
-/// What Admit tells of an admitted chart.
+/// What Admit tells of an admitted chart: counts of the outermost region.
 #[derive(Clone, Copy, Debug, PartialEq, Eq)]
 pub struct Counts {
     pub nodes: usize,
@@ -26,7 +27,7 @@ pub struct Counts {
 
 /// Admit: a refusal 1 to 10, or the counts.
 pub fn admit(chart: &[u8]) -> Result<Counts, u8> {
-    let chart = refusals::decode_checked(chart)?;
+    let chart = regions::read_outermost(chart)?;
     Ok(Counts {
         nodes: chart.nodes.len(),
         barriers: chart.barriers().len(),

@@ -3,7 +3,7 @@
 
 use crate::chart::Chart;
 
-/// What the pair rules need to know of an admitted chart. A mask has bit b for barrier b.
+/// What the pair rules need to know of a chart as read for a region. A mask has bit b for barrier b.
 #[derive(Clone, Debug)]
 pub struct Phases {
     pub starts: Vec<u64>,

@@ -2,18 +2,18 @@
 //! it is given on standard input.
 
 use crate::answers::Rules;
-use crate::refusals::decode_checked;
+use crate::regions::read_outermost;
 use std::fmt::Write;
 
 /// Input over so many bytes "prints `refused 4`", whatever they are; 02: "now takes 3,120 bytes".
 pub const MOST_BYTES: usize = 3120;
 
-/// All that the program prints.
+/// All that the program prints, which are "the outermost region's" lines.
 pub fn text(input: &[u8]) -> String {
     let chart = if input.len() > MOST_BYTES {
         Err(4)
     } else {
-        decode_checked(input)
+        read_outermost(input)
     };
     match chart {
         Ok(chart) => lines(&Rules::of(chart)).expect("text grows"),

@@ -57,27 +57,27 @@ fn wrong_distances(length: usize, trailer: &Trailer) -> bool {
     length != trailer.length() || trailer.distances != expected
 }
 
-/// Row 5: "kind over 3; construct number neither below c nor 255; barrier not 255; begin or end
-/// with 255".
+/// Row 5: "kind over 3; construct number neither below c nor 255; barrier not 255" (02: or naming a
+/// parallel, but not at node 0 or n-1); "begin or end with 255".
 fn wrong_node(chart: &Chart) -> bool {
-    chart.nodes.iter().any(|node| {
+    chart.nodes.iter().enumerate().any(|(number, node)| {
         let none = node.construct == Construct::NONE;
         match node.kind {
             Node::PLAIN => !none && usize::from(node.construct) >= chart.constructs.len(),
-            Node::BARRIER => !none,
+            Node::BARRIER => chart.is_wrong_barrier(number),
             Node::BEGIN | Node::END => usize::from(node.construct) >= chart.constructs.len(),
             _ => true,
         }
     })
 }
 
-/// Row 6: "kind not 1 to 5" (02: or 6 or 7); "parent not lower and not 255; name not 0 on a
+/// Row 6: "kind not 1 to 5" (02: or 6 to 8); "parent not lower and not 255; name not 0 on a
 /// non-critical; nesting broken"; 02: "a node or construct wrongly in a sections", "a filter on
 /// another kind" than masked. Nesting comes after the fields: its walk outward ends only if every
 /// parent is lower.
 fn wrong_construct(chart: &Chart) -> bool {
     let wrong_fields = chart.constructs.iter().enumerate().any(|(number, own)| {
-        !(Construct::SINGLE..=Construct::SECTION).contains(&own.kind)
+        !(Construct::SINGLE..=Construct::PARALLEL).contains(&own.kind)
             || (own.parent != Construct::NONE && usize::from(own.parent) >= number)
             || (own.kind != Construct::CRITICAL && own.name != 0)
             || own.is_wrongly_filtered()
@@ -98,11 +98,12 @@ fn wrong_begin_or_end(chart: &Chart) -> bool {
         .any(|number| count(Node::BEGIN, number) != 1 || count(Node::END, number) != 1)
 }
 
-/// Row 8: "node 0 or n-1 no barrier; over 64 barriers".
+/// Row 8: "node 0 or n-1 no barrier; over 64 barriers", which are counted "per region".
 fn wrong_barriers(chart: &Chart) -> bool {
-    !chart.is_barrier(chart.start())
-        || !chart.is_barrier(chart.finish())
-        || chart.barriers().len() > Chart::MOST_BARRIERS
+    let too_many = |&region: &u8| chart.barriers_of(region) > Chart::MOST_BARRIERS;
+    !chart.is_barrier(chart.start)
+        || !chart.is_barrier(chart.finish)
+        || chart.regions().iter().any(too_many)
 }
 
 /// Row 9: "node number n or more; not strictly rising by (from, to); into Start; out of Finish;
@@ -115,8 +116,8 @@ fn wrong_edge(chart: &Chart) -> bool {
         || chart.edges.windows(2).any(not_rising)
         || chart.edges.iter().any(|edge| {
             let (from, to) = (usize::from(edge.from), usize::from(edge.to));
-            to == chart.start()
-                || from == chart.finish()
+            to == chart.start
+                || from == chart.finish
                 || chart.leaving_scope(from) != chart.arriving_scope(to)
                 || chart.joins_sections(from, to)
         })
@@ -130,8 +131,8 @@ fn unreachable(chart: &Chart) -> bool {
     for (from, targets) in successors.iter().enumerate() {
         targets.iter().for_each(|&to| predecessors[to].push(from));
     }
-    let reached = connected(chart.start(), &successors);
-    let reaching = connected(chart.finish(), &predecessors);
+    let reached = connected(chart.start, &successors);
+    let reaching = connected(chart.finish, &predecessors);
     !reached.into_iter().chain(reaching).all(|found| found)
 }
 

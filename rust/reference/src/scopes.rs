@@ -4,8 +4,9 @@
 use crate::chart::{Chart, Construct, Node};
 
 /// By kind, the kinds that may enclose it at any depth: row = kind, column = kind above, both in
-/// the order single, master, critical, do, ordered, sections, section.
-pub const MAY_ENCLOSE: [[bool; 7]; 7] = [
+/// the order single, master, critical, do, ordered, sections, section; the last row is the parallel's,
+/// which has no column: above it is another region.
+pub const MAY_ENCLOSE: [[bool; 7]; 8] = [
     [false, false, false, false, false, false, false],
     [false, false, true, false, false, false, false],
     [true, true, true, true, true, true, true],
@@ -13,6 +14,7 @@ pub const MAY_ENCLOSE: [[bool; 7]; 7] = [
     [false, false, false, true, false, false, false],
     [false, false, false, false, false, false, false],
     [false, false, false, false, false, true, false],
+    [true, true, true, true, true, true, true],
 ];
 
 impl Chart {
@@ -58,7 +60,7 @@ impl Chart {
     }
 
     /// "Nesting": whether a construct breaks the table, an ordered has no do as its parent, or a
-    /// critical is below one of the same name.
+    /// critical is below one of the same name, all within its region.
     pub fn breaks_nesting(&self, construct: usize) -> bool {
         let own = self.constructs[construct];
         let orphan = own.kind == Construct::ORDERED
@@ -66,13 +68,13 @@ impl Chart {
                 || self.constructs[usize::from(own.parent)].kind != Construct::DO);
         orphan
             || self
-                .outward(own.parent)
+                .above_in_region(construct)
                 .iter()
                 .any(|&above| !may_enclose(&self.constructs[above], &own))
     }
 }
 
-/// Whether one construct may be anywhere above another.
+/// Whether one construct may be anywhere above another of its region.
 pub fn may_enclose(above: &Construct, below: &Construct) -> bool {
     let same_critical = above.kind == Construct::CRITICAL
         && below.kind == Construct::CRITICAL

@@ -5,14 +5,14 @@ use crate::chart::{Chart, Construct, Node};
 
 impl Chart {
     /// "Only section begins and ends lie directly in a sections": a plain node there is wrong. Begins
-    /// and ends are asked by their constructs, and a barrier names none.
+    /// and ends are asked by their constructs, and a barrier lies in none but a parallel.
     pub fn is_stray(&self, node: usize) -> bool {
         let Node { kind, construct } = self.nodes[node];
         kind == Node::PLAIN && self.is_kind(construct, Construct::SECTIONS)
     }
 
-    /// Whether a construct is a section whose parent is no sections, or another one directly in a
-    /// sections.
+    /// Whether a construct is a section whose parent is no sections, or another one, a parallel too,
+    /// directly in a sections.
     pub fn is_misplaced(&self, construct: usize) -> bool {
         let own = self.constructs[construct];
         self.is_kind(own.parent, Construct::SECTIONS) != (own.kind == Construct::SECTION)
@@ -50,7 +50,7 @@ impl Chart {
     }
 
     /// Whether a construct number, which may be 255 for none, names a construct of a kind.
-    fn is_kind(&self, construct: u8, kind: u8) -> bool {
+    pub(crate) fn is_kind(&self, construct: u8, kind: u8) -> bool {
         let named = self.constructs.get(usize::from(construct));
         named.is_some_and(|x| x.kind == kind)
     }

@@ -1,9 +1,10 @@
 //! The five calls on lent buffers: lengths, bytes past a result, and refusals 11 to 13 with their
 //! order after a chart's own refusals.
 
-use reference::calls::{admit, judge, pair, phases, sheet};
+use reference::calls::admit;
 use reference::chart::Construct;
 use reference::known::*;
+use reference::regions::outermost::{judge, pair, phases, sheet};
 
 const FILL: u8 = 0xAA;
 

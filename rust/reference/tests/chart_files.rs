@@ -1,5 +1,5 @@
-//! The files in charts/ are the charts of 01, chart X with sections and chart Y of edition 2 that they
-//! are named after.
+//! The files in charts/ are the charts of 01, chart X with sections, chart Y of edition 2 and chart Z with
+//! a region inside that they are named after.
 
 use reference::chart::Construct;
 use reference::known;
@@ -20,6 +20,7 @@ fn files_are_the_known_charts() {
         ("d", known::chart_d(&[])),
         ("x", known::chart_x(&[])),
         ("y", known::chart_y([1, 2], &[])),
+        ("z", known::chart_z(&[])),
         ("figure-2b", known::figure_2b()),
     ] {
         let file = folder.join(name).with_extension("chart");

@@ -1,13 +1,13 @@
 //! Distances of charts that can be checked by eye, and the call that writes them.
 
-use reference::distances::{distances, write};
+use reference::distances::distances;
 use reference::known::*;
-use reference::refusals::decode_checked;
+use reference::regions::{outermost, read_outermost};
 
 const FILL: u8 = 0xAA;
 
 fn of(chart: &[u8]) -> Vec<u8> {
-    distances(&decode_checked(chart).expect("an admitted chart"))
+    distances(&read_outermost(chart).expect("an admitted chart"))
 }
 
 #[test]
@@ -30,10 +30,10 @@ fn the_longest_path() {
 #[test]
 fn the_call_writes_its_result_alone() {
     let mut out = [FILL; 9];
-    assert_eq!(write(&chart_k(), &mut out), 5);
+    assert_eq!(outermost::distances(&chart_k(), &mut out), 5);
     assert_eq!(out, [255, 1, 255, 1, 255, FILL, FILL, FILL, FILL]);
     let mut short = [FILL; 4];
-    assert_eq!(write(&chart_k(), &mut short), -11);
-    assert_eq!(write(&chart_k()[1..], &mut short), -4);
+    assert_eq!(outermost::distances(&chart_k(), &mut short), -11);
+    assert_eq!(outermost::distances(&chart_k()[1..], &mut short), -4);
     assert_eq!(short, [FILL; 4]);
 }

@@ -2,9 +2,10 @@
 //! pair rules.
 
 use reference::builder::ChartBuilder;
-use reference::calls::{admit, pair};
+use reference::calls::admit;
 use reference::chart::Construct;
 use reference::known::*;
+use reference::regions::outermost::pair;
 
 const NONE: u8 = Construct::NONE;
 

@@ -3,8 +3,9 @@
 
 use reference::builder::ChartBuilder;
 use reference::chart::Construct;
-use reference::known::longest;
+use reference::known::{longest, one_region};
 use reference::masked::construct_bytes;
+use reference::regions::OUTERMOST;
 use reference::{admit, calls};
 use std::fmt::Write;
 use std::{fs, path::PathBuf};
@@ -80,13 +81,30 @@ fn add_chart(text: &mut String, name: &str, chart: &[u8]) {
     .expect("text grows");
 }
 
-fn add_pair(text: &mut String, chart: &[u8], a: u8, b: u8) {
-    let number = calls::pair(chart, a.into(), b.into());
+fn add_pair(text: &mut String, chart: &[u8], region: u8, pair: &[u8]) {
+    let (a, b) = (pair[0], pair[1]);
+    let within = match region {
+        OUTERMOST => String::new(),
+        _ => format!(" in region {region}"),
+    };
+    let number = calls::pair(chart, region.into(), a.into(), b.into());
     match number {
-        0.. => writeln!(text, "  pair {a} {b} answered {number}"),
-        _ => writeln!(text, "  pair {a} {b} refused {}", -number),
+        0.. => writeln!(text, "  pair {a} {b}{within} answered {number}"),
+        _ => writeln!(text, "  pair {a} {b}{within} refused {}", -number),
     }
     .expect("text grows");
+}
+
+/// Pairs of the outermost region, and behind each `@` those of the region that a letter names.
+fn add_pairs(text: &mut String, chart: &[u8], line: &str) {
+    let (first, named) = line.split_once('@').unwrap_or((line, ""));
+    let named = named.split('@').map(letters).filter(|x| !x.is_empty());
+    let regions = named.map(|spelt| (spelt[0], spelt[1..].to_vec()));
+    for (region, pairs) in [(OUTERMOST, letters(first))].into_iter().chain(regions) {
+        for pair in pairs.chunks(2) {
+            add_pair(text, chart, region, pair);
+        }
+    }
 }
 
 fn add_spelt(text: &mut String) {
@@ -94,9 +112,7 @@ fn add_spelt(text: &mut String) {
     for line in stored("stdin").lines() {
         let line = line.split('#').next().expect("the part before a comment");
         if let Some(pairs) = line.strip_prefix('?') {
-            for pair in letters(pairs).chunks(2) {
-                add_pair(text, &chart, pair[0], pair[1]);
-            }
+            add_pairs(text, &chart, pairs);
         } else if line.contains('/') {
             let (name, parts) = line.split_once('/').expect("a name and parts");
             chart = spelt(parts);
@@ -151,6 +167,14 @@ fn barriers(count: usize) -> ChartBuilder {
     })
 }
 
+fn barriers_of_a_region(count: usize) -> ChartBuilder {
+    one_region(|chart, region| {
+        for _ in 0..count {
+            chart.barrier_of(region);
+        }
+    })
+}
+
 fn add_limits(text: &mut String) {
     for (name, chart) in [
         ("nodes-192", plain(190)),
@@ -161,6 +185,8 @@ fn add_limits(text: &mut String) {
         ("constructs-49", criticals(49)),
         ("barriers-64", barriers(62)),
         ("barriers-65", barriers(63)),
+        ("region-barriers-64", barriers_of_a_region(62)),
+        ("region-barriers-65", barriers_of_a_region(63)),
     ] {
         add_chart(text, name, &chart.bytes());
     }

@@ -2,12 +2,13 @@
 //! gain, with what lies just inside it, edition 1 as it was, and rule 2 by filters.
 
 use reference::builder::ChartBuilder;
-use reference::calls::{admit, judge, pair, phases, sheet};
+use reference::calls::admit;
 use reference::chart::{Construct, Node, Trailer};
 use reference::known::*;
 use reference::masked;
 use reference::printing::{text, MOST_BYTES};
 use reference::refusals::decode_checked;
+use reference::regions::outermost::{judge, pair, phases, sheet};
 
 const NONE: u8 = Construct::NONE;
 

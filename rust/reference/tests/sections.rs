@@ -3,10 +3,11 @@
 
 use reference::answers::Rules;
 use reference::builder::ChartBuilder;
-use reference::calls::{admit, judge, pair};
+use reference::calls::admit;
 use reference::chart::{Construct, Node};
-use reference::known::{chart_s, chart_x};
+use reference::known::{chart_s, chart_x, nested};
 use reference::refusals::decode_checked;
+use reference::regions::outermost::{judge, pair};
 
 const NONE: u8 = Construct::NONE;
 
@@ -20,27 +21,6 @@ fn changed(change: fn(&mut ChartBuilder)) -> i64 {
     let mut chart = x();
     change(&mut chart);
     admit(&chart.bytes())
-}
-
-/// A chart of constructs (kind, name), each the only child of the one before, with a plain node in
-/// the innermost one or none.
-fn nested(constructs: &[(u8, u16)], filled: bool) -> Vec<u8> {
-    let mut chart = ChartBuilder::new();
-    chart.barrier();
-    for (number, &(kind, name)) in constructs.iter().enumerate() {
-        let parent = number.checked_sub(1).map_or(NONE, |above| above as u8);
-        let construct = chart.construct(kind, parent, name);
-        chart.begin(construct);
-    }
-    if filled {
-        chart.plain((constructs.len() - 1) as u8);
-    }
-    for construct in (0..constructs.len()).rev() {
-        chart.end(construct as u8);
-    }
-    chart.barrier();
-    chart.row();
-    chart.bytes()
 }
 
 #[test]
@@ -95,12 +75,9 @@ fn with_detour(kind: u8) -> Vec<u8> {
 #[test]
 fn row_6_nesting_table() {
     let below_above = |below: u8, above: u8| match above {
-        Construct::ORDERED => admit(&nested(&[(4, 0), (above, 0), (below, 0)], false)),
-        Construct::SECTION => admit(&nested(&[(6, 0), (above, 0), (below, 0)], false)),
-        _ => admit(&nested(
-            &[(above, 0), (below, u16::from(below == 3))],
-            false,
-        )),
+        Construct::ORDERED => admit(&nested(&[(4, 0), (above, 0), (below, 0)], false).bytes()),
+        Construct::SECTION => admit(&nested(&[(6, 0), (above, 0), (below, 0)], false).bytes()),
+        _ => admit(&nested(&[(above, 0), (below, u16::from(below == 3))], false).bytes()),
     };
     for below in 1..=7 {
         for above in 1..=7 {
@@ -116,7 +93,7 @@ fn row_6_nesting_table() {
 
 #[test]
 fn row_6_kinds_and_names() {
-    for kind in [0, 8, 9, 255] {
+    for kind in [0, 9, 255] {
         assert_eq!(admit(&chart_s(kind, &[])), -6, "kind {kind}");
     }
     assert_eq!(changed(|x| x.constructs[0].name = 1), -6, "a name");
@@ -139,7 +116,7 @@ fn row_6_what_lies_in_a_sections() {
 #[test]
 fn row_6_below_a_section() {
     let (sections, section) = ((6, 0), (7, 0));
-    let number = |constructs: &[(u8, u16)]| admit(&nested(constructs, true));
+    let number = |constructs: &[(u8, u16)]| admit(&nested(constructs, true).bytes());
     assert_eq!(number(&[sections, section, (3, 0)]), 66_057);
     assert_eq!(number(&[sections, section, (3, 1), (3, 2)]), 66_059);
     assert_eq!(number(&[sections, section, (3, 1), (3, 1)]), -6);
@@ -209,7 +186,7 @@ fn an_edge_past_the_sections_changes_no_answer() {
 
 #[test]
 fn sections_without_a_section() {
-    let chart = nested(&[(6, 0)], false);
+    let chart = nested(&[(6, 0)], false).bytes();
     assert_eq!(chart.len(), 42);
     assert_eq!(admit(&chart), 66_052);
     assert_eq!(pair(&chart, 1, 1), 0);
@@ -218,7 +195,7 @@ fn sections_without_a_section() {
 
 #[test]
 fn a_critical_in_a_section() {
-    let chart = nested(&[(6, 0), (7, 0), (3, 5)], true);
+    let chart = nested(&[(6, 0), (7, 0), (3, 5)], true).bytes();
     for (a, b) in [(4, 4), (3, 5), (2, 6), (2, 4), (3, 3)] {
         assert_eq!(pair(&chart, a, b), 5, "{a} {b}");
     }

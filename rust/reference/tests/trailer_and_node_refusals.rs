@@ -1,7 +1,6 @@
 //! Refusals 1 to 8: each condition of each row alone, with what lies just inside the limit, and the
 //! order of rows 5 to 7.
 
-use reference::builder::ChartBuilder;
 use reference::calls::admit;
 use reference::chart::{Construct, Node};
 use reference::known::*;
@@ -110,7 +109,7 @@ fn row_5_nodes() {
 #[test]
 fn row_6_fields() {
     let chart = || chart_s(Construct::SINGLE, &[]);
-    for kind in [0, 6, 7, 8, 255] {
+    for kind in [0, 6, 7, 9, 255] {
         assert_eq!(with_byte(chart(), 28, kind), -6, "kind {kind}");
     }
     for parent in [0, 1, 47, 254] {
@@ -133,19 +132,7 @@ fn row_6_fields() {
 
 /// The number for a chart of constructs (kind, name), each the only child of the one before.
 fn nested(constructs: &[(u8, u16)]) -> i64 {
-    let mut chart = ChartBuilder::new();
-    chart.barrier();
-    for (number, &(kind, name)) in constructs.iter().enumerate() {
-        let parent = number.checked_sub(1).map_or(NONE, |above| above as u8);
-        let construct = chart.construct(kind, parent, name);
-        chart.begin(construct);
-    }
-    for construct in (0..constructs.len()).rev() {
-        chart.end(construct as u8);
-    }
-    chart.barrier();
-    chart.row();
-    admit(&chart.bytes())
+    admit(&reference::known::nested(constructs, false).bytes())
 }
 
 #[test]

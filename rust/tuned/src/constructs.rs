@@ -10,10 +10,11 @@ const DO: u8 = 4;
 const ORDERED: u8 = 5;
 const SECTIONS: u8 = 6;
 const SECTION: u8 = 7;
+pub const PARALLEL: u8 = 8;
 
-/// By kind, the kinds that may be above, bit k for kind k.
+/// By kind, the kinds that may be above in its region, bit k for kind k; the first entry is a parallel's.
 const ABOVE: [u8; 8] = [
-    0,
+    0b1111_1110,
     0,
     1 << CRITICAL,
     0b1111_1110,
@@ -24,9 +25,9 @@ const ABOVE: [u8; 8] = [
 ];
 
 /// By kind, what of these must not be all that is above. Nothing is above a do or a sections, so that
-/// their bit alone tells the parent: an ordered and a section have one, a critical is not directly in a
-/// sections. Bit 0 is no kind's.
-const NOT_ALL: [u8; 8] = [1, 1, 1, 1 << SECTIONS, 1, 0, 1, 0];
+/// their bit alone tells the parent: an ordered and a section have one, a critical and a parallel are not
+/// directly in a sections. Bit 0 is not above anything: a parallel's, since nesting starts anew in it.
+const NOT_ALL: [u8; 8] = [1 << SECTIONS, 1, 1, 1 << SECTIONS, 1, 0, 1, 0];
 
 /// The bit of an exclusion that all masters of edition 1 share; constructs have bits 0 to 47.
 const ANY_MASTER: u64 = 1 << 63;
@@ -57,7 +58,7 @@ pub struct Constructs {
     pub parts: u64,
 }
 
-/// What is above a construct, itself included.
+/// What is above a construct in its region, itself included unless it is a parallel.
 struct Above {
     kinds: [u8; 64],
     /// Bits of the names of criticals; two names may share one.
@@ -149,7 +150,23 @@ impl Constructs {
         if kinds & kind_bit(SECTIONS) != 0 {
             self.read_sections(table);
         }
+        if kinds & kind_bit(PARALLEL) != 0 {
+            self.read_regions(table);
+        }
         true
+    }
+
+    /// Constructs of inner regions count for nothing: what lies there has the exclusions of the parallel
+    /// around it. Their returns, though looked for, take nothing away.
+    #[inline(never)]
+    fn read_regions(&mut self, table: &[Record]) {
+        let mut inner = 0u64;
+        for (number, &[kind, parent, ..]) in table.iter().enumerate() {
+            if kind == PARALLEL || inner >> at(parent) & 1 == 1 {
+                inner |= 1 << number;
+                self.excludes[number & 63] = self.excludes[at(parent)];
+            }
+        }
     }
 
     /// What is known only of charts with a sections construct.
@@ -165,7 +182,7 @@ impl Constructs {
     }
 }
 
-/// The bit of a kind from 1 to 7.
+/// The bit of a kind from 1 to 8, bit 0 for the last.
 #[inline(always)]
 fn kind_bit(kind: u8) -> u8 {
     1 << (kind & 7)
@@ -179,7 +196,7 @@ impl Above {
         let critical = kind == CRITICAL;
         let outer = at(parent);
         let kinds = self.kinds[outer];
-        if kind.wrapping_sub(1) > 6
+        if kind.wrapping_sub(1) > 7
             || (parent != NONE && usize::from(parent) >= number)
             || (!critical && low | high != 0)
             || kinds & !ABOVE[usize::from(kind & 7)] != 0
@@ -192,16 +209,21 @@ impl Above {
         if self.names[outer] & name != 0 && repeats_name(table, record) {
             return false;
         }
-        self.kinds[number & 63] = kinds | kind_bit(kind);
-        self.names[number & 63] = self.names[outer] | name;
+        if kind != PARALLEL {
+            self.kinds[number & 63] = kinds | kind_bit(kind);
+            self.names[number & 63] = self.names[outer] | name;
+        }
         true
     }
 }
 
-/// Whether a critical is below one of the same name; all parents are lower.
+/// Whether a critical is below one of the same name in its region; all parents are lower.
 fn repeats_name(table: &[Record], critical: &Record) -> bool {
     let mut above = critical[1];
     while let Some(&[kind, parent, low, high]) = table.get(usize::from(above)) {
+        if kind == PARALLEL {
+            return false;
+        }
         if kind == CRITICAL && [low, high] == [critical[2], critical[3]] {
             return true;
         }

@@ -1,6 +1,9 @@
 //! The calls written for speed: the best Rust known for them, which the benchmark measures against. No
 //! heap, no unsafe code, no features of a processor beyond the target's own.
 //!
+//! They are those for the outermost region, which is what the benchmark asks: charts with regions inside
+//! are read and refused like any other, but no inner region can be named.
+//!
 //! With `LEVELS` a call also works out the fewest edges on a barrier-free path from any start to every
 //! node, whether it tells them or not, as the library's marking does.
 //!

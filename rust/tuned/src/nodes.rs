@@ -2,8 +2,8 @@
 //! nodes: loops over bytes of one kind are vectorised, loops over records are not.
 
 use crate::bits::{members, packed, Nodes as Set, ONES};
-use crate::constructs::{at, Constructs};
-use crate::tables::{Tables, MOST_BARRIERS, MOST_NODES};
+use crate::constructs::{at, Constructs, PARALLEL};
+use crate::tables::{Tables, MOST_BARRIERS, MOST_NODES, NONE};
 use std::ops::Range;
 
 const PLAIN: u8 = 0;
@@ -16,6 +16,8 @@ pub struct Nodes {
     pub kind: [u8; MOST_NODES],
     number: [u8; MOST_NODES],
     pub barriers: usize,
+    /// Whether an inner region has too many barriers.
+    crowded: bool,
     /// The node of each barrier.
     pub barrier: [u8; 64],
     /// 1 for a barrier; where there are no constructs.
@@ -35,6 +37,7 @@ impl Nodes {
             kind: [0; MOST_NODES],
             number: [0; MOST_NODES],
             barriers: 0,
+            crowded: false,
             barrier: [0; 64],
             closed: [0; 256],
             leaving: [0; 256],
@@ -84,7 +87,7 @@ impl Nodes {
         })
     }
 
-    /// Kinds and numbers; false if row 5 applies.
+    /// Kinds and numbers, as the outermost region has them; false if row 5 applies.
     #[inline(always)]
     fn take_apart(&mut self, t: &Tables, constructs: usize) -> bool {
         let n = t.nodes.len().min(MOST_NODES);
@@ -103,7 +106,35 @@ impl Nodes {
             let most = if kind == BARRIER { 0 } else { count };
             wrong |= u8::from(kind > END) | u8::from(next > most) | u8::from(next < kind >> 1);
         }
-        wrong == 0
+        // A barrier with a number is wrong, or one of an inner region.
+        wrong == 0 || self.take_inner_barriers(t, n, count)
+    }
+
+    /// Makes the barriers of inner regions plain nodes, and counts them; false if row 5 applies.
+    #[inline(never)]
+    fn take_inner_barriers(&mut self, t: &Tables, n: usize, constructs: u8) -> bool {
+        let mut counts = [0usize; 64];
+        for node in 0..n {
+            let number = self.number[node];
+            let framed = node != 0 && node != n - 1;
+            let fine = match self.kind[node] {
+                PLAIN => number == NONE || number < constructs,
+                BARRIER if number == NONE => true,
+                BARRIER => framed && t.constructs.kind_of(number) == Some(PARALLEL),
+                BEGIN | END => number < constructs,
+                _ => false,
+            };
+            if !fine {
+                return false;
+            }
+            if self.kind[node] == BARRIER && number != NONE {
+                self.kind[node] = PLAIN;
+                counts[at(number)] += 1;
+            }
+        }
+        // A region's begin and end are barriers too.
+        self.crowded = counts.iter().any(|&count| count + 2 > MOST_BARRIERS);
+        true
     }
 
     /// Row 6: whether a plain node lies directly in a sections construct.
@@ -171,6 +202,6 @@ impl Nodes {
             count += 1;
         }
         self.barriers = count;
-        count <= MOST_BARRIERS
+        count <= MOST_BARRIERS && !self.crowded
     }
 }

@@ -20,6 +20,17 @@ pub enum Records<'a> {
     Second(&'a [Filtered]),
 }
 
+impl Records<'_> {
+    /// The kind byte of a construct, if there is one of this number.
+    pub fn kind_of(&self, number: u8) -> Option<u8> {
+        let number = usize::from(number);
+        match self {
+            Records::First(table) => table.get(number).map(|record| record[0]),
+            Records::Second(table) => table.get(number).map(|record| record[0]),
+        }
+    }
+}
+
 /// The tables of bytes that passed rows 1 to 4.
 #[derive(Clone, Copy)]
 pub struct Tables<'a> {

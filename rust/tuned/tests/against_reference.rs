@@ -1,11 +1,12 @@
-//! The tuned calls give what the reference gives, with levels and without: numbers, written bytes,
+//! The tuned calls give what the reference gives for the outermost region, with levels and without: numbers, written bytes,
 //! bytes that must stay, and the levels themselves, on random charts of all kinds and on those of the
 //! benchmark.
 
 use charts::random::Random;
 use charts::{benchmark, draw};
-use reference::known::{chart_y, longest};
-use reference::{calls, distances};
+use reference::calls;
+use reference::known::*;
+use reference::regions::{outermost, read_outermost};
 
 const FILL: u8 = 0xAA;
 
@@ -31,7 +32,7 @@ fn claims(random: &mut Random, nodes: usize) -> Vec<u8> {
 
 /// Claims that are not refused: no barriers among them.
 fn open_claims(random: &mut Random, chart: &[u8]) -> Vec<u8> {
-    let chart = reference::refusals::decode_checked(chart).expect("an admitted chart");
+    let chart = read_outermost(chart).expect("an admitted chart");
     let open: Vec<u8> = (0..chart.nodes.len())
         .filter(|&x| !chart.is_barrier(x))
         .map(|x| x as u8)
@@ -43,9 +44,9 @@ fn open_claims(random: &mut Random, chart: &[u8]) -> Vec<u8> {
 /// The calls that write, with results of all lengths around their own.
 fn assert_written<const LEVELS: bool>(chart: &[u8], nodes: usize, seed: u64) {
     let writers: [(usize, Writer, Writer); 3] = [
-        (16 * nodes, tuned::phases::<LEVELS>, calls::phases),
-        (nodes * nodes, tuned::sheet::<LEVELS>, calls::sheet),
-        (nodes, tuned::distances, distances::write),
+        (16 * nodes, tuned::phases::<LEVELS>, outermost::phases),
+        (nodes * nodes, tuned::sheet::<LEVELS>, outermost::sheet),
+        (nodes, tuned::distances, outermost::distances),
     ];
     for (result, tuned, reference) in writers {
         for length in [0, result - 1, result, result + 9] {
@@ -58,11 +59,11 @@ fn assert_written<const LEVELS: bool>(chart: &[u8], nodes: usize, seed: u64) {
 fn assert_judged<const LEVELS: bool>(chart: &[u8], nodes: usize, seed: u64) {
     let mut random = Random::new(seed);
     let pair = |a: usize, b: usize| {
-        let reference = calls::pair(chart, a as u64, b as u64);
+        let reference = outermost::pair(chart, a as u64, b as u64);
         assert_eq!(tuned::pair::<LEVELS>(chart, a, b), reference, "seed {seed}");
     };
     let judge = |claims: &[u8]| {
-        let reference = calls::judge(chart, claims);
+        let reference = outermost::judge(chart, claims);
         let tuned = tuned::judge::<LEVELS>(chart, claims);
         assert_eq!(tuned, reference, "seed {seed}");
     };
@@ -108,7 +109,7 @@ fn admit_and_levels_on_many_charts() {
         for tuned in [tuned::admit::<true>(&chart), tuned::admit::<false>(&chart)] {
             assert_eq!(tuned, reference, "draw {index}, {source:?}");
         }
-        assert_writes_alike(&chart, 192, tuned::distances, distances::write, index);
+        assert_writes_alike(&chart, 192, tuned::distances, outermost::distances, index);
     }
 }
 
@@ -138,6 +139,24 @@ fn masked_charts() {
     let pairs = filters.map(|one| filters.map(|other| [one, other]));
     let each = pairs.as_flattened().iter().map(|&x| chart_y(x, &[(6, 1)]));
     for (seed, chart) in each.chain([longest()]).enumerate() {
+        assert_alike::<true>(&chart, seed as u64);
+        assert_alike::<false>(&chart, seed as u64);
+    }
+}
+
+/// Charts with regions inside, and with 62 and 63 barriers in one.
+#[test]
+fn charts_with_regions() {
+    let known = [chart_z(&[]), chart_w(), chart_v(), chart_u()];
+    let around = (1..=4).map(|kind| chart_t(kind, &[(7, 1)]));
+    let full = [61, 62, 63].map(charts::regions::region_of_barriers);
+    let drawn = (0..1_000).map(|seed| {
+        let mut random = Random::new(seed);
+        let shape = charts::valid::Shape::nested(&mut random);
+        charts::valid::valid(&mut random, &shape).bytes()
+    });
+    let each = known.into_iter().chain(around).chain(full).chain(drawn);
+    for (seed, chart) in each.enumerate() {
         assert_alike::<true>(&chart, seed as u64);
         assert_alike::<false>(&chart, seed as u64);
     }

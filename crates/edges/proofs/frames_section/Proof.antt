@@ -6,7 +6,7 @@ use borrow.Author.Needs.{needs}
 use Rattle.chart.specs.Format.{decode}
 use Rattle.chart.specs.Refusal.{framesSection}
 use Rattle.chart.proofs.Records.{nodes-length, constructs-length}
-use Rattle.nodes.proofs.Frames.{frame-below}
+use Rattle.edges.proofs.Scopes.{frame-below}
 use Rattle.edges.proofs.frames_section.Statement.{statement}
 use Rattle.edges.proofs.frames_section.Tie as tie
 

@@ -8,7 +8,7 @@ use borrow.Author.Needs.{needs}
 use Rattle.chart.specs.Scope.{scopeAt, scope, liesIn, parentOf}
 use Rattle.chart.specs.Format.{decode, constructAt}
 use Rattle.chart.proofs.Records.{nodes-length, constructs-length}
-use Rattle.nodes.proofs.Frames.{frame-below}
+use Rattle.edges.proofs.Scopes.{frame-below}
 use Rattle.edges.proofs.scope.Statement.{statement}
 use Rattle.edges.proofs.scope.Tie as tie
 

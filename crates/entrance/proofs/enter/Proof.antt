@@ -1,15 +1,15 @@
--- `entrance::enter` meets its contract: rows 1 to 9, and where none of them applies row 10.
+-- `entrance::enter` meets its contract: rows 1 to 10 of the outermost region, and where none of them applies row 23.
 -- Assumes nothing.
-use mathlib.Core.Path.{sym, _∙_}
+use mathlib.Core.Path.{_≡_, sym, _∙_}
 use borrow.Author.Needs.{needs}
 use Rattle.lists.specs.Truth.{bad}
-use Rattle.loading.proofs.Rows.{refused-before}
-use Rattle.entrance.specs.Entered.{entered}
+use Rattle.entrance.proofs.Entering.{entered-refused, entered-marked, entered-counts}
+use Rattle.entrance.proofs.Naming.{refused-first, marked-outermost}
 use Rattle.entrance.proofs.enter.Statement.{statement}
 use Rattle.entrance.proofs.enter.Tie as tie
 
-check-requires : tie.Need-check-requires
-check-requires c κs = search needs
+enter-outermost-requires : tie.Need-enter-outermost-requires
+enter-outermost-requires c κs = search needs
 
 enum-known-refusal : tie.Need-enum-known-refusal
 enum-known-refusal c = search needs
@@ -17,26 +17,43 @@ enum-known-refusal c = search needs
 enum-known-chart : tie.Need-enum-known-chart
 enum-known-chart c = search needs
 
-enter-chart-requires : tie.Need-enter-chart-requires
-enter-chart-requires c κs = sym (c .before .before .before .before .before .before .check .ensures) ∙ c .before .before .before .before .chart .given .1
-
-returns : tie.Need-returns
-unfolding entered
-returns c =
+refused : tie.Need-returns-2
+refused c =
     let k = c .before .before .before in
-    let e = refused-before (k .before .before .args .s .now) _ (sym (k .check .ensures) ∙ c .before .refusal .given .1) in
-    (rw e, λ chart total q. absurd (bad (cc)))
+    let e = k .before .before .before .before .before in
+    let h = entered-refused _ _ _ (sym (k .enter-outermost .ensures .0) ∙ c .before .refusal .given .1) in
+    (refused-first (e .args .s .now) (e .args .region) _ h, λ chart total q. absurd (bad (cc)))
 
-returns-2 : tie.Need-returns-2
-returns-2 c = search needs
+enter-inner-requires : tie.Need-enter-inner-requires
+enter-inner-requires c κs =
+    let left = c .before .before .before in
+    let m = left .before .before in
+    let k = m .before .before in
+    let h = sym (k .enter-outermost .ensures .0) ∙ m .chart .given .1 in
+    (entered-marked _ _ _ h, entered-counts _ _ _ h, k .enter-outermost .ensures .1 _ _ (m .chart .given .1) .accepted, left .if1 .left)
+
+-- the outermost region
+whole : tie.Need-returns
+whole c =
+    let m = c .before .before in
+    let k = m .before .before in
+    let e = k .before .before .before .before .before in
+    let given = m .chart .given .1 in (
+      marked-outermost (e .args .s .now) (sym given ∙ k .enter-outermost .ensures .0) (e .args .region) (c .if1 .taken),
+      λ chart total q. k .enter-outermost .ensures .1 chart total (given ∙ q),
+    )
+
+inner : tie.Need-returns-3
+inner c = c .enter-inner .ensures
 
 pub enter-spec : {M : Type 1} → statement M
 enter-spec =
     tie.close
     (tie.spec
-    check-requires
+    enter-outermost-requires
     enum-known-refusal
     enum-known-chart
-    enter-chart-requires
-    returns
-    returns-2)
+    whole
+    enter-inner-requires
+    refused
+    inner)

@@ -5,8 +5,6 @@ use mathlib.Core.Bool.{true, false}
 use native.Mathlib.Omega.{arith}
 use borrow.Author.Needs.{needs}
 use Rattle.lists.specs.Truth.{bad}
-use Rattle.chart.specs.Format.{decode}
-use Rattle.chart.specs.Reading.{region}
 use Rattle.chart.proofs.Records.{nodes-length}
 use Rattle.loading.specs.Tables.{Accepted}
 use Rattle.loading.proofs.Accepted.{accepted, well-formed}
@@ -37,7 +35,7 @@ fill-starts-requires c κs =
     let l = c .before .before .before .before .before .before in
     let A = is-accepted l in
     let (T, (H, (S, N, Q))) = l .load-tables .ensures in
-    ((few A N, not-none A N, omega (arith, Q, A .laid .nodes-most), (_, H)), nodes-below A N)
+    ((few A N, not-none A N, omega (arith, Q, A .laid .nodes-most), (_, _, H)), nodes-below A N)
 
 returns : tie.Need-returns
 returns c =
@@ -53,7 +51,7 @@ fill-ends-requires c κs =
     let l = loaded (c .before .before .before .before .before .before) in
     let A = is-accepted l in
     let (T, (H, (S, N, Q))) = l .load-tables .ensures in
-    ((few A N, not-none A N, omega (arith, Q, A .laid .nodes-most), (_, H)), nodes-below A N)
+    ((few A N, not-none A N, omega (arith, Q, A .laid .nodes-most), (_, _, H)), nodes-below A N)
 
 returns-2 : tie.Need-returns-2
 returns-2 c =

@@ -1,13 +1,14 @@
--- `judge::judge` meets its contract: rows 1 to 10, and where none of them applies the list's own and the verdict.
+-- `judge::judge` meets its contract: rows 1 to 10 and 23, and where none of them applies the list's own and the verdict.
 -- Assumes nothing.
 use mathlib.Core.Path.{refl, ap, sym, _∙_}
 use borrow.Author.Needs.{needs}
 use Rattle.chart.specs.Format.{decode}
-use Rattle.chart.specs.Reading.{region}
-use Rattle.chart.specs.Checked.{countsOf}
+use Rattle.chart.specs.Reading.{regionOf}
+use Rattle.chart.specs.Checked.{countsOf, readFor}
+use Rattle.chart.specs.declared.format.Chart.{Chart}
 use Rattle.chart.proofs.Rows.{first-decides, second-decides}
 use Rattle.refusals.proofs.Outcome.{passed-none, refused-some}
-use Rattle.paths.specs.Admission.{admitRows}
+use Rattle.paths.specs.Admission.{regionRows}
 use Rattle.survey.specs.Surveyed.{checkedOf}
 use Rattle.verdicts.specs.Judged.{claimRows, judgeRows, answered, judged}
 use Rattle.judge.proofs.judge.Statement.{statement}
@@ -26,7 +27,7 @@ judge-claims-requires : tie.Need-judge-claims-requires
 judge-claims-requires c κs =
     let m = c .before .before in
     let S = m .before .before .survey .ensures .1 _ _ (m .chart .given .1) in
-    (S .accepted .laid, S .marked)
+    (S .accepted, S .marked)
 
 returns : tie.Need-returns
 unfolding judged judgeRows answered checkedOf
@@ -34,8 +35,9 @@ returns c =
     let k = c .before .before .before in
     let e = k .before .before .before .before in
     let s = e .args .s .now in
-    let n = refused-some _ (countsOf s) _ (sym (k .survey .ensures .0) ∙ ap checkedOf (c .before .refusal .given .1)) in
-    rw (first-decides (admitRows s) (claimRows (region (decode s)) (e .args .claims .now)) _ n)
+    let p = e .args .region in
+    let n = refused-some _ (readFor (countsOf s) p) _ (sym (k .survey .ensures .0) ∙ ap checkedOf (c .before .refusal .given .1)) in
+    rw (first-decides (regionRows s p) (claimRows (regionOf p (decode s)) (e .args .claims .now)) _ n)
 
 returns-2 : tie.Need-returns-2
 unfolding judged judgeRows checkedOf
@@ -44,8 +46,10 @@ returns-2 c =
     let k = m .before .before in
     let e = k .before .before .before .before in
     let s = e .args .s .now in
-    let p = passed-none _ (countsOf s) _ (sym (k .survey .ensures .0) ∙ ap checkedOf (m .chart .given .1)) in
-    rw (second-decides (admitRows s) (claimRows (region (decode s)) (e .args .claims .now)) (p .0)) (c .judge-claims .ensures)
+    let p = e .args .region in
+    let n = passed-none _ (readFor (countsOf s) p) _ (sym (k .survey .ensures .0) ∙ ap checkedOf (m .chart .given .1)) in
+    let named = sym (ap (λ (chart : Chart). chart .region) (n .1)) in
+    rw (second-decides (regionRows s p) (claimRows (regionOf p (decode s)) (e .args .claims .now)) (n .0)) (rw named at (c .judge-claims .ensures))
 
 pub judge-spec : {M : Type 1} → statement M
 judge-spec =

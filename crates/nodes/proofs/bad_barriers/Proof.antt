@@ -1,10 +1,19 @@
 -- `nodes::bad_barriers` meets its contract.
 -- Assumes nothing.
+use mathlib.Core.Path.{_≡_, refl, ap, _∙_}
+use mathlib.Core.Bool.{_&&_, _||_}
 use native.Mathlib.Omega.{arith}
-use borrow.Author.Tests.{eq-eqb, ne-eqb}
+use lib.Dec.{ltb}
+use lib.ListN.{length}
+use borrow.Author.Tests.{eq-eqb, ne-eqb, lt-ltb, le-ltb}
 use borrow.Author.Needs.{needs}
-use Rattle.chart.specs.Refusal.{badBarriers, isBarrier}
+use Rattle.lists.specs.Range.{any, count}
+use Rattle.lists.specs.Store.{zeros}
+use Rattle.chart.specs.Format.{outside, decode}
+use Rattle.chart.specs.Nested.{isParallel}
+use Rattle.chart.specs.Refusal.{badBarriers, isBarrier, tooManyIn}
 use Rattle.chart.proofs.Records.{nodes-length}
+use Rattle.nodes.proofs.Counted.{many}
 use Rattle.nodes.proofs.bad_barriers.Statement.{statement}
 use Rattle.nodes.proofs.bad_barriers.Tie as tie
 
@@ -34,23 +43,53 @@ returns-2 c =
       ne-eqb _ _ (c .if2 .taken),
     )
 
-count-barriers-requires : tie.Need-count-barriers-requires
-count-barriers-requires c κs = search needs
-
-returns-3 : tie.Need-returns-3
+-- with a barrier at either end, what is left of the row
+left : (c : tie.Else2) →
+    let e = c .before .before .before .before .before .before .before in
+    let D = decode (e .args .s .now) in
+    badBarriers D ≡ (tooManyIn (D .nodes) outside || any (length (D .constructs)) (λ p. isParallel (D .constructs) p && tooManyIn (D .nodes) p))
 unfolding badBarriers isBarrier
-returns-3 c =
-    let b = c .before in
-    let a = b .before .before .before in
+left c =
+    let a = c .before .before .before in
     let e = a .before .before .before .before in
     rw (
       ← a .before .before .read .ensures .0,
       eq-eqb _ _ (a .if1 .left),
       nodes-length _ (e .args .chart) (e .pre),
-      ← b .before .before .read2 .ensures .0,
-      eq-eqb _ _ (b .if2 .left),
-      c .count-barriers .ensures,
+      ← c .before .before .read2 .ensures .0,
+      eq-eqb _ _ (c .if2 .left),
     )
+
+count-barriers-requires : tie.Need-count-barriers-requires
+unfolding count
+count-barriers-requires c κs =
+    let e = c .before .before .before .before .before .before .before .before in
+    (e .pre, record { long = refl; at = zeros 256 })
+
+array-read-wide : tie.Need-array-read-wide
+array-read-wide c = search needs
+
+wide-requires : tie.Need-wide-requires
+wide-requires c κs = search needs
+
+-- the test of the outermost region, in terms of the decoded chart
+outermost : (c : tie.After-wide) →
+    let e = c .before .before .before .before .before .before .before .before .before .before in
+    ltb 64 (c .wide .result) ≡ tooManyIn (decode (e .args .s .now) .nodes) outside
+outermost c =
+    let e = c .before .before .before .before .before .before .before .before .before .before in
+    ap (ltb 64) (c .wide .ensures .0) ∙ many _ (e .args .chart) (e .pre) (c .before .count-barriers .ensures) outside
+
+returns-3 : tie.Need-returns-3
+returns-3 c = rw (left (c .before .before .before .before), ← outermost (c .before), lt-ltb _ _ (c .if3 .taken))
+
+crowded-requires : tie.Need-crowded-requires
+crowded-requires c κs = search needs
+
+returns-4 : tie.Need-returns-4
+returns-4 c =
+    let l = c .before .before in
+    rw (left (l .before .before .before .before), ← outermost (l .before), le-ltb _ _ (l .if3 .left)) (c .crowded .ensures)
 
 pub bad-barriers-spec : {M : Type 1} → statement M
 bad-barriers-spec =
@@ -62,4 +101,8 @@ bad-barriers-spec =
     read-requires-2
     returns-2
     count-barriers-requires
-    returns-3)
+    array-read-wide
+    wide-requires
+    returns-3
+    crowded-requires
+    returns-4)

@@ -15,14 +15,14 @@ use Rattle.chart.specs.Refusal.{badFrame, badFrames, framesIn}
 use Rattle.chart.specs.Checked.{Laid}
 use Rattle.chart.specs.declared.format.Chart.{Chart}
 use Rattle.chart.proofs.Records.{nodes-length, constructs-length}
-use Rattle.nodes.specs.Frames.{Frames}
+use Rattle.nodes.specs.Counted.{Counted, isFrame}
 use Rattle.nodes.proofs.bad_frames.Statement.{statement}
 use Rattle.nodes.proofs.bad_frames.Tie as tie
 
 -- the counts of a kind decide its half of row 7
-decides : (s : List ℕ) (chart : Chart) (kind : ℕ) (found : List ℕ) → Laid s chart → Frames (decode s) kind (chart .nodes) found
+decides : (s : List ℕ) (chart : Chart) (kind : ℕ) (found : List ℕ) → Laid s chart → Counted (decode s) (isFrame kind) (chart .nodes) found
     → any (chart .constructs) (λ k. not (eqb (getD found k 0) 1)) ≡ badFrame (decode s) kind
-unfolding badFrame
+unfolding badFrame framesIn
 decides s chart kind found L F =
     let D = decode s in
     let test : ℕ → Bool = λ k. not (eqb (framesIn (D .nodes) kind k (length (D .nodes))) 1) in
@@ -30,10 +30,10 @@ decides s chart kind found L F =
     ∙ ap (λ (m : ℕ). any m test) (sym (constructs-length s chart L))
 
 count-frames-requires : tie.Need-count-frames-requires
-unfolding framesIn count
+unfolding count
 count-frames-requires c κs =
     let e = c .before .before .before in
-    (e .pre .0, e .pre .1, record { long = refl; at = zeros 48 }, record { long = refl; at = zeros 48 })
+    (e .pre, record { long = refl; at = zeros 256 }, record { long = refl; at = zeros 256 })
 
 not-ones-requires : tie.Need-not-ones-requires
 not-ones-requires c κs = search needs
@@ -43,7 +43,7 @@ unfolding badFrames
 returns c =
     let f = c .before .before .before in
     let e = f .before .before .before .before in
-    let d = decides (e .args .s .now) (e .args .chart) beginNode _ (e .pre .0) (f .count-frames .ensures .0) in
+    let d = decides (e .args .s .now) (e .args .chart) beginNode _ (e .pre) (f .count-frames .ensures .0) in
     rw (sym d ∙ sym (c .before .not-ones .ensures) ∙ c .if1 .taken)
 
 not-ones-requires-2 : tie.Need-not-ones-requires-2
@@ -55,8 +55,8 @@ returns-2 c =
     let l = c .before .before in
     let f = l .before .before .before in
     let e = f .before .before .before .before in
-    let b = decides (e .args .s .now) (e .args .chart) beginNode _ (e .pre .0) (f .count-frames .ensures .0) in
-    let n = decides (e .args .s .now) (e .args .chart) endNode _ (e .pre .0) (f .count-frames .ensures .1) in
+    let b = decides (e .args .s .now) (e .args .chart) beginNode _ (e .pre) (f .count-frames .ensures .0) in
+    let n = decides (e .args .s .now) (e .args .chart) endNode _ (e .pre) (f .count-frames .ensures .1) in
     rw (sym b ∙ sym (l .before .not-ones .ensures) ∙ l .if1 .left) (c .not-ones2 .ensures ∙ n)
 
 pub bad-frames-spec : {M : Type 1} → statement M

@@ -1,80 +1,84 @@
 -- `nodes::bad_nodes` meets its contract.
 -- Assumes nothing.
+use mathlib.Core.Path.{_≡_, sym, ap, _∙_}
+use mathlib.Core.Bool.{_||_}
 use mathlib.Core.List.{List}
-use mathlib.Core.Bool.{Bool, false}
-use mathlib.Core.Path.{_≡_, refl, sym, ap, _∙_}
-use Prim.Native.Nat.{ℕ, _≤_, _-_}
+use Prim.Native.Nat.{ℕ, _-_}
 use native.Mathlib.Omega.{arith}
 use lib.ListN.{length}
 use borrow.Author.Needs.{needs}
-use Rattle.lists.specs.Range.{any, at-any, any-more}
-use Rattle.chart.specs.Refusal.{badNodeAt, badNodes}
+use Rattle.lists.specs.Range.{any}
 use Rattle.chart.specs.Format.{decode}
-use Rattle.chart.proofs.Records.{nodes-length, constructs-length}
+use Rattle.chart.specs.Refusal.{badNodes}
+use Rattle.chart.specs.Checked.{Laid}
+use Rattle.chart.specs.declared.format.Chart.{Chart}
+use Rattle.chart.proofs.Records.{nodes-length}
+use Rattle.nodes.specs.Counted.{aloneAt, namesRegion}
+use Rattle.nodes.proofs.Outer.{parts}
 use Rattle.nodes.proofs.bad_nodes.Statement.{statement}
 use Rattle.nodes.proofs.bad_nodes.Tie as tie
 
-abbrev bad : List ℕ → ℕ → Bool
-bad s = badNodeAt (decode s)
+read-requires : tie.Need-read-requires
+read-requires c κs = let e = c .before in (e .pre, omega (arith, e .pre .two-nodes))
 
-abbrev Inv-loop : tie.InvT-loop
-Inv-loop s chart n c x₀ x = (x ≤ chart .nodes) × (any x (bad s) ≡ false)
+names-region-requires : tie.Need-names-region-requires
+names-region-requires c κs = search needs
 
-abbrev μ-loop : tie.MeasureT-loop
-μ-loop s chart n c x₀ x = chart .nodes - x
+-- the row in its parts, by the count of the chart
+row : (s : List ℕ) (chart : Chart) → Laid s chart
+    → badNodes (decode s) ≡ ((namesRegion (decode s) 0 || namesRegion (decode s) (chart .nodes - 1)) || any (length (decode s .nodes)) (aloneAt (decode s)))
+row s chart L =
+    let n = nodes-length s chart L in
+    parts (decode s) (omega (arith, n, L .two-nodes))
+    ∙ ap (λ (m : ℕ). (namesRegion (decode s) 0 || namesRegion (decode s) (m - 1)) || any (length (decode s .nodes)) (aloneAt (decode s))) n
 
-loop-holds : tie.Need-loop-holds Inv-loop μ-loop
-unfolding any
-loop-holds c = (omega arith, refl)
+-- the tests of the first node and the last, in terms of the decoded chart
+first : (c : tie.After-names-region) → c .names-region .result ≡ namesRegion (decode (c .before .before .before .args .s .now)) 0
+first c = cc (c .names-region .ensures, c .before .read .ensures .0, c .before .read .ensures .1)
 
-read-requires : tie.Need-read-requires Inv-loop μ-loop
-read-requires c κs = (c .before .before .before .pre, omega arith)
+last : (c : tie.After-names-region2) → let e = c .before .before .before .before .before .before .before in c .names-region2 .result ≡ namesRegion (decode (e .args .s .now)) (e .args .chart .nodes - 1)
+last c = cc (c .names-region2 .ensures, c .before .read2 .ensures .0, c .before .read2 .ensures .1)
 
-bad-node-requires : tie.Need-bad-node-requires Inv-loop μ-loop
-bad-node-requires c κs = search needs
-
--- the test of one node, in terms of the decoded chart
-tested : (c : tie.After-bad-node Inv-loop μ-loop) → c .bad-node .result ≡ bad (c .before .before .before .before .before .args .s .now) (c .before .before .before .loop .x)
-unfolding badNodeAt
-tested c =
-    let e = c .before .before .before .before .before in
-    cc (c .bad-node .ensures, c .before .read .ensures .0, c .before .read .ensures .1, constructs-length _ (e .args .chart) (e .pre))
-
-returns : tie.Need-returns Inv-loop μ-loop
-unfolding badNodes
+returns : tie.Need-returns
 returns c =
-    let e = c .before .before .before .before .before .before in
-    let l = nodes-length _ (e .args .chart) (e .pre) in
-    let x = c .before .before .before .before .loop .x in
-    sym (at-any _ (bad (e .args .s .now)) x (omega arith) (sym (tested (c .before)) ∙ c .if1 .taken))
+    let e = c .before .before .before .before in
+    rw (row _ (e .args .chart) (e .pre), sym (first (c .before)) ∙ c .if1 .taken)
 
-add-x : tie.Need-add-x Inv-loop μ-loop
-add-x c = omega arith
+sub-read : tie.Need-sub-read
+sub-read c = search needs
 
-loop-less : tie.Need-loop-less Inv-loop μ-loop
-loop-less c = omega arith
+read-requires-2 : tie.Need-read-requires-2
+read-requires-2 c κs = search needs
 
-loop-again : tie.Need-loop-again Inv-loop μ-loop
-loop-again c = (omega arith, any-more _ _ (c .before .before .before .before .loop .inv .1) (sym (tested (c .before)) ∙ c .if1 .left))
+names-region-requires-2 : tie.Need-names-region-requires-2
+names-region-requires-2 c κs = search needs
 
-returns-2 : tie.Need-returns-2 Inv-loop μ-loop
-unfolding badNodes
+returns-2 : tie.Need-returns-2
 returns-2 c =
-    let e = c .before .before .before in
-    let q : length (decode (e .args .s .now) .nodes) ≡ c .before .loop .x = omega (arith, nodes-length _ (e .args .chart) (e .pre)) in
-    sym (ap (λ (k : ℕ). any k (bad (e .args .s .now))) q ∙ c .before .loop .inv .1)
+    let a = c .before .before .before .before in
+    let e = a .before .before .before .before in
+    rw (row _ (e .args .chart) (e .pre), sym (first (a .before)) ∙ a .if1 .left, sym (last (c .before)) ∙ c .if2 .taken)
+
+bad-each-requires : tie.Need-bad-each-requires
+bad-each-requires c κs = search needs
+
+returns-3 : tie.Need-returns-3
+returns-3 c =
+    let b = c .before in
+    let a = b .before .before .before .before in
+    let e = a .before .before .before .before in
+    rw (row _ (e .args .chart) (e .pre), sym (first (a .before)) ∙ a .if1 .left, sym (last (b .before)) ∙ b .if2 .left) (c .bad-each .ensures)
 
 pub bad-nodes-spec : {M : Type 1} → statement M
 bad-nodes-spec =
     tie.close
     (tie.spec
-    Inv-loop
-    μ-loop
-    loop-holds
     read-requires
-    bad-node-requires
+    names-region-requires
     returns
-    add-x
-    loop-less
-    loop-again
-    returns-2)
+    sub-read
+    read-requires-2
+    names-region-requires-2
+    returns-2
+    bad-each-requires
+    returns-3)

@@ -3,28 +3,30 @@
 use mathlib.Core.Path.{_≡_, refl, ap, sym, _∙_}
 use Prim.Native.Nat.{ℕ, _+_, _*_, _-_, _≤_, _<_}
 use native.Mathlib.Omega.{arith}
+use native.Mathlib.Nat.{mul-le-mul-right}
 use lib.ListN.{length, getD}
-use Rattle.chart.specs.Format.{decode}
-use Rattle.chart.specs.Reading.{region}
+use Rattle.chart.specs.Region.{Region}
+use Rattle.chart.specs.Checked.{reading}
 use Rattle.chart.proofs.Records.{nodes-length}
 use Rattle.sheets.specs.Sheet.{rowOf}
 use Rattle.lists.specs.Rows.{square, row-room, row-end, after, after-none, after-length, after-more, after-all, part-length}
 use Rattle.answers.specs.Sheet.{entry, row, sheet}
-use Rattle.sheets.proofs.Entries.{stops-closed, kept-row}
+use Rattle.loading.specs.Tables.{Closed}
+use Rattle.profiles.specs.Marks.{Marks}
+use Rattle.sheets.proofs.Entries.{kept-row}
 use Rattle.sheets.proofs.fill_sheet.Statement.{statement}
 use Rattle.sheets.proofs.fill_sheet.Tie as tie
 
 abbrev Inv-loop : tie.InvT-loop
 Inv-loop s marks sets out₀ closed nodes spread last₀ kept₀ n a₀ out last kept a =
-    let R = region (decode s) in
-    (R .nodes ≡ n) × (a ≤ n) × (length out ≡ length out₀) × (out ≡ after (entry R) (R .nodes) a out₀) × (length last ≡ 192)
-    × ((j : ℕ) → j < 192 → getD last j 0 ≡ rowOf closed sets marks kept j)
+    (a ≤ n) × (length last ≡ 192) × ((j : ℕ) → j < 192 → getD last j 0 ≡ rowOf closed sets marks kept j)
+    × ((R : Region) → R .nodes ≡ n → Marks R marks sets → Closed R closed → out ≡ after (entry R) (R .nodes) a out₀)
 
 abbrev μ-loop : tie.MeasureT-loop
 μ-loop s marks sets out₀ closed nodes spread last₀ kept₀ n a₀ out last kept a = n - a
 
-load-stops-requires : tie.Need-load-stops-requires Inv-loop μ-loop
-load-stops-requires c κs = c .before .before .before .pre .0
+load-closed-requires : tie.Need-load-closed-requires Inv-loop μ-loop
+load-closed-requires c κs = c .before .before .before .pre .0
 
 gather-all-requires : tie.Need-gather-all-requires Inv-loop μ-loop
 gather-all-requires c κs = refl
@@ -43,20 +45,32 @@ abbrev start : tie.After-work-row Inv-loop μ-loop → tie.Start Inv-loop μ-loo
 start w = gathered w .before .before .before .before .before .before .before
 
 loop-holds : tie.Need-loop-holds Inv-loop μ-loop
-loop-holds c =
-    let e = start c in
-    let R = region (decode (e .args .s .now)) in
-    let n = nodes-length _ (e .args .chart) (e .pre .0) in (
-      n,
-      omega arith,
-      refl,
-      after-none (entry R) (R .nodes) (e .args .out .now),
-      c .work-row .ensures .0,
-      c .work-row .ensures .1 _ _ (gathered c .gather-all .ensures),
-    )
+loop-holds c = (
+  omega arith,
+  c .work-row .ensures .0,
+  c .work-row .ensures .1 _ _ (gathered c .gather-all .ensures),
+  λ R q M C. after-none (entry R) (R .nodes) (start c .args .out .now),
+)
+
+-- the region that the chart is read for
+abbrev read : tie.Start Inv-loop μ-loop → Region
+read e = reading (e .args .s .now) (e .args .chart)
+
+-- the rows passed are those of its sheet, and so the buffer is as long as it was
+passed : (l : tie.At-loop Inv-loop μ-loop) → let e = start (l .before) in l .loop .out ≡ after (entry (read e)) (read e .nodes) (l .loop .a) (e .args .out .now)
+passed l =
+    let e = start (l .before) in
+    l .loop .inv .3 (read e) (nodes-length _ (e .args .chart) (e .pre .0 .laid)) (e .pre .1) (gathered (l .before) .before .before .before .load-closed .ensures)
+
+long : (l : tie.At-loop Inv-loop μ-loop) → length (l .loop .out) ≡ length (start (l .before) .args .out .now)
+long l =
+    let e = start (l .before) in
+    let n = nodes-length _ (e .args .chart) (e .pre .0 .laid) in
+    let most = mul-le-mul-right {m = l .loop .a} {n = e .args .chart .nodes} (e .args .chart .nodes) (l .loop .inv .0) in
+    ap length (passed l) ∙ after-length (entry (read e)) (read e .nodes) (l .loop .a) (e .args .out .now) (rw n (omega (arith, most, e .pre .2)))
 
 few : (c : tie.In-loop Inv-loop μ-loop) → c .before .loop .a < 192
-few c = omega (arith, start (c .before .before) .pre .0 .nodes-most, c .loop-test .taken)
+few c = omega (arith, start (c .before .before) .pre .0 .laid .nodes-most, c .loop-test .taken)
 
 -- row a ends where the next one starts, within the buffer
 ends : (c : tie.In-loop Inv-loop μ-loop) → let n = start (c .before .before) .args .chart .nodes in (c .before .loop .a + 1) * n ≡ c .before .loop .a * n + n
@@ -65,13 +79,13 @@ ends c = row-end (c .before .loop .a) (start (c .before .before) .args .chart .n
 most : (c : tie.In-loop Inv-loop μ-loop) → (c .before .loop .a + 1) * start (c .before .before) .args .chart .nodes ≤ 36864
 most c =
     let e = start (c .before .before) in
-    omega (arith, ends c, row-room (c .before .loop .a) (e .args .chart .nodes) (c .loop-test .taken), square (e .pre .0 .nodes-most))
+    omega (arith, ends c, row-room (c .before .loop .a) (e .args .chart .nodes) (c .loop-test .taken), square (e .pre .0 .laid .nodes-most))
 
 room : (c : tie.In-loop Inv-loop μ-loop) → (c .before .loop .a + 1) * start (c .before .before) .args .chart .nodes ≤ length (c .before .loop .out)
 room c =
     let l = c .before in
     let e = start (l .before) in
-    omega (arith, ends c, row-room (l .loop .a) (e .args .chart .nodes) (c .loop-test .taken), e .pre .2, l .loop .inv .2)
+    omega (arith, ends c, row-room (l .loop .a) (e .args .chart .nodes) (c .loop-test .taken), e .pre .2, long l)
 
 -- the turn of the loop in which row a is filled
 abbrev turn : tie.After-last3 Inv-loop μ-loop → tie.In-loop Inv-loop μ-loop
@@ -86,7 +100,7 @@ array-read-keep-row c = few (c .before)
 keep-row-requires : tie.Need-keep-row-requires Inv-loop μ-loop
 keep-row-requires c κs =
     let l = c .before .before .before .before .before in
-    (l .before .before .before .before .before .fill-spread .ensures, l .loop .inv .4)
+    (l .before .before .before .before .before .fill-spread .ensures, l .loop .inv .1)
 
 mul-fill-row : tie.Need-mul-fill-row Inv-loop μ-loop
 mul-fill-row c = let i = turn c in omega (arith, most i, ends i)
@@ -112,7 +126,7 @@ fill-row-requires c κs =
     let l = i .before in
     let e = start (l .before) in
     let long = part-length (e .args .chart .nodes) _ _ (l .loop .out) (ends i) (room i) in
-    (omega (arith, long, e .pre .0 .nodes-most), omega (arith, long))
+    (omega (arith, long, e .pre .0 .laid .nodes-most), omega (arith, long))
 
 add-a : tie.Need-add-a Inv-loop μ-loop
 add-a c = omega (arith, few (turn (c .before .before .before .before)))
@@ -129,30 +143,30 @@ loop-again c =
     let i = p .before in
     let l = i .before in
     let e = start (l .before) in
-    let R = region (decode (e .args .s .now)) in
-    let (n, below, long, done, wide, kept) = l .loop .inv in
-    let I = gathered (l .before) .gather-all .ensures in
-    let C = stops-closed (decode (e .args .s .now)) _ (gathered (l .before) .before .before .before .load-stops .ensures) in
-    let next = y .keep-row .ensures .2 _ _ I kept in
-    let filled = f .fill-row .ensures R (n ∙ sym (part-length (e .args .chart .nodes) _ _ (l .loop .out) (ends i) (room i))) C
-    (λ o j h. next j (omega (arith, n, e .pre .0 .nodes-most, h)) ∙ kept-row (e .pre .1) C (l .loop .a) j _ _ (omega (arith, n, i .loop-test .taken)) h (y .keep-row .ensures .1) (p .profile-of .ensures) o)
-    in
-    let now = after-more (entry R) (R .nodes) (l .loop .a) _ _ (e .args .out .now) (l .loop .out) _ (ap (λ (k : ℕ). l .loop .a * k) (sym n))
-    (ends i ∙ ap (λ (k : ℕ). l .loop .a * e .args .chart .nodes + k) (sym n)) done filled
-    in
-    (n, omega arith, ap length now ∙ after-length (entry R) (R .nodes) (l .loop .a + 1) (e .args .out .now) (rw n (omega (arith, room i, long))), now, y .keep-row .ensures .0, next)
+    let (below, wide, kept, done) = l .loop .inv in
+    let next = y .keep-row .ensures .2 _ _ (gathered (l .before) .gather-all .ensures) kept in (
+      omega arith,
+      y .keep-row .ensures .0,
+      next,
+      λ R n M C.
+          let filled = f .fill-row .ensures R (n ∙ sym (part-length (e .args .chart .nodes) _ _ (l .loop .out) (ends i) (room i))) C
+          (λ o j h. next j (omega (arith, n, e .pre .0 .laid .nodes-most, h)) ∙ kept-row M C (l .loop .a) j _ _ (omega (arith, n, i .loop-test .taken)) h (y .keep-row .ensures .1) (p .profile-of .ensures) o)
+          in
+          after-more (entry R) (R .nodes) (l .loop .a) _ _ (e .args .out .now) (l .loop .out) _ (ap (λ (k : ℕ). l .loop .a * k) (sym n))
+          (ends i ∙ ap (λ (k : ℕ). l .loop .a * e .args .chart .nodes + k) (sym n)) (done R n M C) filled,
+    )
 
 same-length : tie.Need-same-length Inv-loop μ-loop
-same-length c = c .before .loop .inv .2
+same-length c = long (c .before)
 
 returns : tie.Need-returns Inv-loop μ-loop
 unfolding sheet
 returns c =
     let l = c .before in
     let e = start (l .before) in
-    let R = region (decode (e .args .s .now)) in
-    let q : l .loop .a ≡ R .nodes = omega (arith, l .loop .inv .0) in
-    l .loop .inv .3 ∙ ap (λ (k : ℕ). after (entry R) (R .nodes) k (e .args .out .now)) q ∙ after-all (entry R) (R .nodes) (R .nodes) (e .args .out .now)
+    let R = read e in
+    let q : l .loop .a ≡ R .nodes = omega (arith, nodes-length _ (e .args .chart) (e .pre .0 .laid)) in
+    passed l ∙ ap (λ (k : ℕ). after (entry R) (R .nodes) k (e .args .out .now)) q ∙ after-all (entry R) (R .nodes) (R .nodes) (e .args .out .now)
 
 pub fill-sheet-spec : {M : Type 1} → statement M
 fill-sheet-spec =
@@ -160,7 +174,7 @@ fill-sheet-spec =
     (tie.spec
     Inv-loop
     μ-loop
-    load-stops-requires
+    load-closed-requires
     gather-all-requires
     fill-spread-requires
     work-row-requires

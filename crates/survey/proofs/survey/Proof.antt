@@ -1,46 +1,26 @@
--- `survey::survey` meets its contract: rows 1 to 9, and where none of them applies row 10.
+-- `survey::survey` meets its contract: row 23 never applies to the outermost region.
 -- Assumes nothing.
-use mathlib.Core.Path.{sym, _∙_}
 use borrow.Author.Needs.{needs}
-use Rattle.lists.specs.Truth.{bad}
-use Rattle.chart.specs.Checked.{answer}
-use Rattle.loading.proofs.Rows.{refused-before}
-use Rattle.survey.specs.Surveyed.{checkedOf}
+use Rattle.chart.specs.Checked.{countsOf}
+use Rattle.paths.specs.AdmissionLaws.{outermost-rows}
 use Rattle.survey.proofs.survey.Statement.{statement}
 use Rattle.survey.proofs.survey.Tie as tie
 
-check-requires : tie.Need-check-requires
-check-requires c κs = search needs
-
-enum-known-refusal : tie.Need-enum-known-refusal
-enum-known-refusal c = search needs
-
-enum-known-chart : tie.Need-enum-known-chart
-enum-known-chart c = search needs
-
-survey-chart-requires : tie.Need-survey-chart-requires
-survey-chart-requires c κs =
-    let m = c .before .before in
-    let k = m .before .before in
-    (sym (k .check .ensures) ∙ m .chart .given .1, k .before .before .pre)
+survey-outermost-requires : tie.Need-survey-outermost-requires
+survey-outermost-requires c κs = search needs
 
 returns : tie.Need-returns
-unfolding checkedOf answer
+unfolding countsOf
 returns c =
-    let k = c .before .before .before in
-    let e = refused-before (k .before .before .args .s .now) _ (sym (k .check .ensures) ∙ c .before .refusal .given .1) in
-    (rw e, λ chart sets q. absurd (bad (cc)))
+    let chosen = c .before .before in
+    let e = chosen .before .before in
+    (rw (chosen .if1 .taken, outermost-rows (e .args .s .now)) (c .survey-outermost .ensures .0), c .survey-outermost .ensures .1)
+
+survey-inner-requires : tie.Need-survey-inner-requires
+survey-inner-requires c κs = search needs
 
 returns-2 : tie.Need-returns-2
 returns-2 c = search needs
 
 pub survey-spec : {M : Type 1} → statement M
-survey-spec =
-    tie.close
-    (tie.spec
-    check-requires
-    enum-known-refusal
-    enum-known-chart
-    survey-chart-requires
-    returns
-    returns-2)
+survey-spec = tie.close (tie.spec survey-outermost-requires returns survey-inner-requires returns-2)

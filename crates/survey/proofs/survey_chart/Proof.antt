@@ -41,7 +41,7 @@ fill-starts-requires c κs =
     let l = c .before .before .before .before .before .before in
     let A = is-accepted l in
     let (T, (H, (S, N, Q))) = l .load-tables .ensures in
-    ((few A N, not-none A N, omega (arith, Q, A .laid .nodes-most), (_, H)), nodes-below A N)
+    ((few A N, not-none A N, omega (arith, Q, A .laid .nodes-most), (_, _, H)), nodes-below A N)
 
 returns : tie.Need-returns
 unfolding checkedOf answer
@@ -61,7 +61,7 @@ fill-ends-requires c κs =
     let l = loaded (c .before .before .before .before .before .before) in
     let A = is-accepted l in
     let (T, (H, (S, N, Q))) = l .load-tables .ensures in
-    ((few A N, not-none A N, omega (arith, Q, A .laid .nodes-most), (_, H)), nodes-below A N)
+    ((few A N, not-none A N, omega (arith, Q, A .laid .nodes-most), (_, _, H)), nodes-below A N)
 
 returns-2 : tie.Need-returns-2
 unfolding checkedOf answer

@@ -1,13 +1,17 @@
 -- `admission::admit::admit` meets its contract.
 -- Assumes nothing.
-use mathlib.Core.Path.{sym, _∙_}
+use mathlib.Core.Path.{ap, sym, _∙_}
 use native.Mathlib.Omega.{arith}
+use lib.ListN.{length}
 use borrow.Author.Needs.{needs}
-use Rattle.chart.specs.Format.{decode}
-use Rattle.chart.specs.Reading.{region}
+use Rattle.chart.specs.Region.{Region}
+use Rattle.chart.specs.Checked.{reading}
+use Rattle.chart.specs.declared.format.Chart.{Chart}
 use Rattle.chart.proofs.Records.{nodes-length}
+use Rattle.paths.specs.AdmissionLaws.{outermost-rows}
+use Rattle.phases.specs.Phases.{barriers, phaseCount}
 use Rattle.loading.proofs.Loading.{barriers-most}
-use Rattle.entrance.proofs.Entering.{entered-refused, entered-marked}
+use Rattle.entrance.proofs.Entering.{entered-refused, entered-marked, entered-counts}
 use Rattle.admission.specs.Admission.{countsIn, answer, admitted}
 use Rattle.admission.proofs.admit.admit.Statement.{statement}
 use Rattle.admission.proofs.admit.admit.Tie as tie
@@ -29,18 +33,24 @@ count-requires c κs =
 
 returns : tie.Need-returns
 unfolding admitted answer
-returns c = rw (entered-refused _ _ _ (sym (c .before .before .before .enter .ensures .0) ∙ c .before .refusal .given .1))
+returns c =
+    let k = c .before .before .before in
+    let s = k .before .before .before .before .before .args .s .now in
+    rw (sym (outermost-rows s) ∙ entered-refused _ _ _ (sym (k .enter .ensures .0) ∙ c .before .refusal .given .1))
 
 returns-2 : tie.Need-returns-2
 unfolding admitted answer countsIn
 returns-2 c =
     let m = c .before .before .before .before in
     let k = m .before .before in
+    let s = k .before .before .before .before .before .args .s .now in
     let E = k .enter .ensures .1 _ _ (m .chart .given .1) in
+    let h = sym (k .enter .ensures .0) ∙ m .chart .given .1 in
     let nodes = nodes-length _ _ (E .accepted .laid) in
-    let R = region (decode (k .before .before .before .before .before .args .s .now)) in
-    let phases = c .count .ensures R (sym nodes) (E .count) (E .has-starts) (E .has-ends) in
-    rw (entered-marked _ _ _ (sym (k .enter .ensures .0) ∙ m .chart .given .1), E .count, phases, ← nodes)
+    let whole = ap (λ (k : Chart). reading s k) (sym (entered-counts _ _ _ h)) in
+    let barriers = E .count ∙ ap (λ (R : Region). length (barriers R)) whole in
+    let phases = c .count .ensures _ (sym nodes) (E .count) (E .has-starts) (E .has-ends) ∙ ap phaseCount whole in
+    rw (sym (outermost-rows s) ∙ entered-marked _ _ _ h, barriers, phases, ← nodes)
 
 pub admit-spec : {M : Type 1} → statement M
 admit-spec =

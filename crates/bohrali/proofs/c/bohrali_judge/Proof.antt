@@ -30,7 +30,7 @@ enum-known-index c = search needs
 
 -- the index is that of a claim, and so fits
 below : (c : tie.After-index) → let j = c .before .before in c .index .given .0 .0 < total (j .before .before .before .args .claims .now)
-below c = let j = c .before .before in failed-below (j .before .before .before .args .chart .now) _ _ (sym (j .judge .ensures) ∙ c .index .given .1)
+below c = let j = c .before .before in failed-below (j .before .before .before .args .chart .now) (j .before .before .before .args .region) _ _ (sym (j .judge .ensures) ∙ c .index .given .1)
 
 add-counted : tie.Need-add-counted
 unfolding total
@@ -47,29 +47,29 @@ negated-requires : tie.Need-negated-requires
 negated-requires c κs = search needs
 
 -- a number that is the definition's is correct
-with-correct : (s claims : List ℕ) (number : ℤ) → number ≡ numberOf (judged s claims) → (number ≡ numberOf (judged s claims)) × Correct s claims number
-with-correct s claims number q = (q, subst (Correct s claims) (sym q) (judged-correct s claims))
+with-correct : (s : List ℕ) (p : ℕ) (claims : List ℕ) (number : ℤ) → number ≡ numberOf (judged s p claims) → (number ≡ numberOf (judged s p claims)) × Correct s p claims number
+with-correct s p claims number q = (q, subst (Correct s p claims) (sym q) (judged-correct s p claims))
 
 returns : tie.Need-returns
 unfolding numberOf
 returns c =
     let j = c .before .before .before in
     let e : toZ w64 (ofZ w64 (c .counted .result)) ≡ c .counted .result = search needs in
-    with-correct _ _ _ (e ∙ c .counted .ensures ∙ sym (ap numberOf (sym (j .judge .ensures) ∙ c .before .enum-told .given .1)))
+    with-correct _ _ _ _ (e ∙ c .counted .ensures ∙ sym (ap numberOf (sym (j .judge .ensures) ∙ c .before .enum-told .given .1)))
 
 returns-2 : tie.Need-returns-2
 unfolding numberOf
 returns-2 c =
     let j = c .before .before .before .before in
     let e : toZ w64 (ofZ w64 (c .counted2 .result)) ≡ c .counted2 .result = search needs in
-    with-correct _ _ _ (e ∙ c .counted2 .ensures ∙ sym (ap numberOf (sym (j .judge .ensures) ∙ c .before .before .index .given .1)))
+    with-correct _ _ _ _ (e ∙ c .counted2 .ensures ∙ sym (ap numberOf (sym (j .judge .ensures) ∙ c .before .before .index .given .1)))
 
 returns-3 : tie.Need-returns-3
 unfolding numberOf
 returns-3 c =
     let j = c .before .before .before .before in
     let e : toZ w64 (ofZ w64 (c .negated .result)) ≡ c .negated .result = search needs in
-    with-correct _ _ _ (e ∙ c .negated .ensures ∙ sym (ap numberOf (sym (j .judge .ensures) ∙ c .before .before .refusal .given .1)))
+    with-correct _ _ _ _ (e ∙ c .negated .ensures ∙ sym (ap numberOf (sym (j .judge .ensures) ∙ c .before .before .refusal .given .1)))
 
 pub bohrali-judge-spec : {M : Type 1} → statement M
 bohrali-judge-spec =

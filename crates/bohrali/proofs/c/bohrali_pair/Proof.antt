@@ -32,22 +32,22 @@ negated-requires : tie.Need-negated-requires
 negated-requires c κs = search needs
 
 -- a number that is the definition's is correct
-with-correct : (s : List ℕ) (a b : ℕ) (number : ℤ) → number ≡ numberOf (pairAnswered s a b) → (number ≡ numberOf (pairAnswered s a b)) × PairCorrect s a b number
-with-correct s a b number q = (q, subst (PairCorrect s a b) (sym q) (pair-correct s a b))
+with-correct : (s : List ℕ) (p a b : ℕ) (number : ℤ) → number ≡ numberOf (pairAnswered s p a b) → (number ≡ numberOf (pairAnswered s p a b)) × PairCorrect s p a b number
+with-correct s p a b number q = (q, subst (PairCorrect s p a b) (sym q) (pair-correct s p a b))
 
 returns : tie.Need-returns
 unfolding numberOf
 returns c =
     let p = c .before .before .before .before .before in
     let e : toZ w64 (ofZ w64 (c .counted .result)) ≡ c .counted .result = search needs in
-    with-correct _ _ _ _ (e ∙ c .counted .ensures ∙ ap pos (c .before .wide .ensures .0) ∙ sym (ap numberOf (sym (p .pair .ensures) ∙ c .before .before .before .answer .given .1)))
+    with-correct _ _ _ _ _ (e ∙ c .counted .ensures ∙ ap pos (c .before .wide .ensures .0) ∙ sym (ap numberOf (sym (p .pair .ensures) ∙ c .before .before .before .answer .given .1)))
 
 returns-2 : tie.Need-returns-2
 unfolding numberOf
 returns-2 c =
     let p = c .before .before .before .before in
     let e : toZ w64 (ofZ w64 (c .negated .result)) ≡ c .negated .result = search needs in
-    with-correct _ _ _ _ (e ∙ c .negated .ensures ∙ sym (ap numberOf (sym (p .pair .ensures) ∙ c .before .before .refusal .given .1)))
+    with-correct _ _ _ _ _ (e ∙ c .negated .ensures ∙ sym (ap numberOf (sym (p .pair .ensures) ∙ c .before .before .refusal .given .1)))
 
 pub bohrali-pair-spec : {M : Type 1} → statement M
 bohrali-pair-spec =

@@ -9,8 +9,8 @@ use mir.Syntax.{w64}
 use mir.Val.{toZ, ofZ}
 use Rattle.answers.specs.Sheet.{sheet}
 use Rattle.chart.specs.Format.{decode}
-use Rattle.chart.specs.Reading.{region}
-use Rattle.paths.specs.Admission.{admitRows}
+use Rattle.chart.specs.Reading.{regionOf}
+use Rattle.paths.specs.Admission.{regionRows}
 use Rattle.output.specs.Output.{numberOf}
 use Rattle.output.proofs.Outputs.{had-room}
 use Rattle.correctness.specs.AnswersCorrect.{SheetCorrect}
@@ -30,7 +30,8 @@ counted-requires c κs =
     let p = c .before .before .before .before .before in
     let e = p .before .before .before .before in
     let s = e .args .chart .now in
-    let r = had-room (admitRows s) [] (length (e .args .out .now)) (length (sheet (region (decode s)))) (sym (p .sheet .ensures .0) ∙ c .before .count .given .1) in
+    let region = e .args .region in
+    let r = had-room (regionRows s region) [] (length (e .args .out .now)) (length (sheet (regionOf region (decode s)))) (sym (p .sheet .ensures .0) ∙ c .before .count .given .1) in
     omega (arith, r .0, r .1)
 
 enum-known-refusal : tie.Need-enum-known-refusal
@@ -47,7 +48,7 @@ unfolding numberOf
 returns c =
     let p = c .before .before .before .before .before .before in
     let e : toZ w64 (ofZ w64 (c .counted .result)) ≡ c .counted .result = search needs in
-    carried (SheetCorrect _ _) (e ∙ c .counted .ensures ∙ sym (ap numberOf (sym (p .sheet .ensures .0) ∙ c .before .before .count .given .1))) (p .sheet .ensures .1) (sheet-correct _ _)
+    carried (SheetCorrect _ _ _) (e ∙ c .counted .ensures ∙ sym (ap numberOf (sym (p .sheet .ensures .0) ∙ c .before .before .count .given .1))) (p .sheet .ensures .1) (sheet-correct _ _ _)
 
 same-length-2 : tie.Need-same-length-2
 same-length-2 c = search needs
@@ -57,7 +58,7 @@ unfolding numberOf
 returns-2 c =
     let p = c .before .before .before .before .before .before in
     let e : toZ w64 (ofZ w64 (c .negated .result)) ≡ c .negated .result = search needs in
-    carried (SheetCorrect _ _) (e ∙ c .negated .ensures ∙ sym (ap numberOf (sym (p .sheet .ensures .0) ∙ c .before .before .refusal .given .1))) (p .sheet .ensures .1) (sheet-correct _ _)
+    carried (SheetCorrect _ _ _) (e ∙ c .negated .ensures ∙ sym (ap numberOf (sym (p .sheet .ensures .0) ∙ c .before .before .refusal .given .1))) (p .sheet .ensures .1) (sheet-correct _ _ _)
 
 pub bohrali-sheet-spec : {M : Type 1} → statement M
 bohrali-sheet-spec =

@@ -1,16 +1,18 @@
--- `calls::pair::pair` meets its contract: rows 1 to 10, and where none of them applies row 13 and the answer.
+-- `calls::pair::pair` meets its contract: rows 1 to 10 and 23, and where none of them applies row 13 and the answer.
 -- Assumes nothing.
 use mathlib.Core.Path.{refl, ap, sym, _∙_}
 use mathlib.Core.List.{[], _∷_}
 use borrow.Author.Needs.{needs}
 use Rattle.chart.specs.Format.{decode}
-use Rattle.chart.specs.Reading.{region}
-use Rattle.chart.specs.Checked.{countsOf}
-use Rattle.chart.proofs.Rows.{first-decides, second-decides}
+use Rattle.chart.specs.Reading.{regionOf}
+use Rattle.chart.specs.Checked.{countsOf, readFor}
+use Rattle.chart.specs.declared.format.Chart.{Chart}
+use Rattle.chart.proofs.Rows.{first-decides}
 use Rattle.refusals.proofs.Outcome.{passed-none, refused-some}
-use Rattle.paths.specs.Admission.{admitRows}
+use Rattle.paths.specs.Admission.{regionRows}
 use Rattle.survey.specs.Surveyed.{checkedOf}
 use Rattle.calls.specs.Pair.{numbersRow, pairRows, answered, pairAnswered}
+use Rattle.calls.proofs.Passed.{pair-passed}
 use Rattle.calls.proofs.pair.pair.Statement.{statement}
 use Rattle.calls.proofs.pair.pair.Tie as tie
 
@@ -27,7 +29,7 @@ answer-pair-requires : tie.Need-answer-pair-requires
 answer-pair-requires c κs =
     let m = c .before .before in
     let S = m .before .before .survey .ensures .1 _ _ (m .chart .given .1) in
-    (S .accepted .laid, S .marked)
+    (S .accepted, S .marked)
 
 returns : tie.Need-returns
 unfolding pairAnswered pairRows answered checkedOf
@@ -35,18 +37,21 @@ returns c =
     let k = c .before .before .before in
     let e = k .before .before .before in
     let s = e .args .s .now in
-    let n = refused-some _ (countsOf s) _ (sym (k .survey .ensures .0) ∙ ap checkedOf (c .before .refusal .given .1)) in
-    rw (first-decides (admitRows s) (numbersRow (region (decode s)) (e .args .a) (e .args .b) ∷ []) _ n)
+    let p = e .args .region in
+    let n = refused-some _ (readFor (countsOf s) p) _ (sym (k .survey .ensures .0) ∙ ap checkedOf (c .before .refusal .given .1)) in
+    rw (first-decides (regionRows s p) (numbersRow (regionOf p (decode s)) (e .args .a) (e .args .b) ∷ []) _ n)
 
 returns-2 : tie.Need-returns-2
-unfolding pairAnswered pairRows checkedOf
+unfolding checkedOf
 returns-2 c =
     let m = c .before .before .before in
     let k = m .before .before in
     let e = k .before .before .before in
     let s = e .args .s .now in
-    let p = passed-none _ (countsOf s) _ (sym (k .survey .ensures .0) ∙ ap checkedOf (m .chart .given .1)) in
-    rw (second-decides (admitRows s) (numbersRow (region (decode s)) (e .args .a) (e .args .b) ∷ []) (p .0)) (c .answer-pair .ensures)
+    let p = e .args .region in
+    let n = passed-none _ (readFor (countsOf s) p) _ (sym (k .survey .ensures .0) ∙ ap checkedOf (m .chart .given .1)) in
+    let named = sym (ap (λ (chart : Chart). chart .region) (n .1)) in
+    pair-passed s p _ named (n .0) (e .args .a) (e .args .b) (c .answer-pair .ensures)
 
 pub pair-spec : {M : Type 1} → statement M
 pair-spec =

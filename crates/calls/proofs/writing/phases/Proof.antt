@@ -1,15 +1,17 @@
--- `calls::writing::phases` meets its contract: rows 1 to 10, and where none of them applies row 11 and the bytes.
+-- `calls::writing::phases` meets its contract: rows 1 to 10 and 23, and where none of them applies row 11 and the bytes.
 -- Assumes nothing.
-use mathlib.Core.Path.{sym, _∙_}
+use mathlib.Core.Path.{ap, sym, _∙_}
 use mathlib.Core.List.{[]}
 use borrow.Author.Needs.{needs}
 use Rattle.chart.specs.Format.{decode}
-use Rattle.chart.specs.Reading.{region}
+use Rattle.chart.specs.Reading.{regionOf}
+use Rattle.chart.specs.declared.format.Chart.{Chart}
 use Rattle.chart.proofs.Records.{nodes-length}
-use Rattle.paths.specs.Admission.{admitRows}
-use Rattle.entrance.proofs.Entering.{entered-refused, entered-marked}
-use Rattle.output.proofs.Outputs.{refused-before, passed-before}
+use Rattle.paths.specs.Admission.{regionRows}
+use Rattle.entrance.proofs.Entering.{entered-refused, entered-marked, entered-counts}
+use Rattle.output.proofs.Outputs.{refused-before}
 use Rattle.calls.specs.Phases.{phasesResult}
+use Rattle.calls.proofs.Passed.{output-passed}
 use Rattle.calls.proofs.writing.phases.Statement.{statement}
 use Rattle.calls.proofs.writing.phases.Tie as tie
 
@@ -32,7 +34,8 @@ returns c =
     let k = c .before .before .before in
     let e = k .before .before .before .before .before .before in
     let s = e .args .s .now in
-    refused-before (admitRows s) [] _ (phasesResult (region (decode s))) (e .args .out .now) _ (entered-refused _ _ _ (sym (k .enter .ensures .0) ∙ c .before .refusal .given .1))
+    let p = e .args .region in
+    refused-before (regionRows s p) [] _ (phasesResult (regionOf p (decode s))) (e .args .out .now) _ (entered-refused _ _ _ (sym (k .enter .ensures .0) ∙ c .before .refusal .given .1))
 
 same-length : tie.Need-same-length
 same-length c = search needs
@@ -44,11 +47,12 @@ returns-2 c =
     let k = m .before .before in
     let e = k .before .before .before .before .before .before in
     let s = e .args .s .now in
-    let R = region (decode s) in
+    let p = e .args .region in
     let E = k .enter .ensures .1 _ _ (m .chart .given .1) in
     let q = nodes-length _ _ (E .accepted .laid) in
-    let p = passed-before (admitRows s) [] _ (phasesResult R) (e .args .out .now) (entered-marked _ _ _ (sym (k .enter .ensures .0) ∙ m .chart .given .1)) in
-    (w .write-phases .ensures .0 R q ∙ sym (p .0), w .write-phases .ensures .1 R q (E .has-starts) (E .has-ends) ∙ sym (p .1))
+    let same = sym (k .enter .ensures .0) ∙ m .chart .given .1 in
+    let named = sym (ap (λ (chart : Chart). chart .region) (entered-counts _ _ _ same)) in
+    output-passed s p _ named (entered-marked _ _ _ same) phasesResult (e .args .out .now) (w .write-phases .ensures .0 _ q) (w .write-phases .ensures .1 _ q (E .has-starts) (E .has-ends))
 
 pub phases-spec : {M : Type 1} → statement M
 phases-spec =

@@ -1,16 +1,18 @@
--- `calls::writing::sheet` meets its contract: rows 1 to 10, and where none of them applies row 11 and the bytes.
+-- `calls::writing::sheet` meets its contract: rows 1 to 10 and 23, and where none of them applies row 11 and the bytes.
 -- Assumes nothing.
 use mathlib.Core.Path.{refl, ap, sym, _∙_}
 use mathlib.Core.List.{[]}
 use borrow.Author.Needs.{needs}
 use Rattle.chart.specs.Format.{decode}
-use Rattle.chart.specs.Reading.{region}
-use Rattle.chart.specs.Checked.{countsOf}
+use Rattle.chart.specs.Reading.{regionOf}
+use Rattle.chart.specs.Checked.{countsOf, readFor}
+use Rattle.chart.specs.declared.format.Chart.{Chart}
 use Rattle.refusals.proofs.Outcome.{passed-none, refused-some}
-use Rattle.paths.specs.Admission.{admitRows}
+use Rattle.paths.specs.Admission.{regionRows}
 use Rattle.answers.specs.Sheet.{sheet}
 use Rattle.survey.specs.Surveyed.{checkedOf}
-use Rattle.output.proofs.Outputs.{refused-before, passed-before}
+use Rattle.output.proofs.Outputs.{refused-before}
+use Rattle.calls.proofs.Passed.{output-passed}
 use Rattle.calls.proofs.writing.sheet.Statement.{statement}
 use Rattle.calls.proofs.writing.sheet.Tie as tie
 
@@ -27,7 +29,7 @@ write-sheet-requires : tie.Need-write-sheet-requires
 write-sheet-requires c κs =
     let m = c .before .before .before in
     let S = m .before .before .survey .ensures .1 _ _ (m .chart .given .1) in
-    (S .accepted .laid, S .marked)
+    (S .accepted, S .marked)
 
 returns : tie.Need-returns
 unfolding checkedOf
@@ -35,8 +37,9 @@ returns c =
     let k = c .before .before .before in
     let e = k .before .before .before .before in
     let s = e .args .s .now in
-    let n = refused-some _ (countsOf s) _ (sym (k .survey .ensures .0) ∙ ap checkedOf (c .before .refusal .given .1)) in
-    refused-before (admitRows s) [] _ (sheet (region (decode s))) (e .args .out .now) _ n
+    let p = e .args .region in
+    let n = refused-some _ (readFor (countsOf s) p) _ (sym (k .survey .ensures .0) ∙ ap checkedOf (c .before .refusal .given .1)) in
+    refused-before (regionRows s p) [] _ (sheet (regionOf p (decode s))) (e .args .out .now) _ n
 
 same-length : tie.Need-same-length
 same-length c = search needs
@@ -49,9 +52,10 @@ returns-2 c =
     let k = m .before .before in
     let e = k .before .before .before .before in
     let s = e .args .s .now in
-    let n = passed-none _ (countsOf s) _ (sym (k .survey .ensures .0) ∙ ap checkedOf (m .chart .given .1)) in
-    let p = passed-before (admitRows s) [] _ (sheet (region (decode s))) (e .args .out .now) (n .0) in
-    (w .write-sheet .ensures .0 ∙ sym (p .0), w .write-sheet .ensures .1 ∙ sym (p .1))
+    let p = e .args .region in
+    let n = passed-none _ (readFor (countsOf s) p) _ (sym (k .survey .ensures .0) ∙ ap checkedOf (m .chart .given .1)) in
+    let named = sym (ap (λ (chart : Chart). chart .region) (n .1)) in
+    output-passed s p _ named (n .0) sheet (e .args .out .now) (w .write-sheet .ensures .0) (w .write-sheet .ensures .1)
 
 pub sheet-spec : {M : Type 1} → statement M
 sheet-spec =

@@ -7,8 +7,7 @@ use native.Mathlib.Omega.{arith}
 use lib.ListN.{length}
 use borrow.Author.Needs.{needs}
 use Rattle.lists.specs.Rows.{square}
-use Rattle.chart.specs.Format.{decode}
-use Rattle.chart.specs.Reading.{region}
+use Rattle.chart.specs.Checked.{reading}
 use Rattle.chart.proofs.Records.{nodes-length}
 use Rattle.answers.specs.Sheet.{sheet, sheet-length}
 use Rattle.output.specs.Output.{outputRows, writtenBy}
@@ -20,17 +19,17 @@ use Rattle.calls.proofs.writing.write_sheet.Tie as tie
 abbrev start : (c : tie.After-room-for) → tie.Start
 start c = c .before .before .before
 
-size : (c : tie.After-room-for) → let e = start c in length (sheet (region (decode (e .args .s .now)))) ≡ e .args .chart .nodes * e .args .chart .nodes
+size : (c : tie.After-room-for) → let e = start c in length (sheet (reading (e .args .s .now) (e .args .chart))) ≡ e .args .chart .nodes * e .args .chart .nodes
 size c =
     let e = start c in
-    sheet-length (region (decode (e .args .s .now))) ∙ ap (λ (k : ℕ). k * k) (nodes-length _ (e .args .chart) (e .pre .0))
+    sheet-length (reading (e .args .s .now) (e .args .chart)) ∙ ap (λ (k : ℕ). k * k) (nodes-length _ (e .args .chart) (e .pre .0 .laid))
 
-answers : (c : tie.After-room-for) → let e = start c in let n = length (sheet (region (decode (e .args .s .now)))) in
+answers : (c : tie.After-room-for) → let e = start c in let n = length (sheet (reading (e .args .s .now) (e .args .chart))) in
     c .room-for .result ≡ writtenBy (outputRows [] (length (e .args .out .now)) n []) n
 answers c = rw (size c) (c .room-for .ensures)
 
 mul-room-for : tie.Need-mul-room-for
-mul-room-for c = omega (arith, square (c .before .before .pre .0 .nodes-most))
+mul-room-for c = omega (arith, square (c .before .before .pre .0 .laid .nodes-most))
 
 room-for-requires : tie.Need-room-for-requires
 room-for-requires c κs = search needs
@@ -52,7 +51,7 @@ returns : tie.Need-returns
 returns c =
     let r = c .before .before .before in
     let h = c .before .refusal .given .1 in
-    (sym h ∙ answers r, kept _ _ (sheet (region (decode (start r .args .s .now)))) _ (sym (answers r) ∙ h))
+    (sym h ∙ answers r, kept _ _ (sheet (reading (start r .args .s .now) (start r .args .chart))) _ (sym (answers r) ∙ h))
 
 same-length : tie.Need-same-length
 same-length c = search needs
@@ -63,7 +62,7 @@ returns-2 c =
     let z = f .before .before .before in
     let r = z .before .before in
     let h = z .bytes .given .1 in
-    (sym h ∙ answers r, f .fill-sheet .ensures ∙ put _ _ (sheet (region (decode (start r .args .s .now)))) _ (sym (answers r) ∙ h))
+    (sym h ∙ answers r, f .fill-sheet .ensures ∙ put _ _ (sheet (reading (start r .args .s .now) (start r .args .chart))) _ (sym (answers r) ∙ h))
 
 pub write-sheet-spec : {M : Type 1} → statement M
 write-sheet-spec =

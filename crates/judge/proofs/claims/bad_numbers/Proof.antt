@@ -1,36 +1,41 @@
 -- `judge::claims::bad_numbers` meets its contract: after j turns the first j numbers are looked at.
 -- Assumes nothing.
 use mathlib.Core.Path.{_≡_, refl, _∙_}
-use mathlib.Core.Bool.{Bool}
+use mathlib.Core.Bool.{Bool, false}
 use mathlib.Core.List.{List}
-use Prim.Native.Nat.{ℕ, _-_, _≤_}
+use Prim.Native.Nat.{ℕ, _-_, _≤_, _<_}
 use native.Mathlib.Omega.{arith}
 use native.Mathlib.Numerals.{add-one}
 use lib.ListN.{length, getD}
 use borrow.Author.Needs.{needs}
 use Rattle.lists.specs.Range.{any}
-use Rattle.chart.specs.Format.{decode}
-use Rattle.chart.specs.Reading.{region}
+use Rattle.chart.specs.Region.{Region}
+use Rattle.chart.specs.Checked.{reading}
+use Rattle.chart.proofs.Records.{nodes-length}
 use Rattle.answers.specs.Numbers.{badNumber}
 use Rattle.verdicts.specs.Claims.{badNumbers}
 use Rattle.judge.proofs.claims.bad_numbers.Statement.{statement}
 use Rattle.judge.proofs.claims.bad_numbers.Tie as tie
 
-abbrev isBad : List ℕ → List ℕ → ℕ → Bool
-isBad s claims j = badNumber (region (decode s)) (getD claims j 0)
+abbrev isBad : Region → List ℕ → ℕ → Bool
+isBad R claims j = badNumber R (getD claims j 0)
 
 abbrev Inv-loop : tie.InvT-loop
-Inv-loop s claims bad n found₀ j₀ found j = (j ≤ length claims) × (found ≡ any j (isBad s claims))
+Inv-loop s claims bad n found₀ j₀ found j =
+    (j ≤ length claims) × ((R : Region) → ((x : ℕ) → x < 256 → getD bad x false ≡ badNumber R x) → found ≡ any j (isBad R claims))
 
 abbrev μ-loop : tie.MeasureT-loop
 μ-loop s claims bad n found₀ j₀ found j = length claims - j
+
+load-closed-requires : tie.Need-load-closed-requires Inv-loop μ-loop
+load-closed-requires c κs = search needs
 
 mark-bad-requires : tie.Need-mark-bad-requires Inv-loop μ-loop
 mark-bad-requires c κs = search needs
 
 loop-holds : tie.Need-loop-holds Inv-loop μ-loop
 unfolding any
-loop-holds c = (omega arith, refl)
+loop-holds c = (omega arith, λ R marked. refl)
 
 shared-slice-read-wide : tie.Need-shared-slice-read-wide Inv-loop μ-loop
 shared-slice-read-wide c = omega arith
@@ -55,15 +60,18 @@ unfolding any
 loop-again c =
     let w = c .before in
     let l = w .before .before .before in
-    let marked = l .before .mark-bad .ensures (w .wide .result) (w .wide .ensures .1) in
-    (omega arith, c .either .ensures ∙ rw (marked, w .wide .ensures .0, l .loop .inv .1, add-one (l .loop .j)))
+    (omega arith, λ R marked. c .either .ensures ∙ rw (marked (w .wide .result) (w .wide .ensures .1), w .wide .ensures .0, l .loop .inv .1 R marked, add-one (l .loop .j)))
 
 returns : tie.Need-returns Inv-loop μ-loop
 unfolding badNumbers
 returns c =
     let l = c .before in
-    let q : l .loop .j ≡ length (l .before .before .before .before .before .args .claims .now) = omega arith in
-    rw q at (l .loop .inv .1)
+    let m = l .before in
+    let k = m .before .before .before in
+    let e = k .before .before .before .before in
+    let q : l .loop .j ≡ length (e .args .claims .now) = omega arith in
+    let R = reading (e .args .s .now) (e .args .chart) in
+    rw q at (l .loop .inv .1 R (m .mark-bad .ensures R (e .pre .1) (nodes-length _ (e .args .chart) (e .pre .0 .laid)) (k .load-closed .ensures)))
 
 pub bad-numbers-spec : {M : Type 1} → statement M
 bad-numbers-spec =
@@ -71,6 +79,7 @@ bad-numbers-spec =
     (tie.spec
     Inv-loop
     μ-loop
+    load-closed-requires
     mark-bad-requires
     loop-holds
     shared-slice-read-wide

@@ -6,8 +6,7 @@ use native.Mathlib.Omega.{arith}
 use lib.ListN.{length}
 use borrow.Author.Needs.{needs}
 use borrow.Author.Tests.{eq-eqb, ne-eqb}
-use Rattle.chart.specs.Format.{decode}
-use Rattle.chart.specs.Reading.{region}
+use Rattle.chart.specs.Checked.{reading}
 use Rattle.chart.specs.Refusal.{firstOf}
 use Rattle.verdicts.specs.Claims.{oddBytes}
 use Rattle.verdicts.specs.Judged.{claimRows, answered}
@@ -20,7 +19,7 @@ unfolding answered firstOf claimRows oddBytes
 returns c = rw (eq-eqb (length (c .before .before .before .args .claims .now) % 2) 1 (omega (arith, c .if1 .taken)))
 
 bad-numbers-requires : tie.Need-bad-numbers-requires
-bad-numbers-requires c κs = search needs
+bad-numbers-requires c κs = let e = c .before .before .before in (e .pre .0, e .pre .1 .well-formed)
 
 returns-2 : tie.Need-returns-2
 unfolding answered firstOf claimRows oddBytes
@@ -32,7 +31,7 @@ returns-2 c =
 first-false-requires : tie.Need-first-false-requires
 first-false-requires c κs =
     let e = c .before .before .before .before .before in
-    numbers-fit (region (decode (e .args .s .now))) _ (e .pre .1 .well-formed) (e .pre .1 .few) (sym (c .before .bad-numbers .ensures) ∙ c .if2 .left)
+    numbers-fit (reading (e .args .s .now) (e .args .chart)) _ (e .pre .1 .well-formed) (e .pre .1 .few) (sym (c .before .bad-numbers .ensures) ∙ c .if2 .left)
 
 returns-3 : tie.Need-returns-3
 unfolding answered firstOf claimRows oddBytes

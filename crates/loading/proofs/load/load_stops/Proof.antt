@@ -13,22 +13,22 @@ use Rattle.loading.proofs.load.load_stops.Statement.{statement}
 use Rattle.loading.proofs.load.load_stops.Tie as tie
 
 abbrev Inv-loop : tie.InvT-loop
-Inv-loop s chart stops₀ n x₀ stops x = (x ≤ chart .nodes) × (length stops ≡ 192) × Written (stopOf (decode s .nodes)) x stops
+Inv-loop s chart stops₀ n region x₀ stops x = (x ≤ chart .nodes) × (length stops ≡ 192) × Written (stopOf s chart) x stops
 
 abbrev μ-loop : tie.MeasureT-loop
-μ-loop s chart stops₀ n x₀ stops x = chart .nodes - x
+μ-loop s chart stops₀ n region x₀ stops x = chart .nodes - x
 
 loop-holds : tie.Need-loop-holds Inv-loop μ-loop
 loop-holds c = (omega arith, length-replicate {A = ℕ} 192 0, written-none _ 192)
 
 read-requires : tie.Need-read-requires Inv-loop μ-loop
-read-requires c κs = (c .before .before .before .before .pre, omega arith)
+read-requires c κs = (c .before .before .before .before .pre .laid, omega arith)
 
 stop-requires : tie.Need-stop-requires Inv-loop μ-loop
 stop-requires c κs = search needs
 
 element-write-stops : tie.Need-element-write-stops Inv-loop μ-loop
-element-write-stops c = omega (arith, c .before .before .before .before .before .before .pre .nodes-most)
+element-write-stops c = omega (arith, c .before .before .before .before .before .before .pre .laid .nodes-most)
 
 add-x : tie.Need-add-x Inv-loop μ-loop
 add-x c = omega arith
@@ -41,11 +41,10 @@ loop-again c =
     let l = c .before .before .before in
     let start = l .before .before .before in
     let (below, long, stops) = l .loop .inv in
-    let fits = start .pre .nodes-most in
-    let nodes = decode (start .args .s .now) .nodes in (
+    let fits = start .pre .laid .nodes-most in (
       omega arith,
       length-set (l .loop .stops) _ _ ∙ long,
-      written-more _ (omega arith) (c .stop .ensures ∙ stop-byte nodes (l .loop .x) _ (c .before .read .ensures .0)) stops,
+      written-more _ (omega arith) (stop-byte _ (start .args .chart) (start .pre) (l .loop .x) _ _ _ (c .before .read .ensures .0) (c .before .read .ensures .1) (c .stop .ensures)) stops,
     )
 
 returns : tie.Need-returns Inv-loop μ-loop
@@ -54,8 +53,8 @@ returns c =
     let start = l .before .before .before in
     let (below, long, stops) = l .loop .inv in
     let nodes = decode (start .args .s .now) .nodes in
-    let q : length nodes ≡ l .loop .x = omega (arith, nodes-length _ (start .args .chart) (start .pre)) in
-    record { long = long; at = written-all stops (λ j m. stop-past nodes j (omega arith)) }
+    let q : length nodes ≡ l .loop .x = omega (arith, nodes-length _ (start .args .chart) (start .pre .laid)) in
+    record { long = long; at = written-all stops (λ j m. stop-past _ (start .args .chart) (start .pre) j (omega arith)) }
 
 pub load-stops-spec : {M : Type 1} → statement M
 load-stops-spec =

@@ -1,7 +1,7 @@
 -- `loading::tables::find_places` meets its contract.
 -- Assumes nothing.
 use borrow.Author.Needs.{needs}
-use Rattle.loading.proofs.Loading.{first-edges}
+use Rattle.loading.proofs.Columns.{first-edges}
 use Rattle.loading.proofs.tables.find_places.Statement.{statement}
 use Rattle.loading.proofs.tables.find_places.Tie as tie
 
@@ -14,7 +14,7 @@ places-rising-requires c κs =
     ((few, order), node)
 
 returns : tie.Need-returns
-returns c = (c .places-rising .ensures, λ D C q. first-edges C q (c .places-rising .ensures))
+returns c = (c .places-rising .ensures, λ edges C q. first-edges C q (c .places-rising .ensures))
 
 pub find-places-spec : {M : Type 1} → statement M
 find-places-spec =

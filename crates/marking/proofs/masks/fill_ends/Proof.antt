@@ -9,7 +9,7 @@ use Rattle.marking.proofs.masks.fill_ends.Tie as tie
 
 ends-requires : tie.Need-ends-requires
 ends-requires c κs =
-    let ((few, some, nodes, (D, handed)), below) = c .before .before .pre in
+    let ((few, some, nodes, (p, D, handed)), below) = c .before .before .pre in
     ((few, ready handed), below)
 
 sub-cut-off : tie.Need-sub-cut-off
@@ -17,7 +17,7 @@ sub-cut-off c = omega (arith, c .before .before .before .before .before .pre .0 
 
 cut-off-requires : tie.Need-cut-off-requires
 cut-off-requires c κs =
-    let ((few, some, nodes, (D, handed)), below) = c .before .before .before .before .before .pre in
+    let ((few, some, nodes, (p, D, handed)), below) = c .before .before .before .before .before .pre in
     ((few, omega arith, nodes), below)
 
 returns : tie.Need-returns

@@ -7,12 +7,12 @@ use Rattle.marking.proofs.masks.fill_starts.Tie as tie
 
 starts-requires : tie.Need-starts-requires
 starts-requires c κs =
-    let ((few, some, nodes, (D, handed)), below) = c .before .before .before .pre in
+    let ((few, some, nodes, (p, D, handed)), below) = c .before .before .before .pre in
     ((few, ready handed), below)
 
 cut-off-requires : tie.Need-cut-off-requires
 cut-off-requires c κs =
-    let ((few, some, nodes, (D, handed)), below) = c .before .before .before .before .before .pre in
+    let ((few, some, nodes, (p, D, handed)), below) = c .before .before .before .before .before .pre in
     ((few, some, nodes), below)
 
 returns : tie.Need-returns

@@ -8,7 +8,6 @@ use Rattle.lists.specs.Mask.{maskOf}
 use Rattle.chart.specs.Format.{decode}
 use Rattle.chart.proofs.Records.{constructs-length}
 use Rattle.phases.specs.Phases.{returning}
-use Rattle.loading.proofs.Accepted.{well-formed}
 use Rattle.marking.proofs.Searching.{ready, ends-reach}
 use Rattle.marking.proofs.returns.returns.Statement.{statement}
 use Rattle.marking.proofs.returns.returns.Tie as tie
@@ -41,7 +40,7 @@ returns-2 c =
     let s = start .args .s .now in
     let (A, F, S, H) = start .pre in
     c .diagonal .ensures
-    ∙ ends-reach (decode s) (well-formed _ _ A) _ (sym (constructs-length s _ (A .laid))) F S (framed .frames .ensures .0) (framed .frames .ensures .1) (found .ahead .ensures _ _ (F .split) (F .begins))
+    ∙ ends-reach s _ A _ (sym (constructs-length s _ (A .laid))) F S (framed .frames .ensures .0) (framed .frames .ensures .1) (found .ahead .ensures _ _ (F .split) (F .begins))
 
 pub returns-spec : {M : Type 1} → statement M
 returns-spec =

@@ -20,7 +20,7 @@ read-requires : tie.Need-read-requires
 read-requires c κs = search needs
 
 masters-like-requires : tie.Need-masters-like-requires
-masters-like-requires c κs = let e = c .before .before in (e .pre .0, e .pre .1, e .pre .3)
+masters-like-requires c κs = let e = c .before .before in (e .pre .0, e .pre .1, e .pre .4)
 
 mask-at-requires : tie.Need-mask-at-requires
 unfolding parentOf
@@ -30,9 +30,9 @@ mask-at-requires c κs =
     index-below (omega (arith, e .pre .0 .laid .constructs-most, e .pre .1))
     (subst (Below (e .args .c)) (sym (r .read .ensures .1)) (parent-lower _ (e .args .chart) (e .pre .0) (e .args .c) (counted r)))
 
-own-requires : tie.Need-own-requires
+gives-requires : tie.Need-gives-requires
 unfolding parentOf
-own-requires c κs =
+gives-requires c κs =
     let r = c .before .before .before in
     let e = r .before .before in (
       omega (arith, e .pre .0 .laid .constructs-most, e .pre .1),
@@ -53,8 +53,8 @@ returns c =
     let k = m .before .before in
     let r = k .before in
     let e = r .before .before in
-    rw (m .mask-at .ensures, c .own .ensures, r .read .ensures .0, r .read .ensures .1, e .pre .2)
-    (chains-more _ (e .args .chart) (e .pre .0) (e .args .c) (counted r) (k .masters-like .result) (k .masters-like .ensures) (e .pre .4))
+    rw (m .mask-at .ensures, c .gives .ensures, r .read .ensures .0, r .read .ensures .1, e .pre .3)
+    (chains-more _ (e .args .chart) (e .pre .0) (e .args .c) (counted r) (k .masters-like .result) (k .masters-like .ensures) (e .pre .2) (e .pre .5))
 
 pub add-construct-spec : {M : Type 1} → statement M
-add-construct-spec = tie.close (tie.spec read-requires masters-like-requires mask-at-requires own-requires mul-held element-write-held returns)
+add-construct-spec = tie.close (tie.spec read-requires masters-like-requires mask-at-requires gives-requires mul-held element-write-held returns)

@@ -8,7 +8,7 @@ use Rattle.lists.specs.Mask.{maskOf}
 use Rattle.chart.specs.Format.{decode}
 use Rattle.chart.specs.Scope.{singleByte, masterByte, loopByte, sectionByte}
 use Rattle.profiles.specs.Chains.{isOf}
-use Rattle.profiles.proofs.Constructs.{test-next, kinds}
+use Rattle.profiles.proofs.Constructs.{test-next, all-kinds}
 use Rattle.profiles.proofs.chains.sets_of.Statement.{statement}
 use Rattle.profiles.proofs.chains.sets_of.Tie as tie
 
@@ -67,7 +67,7 @@ returns c =
     let l = c .before in
     let e = l .before .before in
     let q : l .loop .c ≡ e .args .chart .constructs = omega arith in
-    rw (l .loop .inv .1, l .loop .inv .2, l .loop .inv .3, l .loop .inv .4, q) (kinds _ (e .args .chart) (e .pre))
+    rw (l .loop .inv .1, l .loop .inv .2, l .loop .inv .3, l .loop .inv .4, q) (all-kinds _ (e .args .chart) (e .pre))
 
 pub sets-of-spec : {M : Type 1} → statement M
 sets-of-spec =

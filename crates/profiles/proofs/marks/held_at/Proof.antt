@@ -21,7 +21,7 @@ mask-at-requires : tie.Need-mask-at-requires
 mask-at-requires c κs =
     let e = c .before .before in
     index-below (e .pre .0 .laid .constructs-most)
-    (subst (Below (e .args .chart .constructs)) (sym (c .read .ensures .1)) (number-place _ (e .args .chart) (e .pre .0) (e .args .x) (e .pre .1)))
+    (subst (Below (e .args .chart .constructs)) (sym (c .read .ensures .1)) (number-place _ (e .args .chart) (e .pre .0) (e .args .x)))
 
 returns : tie.Need-returns
 returns c =
@@ -29,7 +29,7 @@ returns c =
     let r = m .before in
     let e = r .before .before in
     rw (m .mask-at .ensures, r .read .ensures .1)
-    (plain-held _ (e .args .chart) (e .pre .0) (e .pre .2) (e .args .x) (e .pre .1) (omega (arith, r .read .ensures .0, c .if1 .taken)))
+    (plain-held _ (e .args .chart) (e .pre .0) (e .pre .2) (e .args .x) (omega (arith, r .read .ensures .0, c .if1 .taken)))
 
 wide-requires : tie.Need-wide-requires
 wide-requires c κs = search needs
@@ -40,7 +40,7 @@ counted c =
     let l = c .before in
     let r = l .before .before .before in
     let e = r .before .before in
-    let low = frame-number _ (e .args .chart) (e .pre .0) (e .args .x) (e .pre .1) (omega (arith, r .read .ensures .0, l .if1 .left)) in
+    let low = frame-number _ (e .args .chart) (e .pre .0) (e .args .x) (omega (arith, r .read .ensures .0, l .if1 .left)) in
     omega (arith, low, c .wide .ensures .0, r .read .ensures .1)
 
 read-requires-2 : tie.Need-read-requires-2
@@ -65,7 +65,7 @@ returns-2 c =
     let r = m .before in
     let e = r .before .before in
     rw (c .mask-at2 .ensures, m .mask-at .ensures, c .before .read2 .ensures .1, w .wide .ensures .0, r .read .ensures .1)
-    (frame-held _ (e .args .chart) (e .pre .0) (e .pre .2) (e .args .x) (e .pre .1) (omega (arith, r .read .ensures .0, l .if1 .left)) (e .pre .3))
+    (frame-held _ (e .args .chart) (e .pre .0) (e .pre .2) (e .args .x) (omega (arith, r .read .ensures .0, l .if1 .left)) (e .pre .3))
 
 pub held-at-spec : {M : Type 1} → statement M
 held-at-spec =

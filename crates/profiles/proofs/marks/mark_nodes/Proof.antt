@@ -5,15 +5,14 @@ use Prim.Native.Nat.{ℕ, _≤_, _<_, _-_}
 use native.Mathlib.Omega.{arith}
 use lib.ListN.{length, getD, length-set}
 use Rattle.lists.specs.Store.{stored}
-use Rattle.chart.specs.Format.{decode}
-use Rattle.chart.specs.Reading.{region}
+use Rattle.chart.specs.Checked.{reading}
 use Rattle.profiles.specs.Marks.{Held}
 use Rattle.profiles.proofs.marks.mark_nodes.Statement.{statement}
 use Rattle.profiles.proofs.marks.mark_nodes.Tie as tie
 
 abbrev Inv-loop : tie.InvT-loop
 Inv-loop s chart chains sections held₀ n x₀ held x =
-    (x ≤ chart .nodes) × (length held ≡ 192) × ((y : ℕ) → y < x → Held (region (decode s)) y (getD held y 0))
+    (x ≤ chart .nodes) × (length held ≡ 192) × ((y : ℕ) → y < x → Held (reading s chart) y (getD held y 0))
 
 abbrev μ-loop : tie.MeasureT-loop
 μ-loop s chart chains sections held₀ n x₀ held x = chart .nodes - x
@@ -42,7 +41,7 @@ loop-again c =
     let e = l .before .before in (
       omega arith,
       length-set (l .loop .held) (l .loop .x) _ ∙ l .loop .inv .1,
-      stored (λ y m. Held (region (decode (e .args .s .now))) y m) (l .loop .held) (l .loop .x) _ (omega (arith, l .loop .inv .1, e .pre .0 .laid .nodes-most))
+      stored (λ y m. Held (reading (e .args .s .now) (e .args .chart)) y m) (l .loop .held) (l .loop .x) _ (omega (arith, l .loop .inv .1, e .pre .0 .laid .nodes-most))
           (c .held-at .ensures) (l .loop .inv .2),
     )
 

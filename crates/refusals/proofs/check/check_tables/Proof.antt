@@ -25,7 +25,7 @@ returns-2 c = let a = c .before .before in rw (
 )
 
 bad-frames-requires : tie.Need-bad-frames-requires
-bad-frames-requires c κs = let a = c .before .before in (a .before .before .before .pre, sym (a .before .bad-nodes .ensures) ∙ a .if1 .left)
+bad-frames-requires c κs = search needs
 
 returns-3 : tie.Need-returns-3
 unfolding answer firstOf tableRows

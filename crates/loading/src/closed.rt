@@ -1,0 +1,54 @@
+// The nodes that a claim may not name: the barriers of the region, and what lies outside it.
+ghost use mathlib.Core.Path.{_≡_};
+ghost use mathlib.Core.Logic.{_≢_};
+ghost use mathlib.Core.Bool.{_&&_, cond};
+ghost use lib.Dec.{eqb, leb};
+ghost use lib.ListN.{getD};
+ghost use Rattle.chart.specs.Format.{outside};
+ghost use Rattle.chart.specs.Checked.{reading};
+ghost use Rattle.loading.specs.Tables.{Accepted, Closed};
+use crate::cut::within;
+use crate::load::load_stops;
+use crate::load::stop;
+use chart::cursor::wide;
+use chart::format::Chart;
+use chart::format::Node;
+
+// 1 for a node whose number has no flag, and for a barrier.
+fn shut(node: Node, region: usize, flags: &[u8; 256]) -> u8
+    ensures { λ r. ⌜ r ≡ cond (eqb (getD (now (flags .entry)) (node .number) 0) 0) 1 (cond (leb 1 (node .kind) && eqb (node .number) region) 1 0) ⌝ }
+{
+    if flags[wide(node.number)] == 0 {
+        return 1;
+    }
+    stop(node, region)
+}
+
+// A flag on each of them, of a parallel's region.
+fn close_region(s: &[u8], chart: Chart, closed: &mut [u8; Chart::NODES])
+    requires { ⌜ Accepted (now s) chart × (chart .region ≢ outside) ⌝ }
+    ensures { λ _. ⌜ Closed (reading (now (s .entry)) chart) (now (closed .exit)) ⌝ }
+{
+    let mut places = [0u8; 256];
+    within(s, chart, &mut places);
+    *closed = [0u8; Chart::NODES];
+    let n = chart.nodes;
+    let region = chart.region;
+    let mut x = 0;
+    while x < n {
+        closed[x] = shut(Node::read(s, chart, x), region, &places);
+        x += 1;
+    }
+}
+
+// The same of any region: nothing lies outside the outermost one.
+pub fn load_closed(s: &[u8], chart: Chart, closed: &mut [u8; Chart::NODES])
+    requires { ⌜ Accepted (now s) chart ⌝ }
+    ensures { λ _. ⌜ Closed (reading (now (s .entry)) chart) (now (closed .exit)) ⌝ }
+{
+    if chart.region == Chart::OUTERMOST {
+        load_stops(s, chart, closed);
+        return;
+    }
+    close_region(s, chart, closed);
+}

@@ -1,0 +1,128 @@
+-- Row 10 is asked of the outermost region alone, and connects every region: a path into an inner region, after its last entry, leads from the
+-- region's begin on inside it, and a path out of it leads inside it to its end.
+-- Assumes nothing.
+use mathlib.Core.Path.{_≡_, refl, sym, _∙_, subst}
+use mathlib.Core.Logic.{_⊎_, inl, inr, _≢_}
+use mathlib.Core.Bool.{true, false}
+use Prim.Native.Nat.{ℕ, _≤_, _<_}
+use native.Mathlib.Omega.{arith}
+use lib.ListN.{length}
+use Rattle.chart.specs.Format.{outside, Decoded}
+use Rattle.chart.specs.Scope.{barrierNode, beginNode, Encloses, here, parentOf}
+use Rattle.chart.specs.Nested.{isParallel}
+use Rattle.chart.specs.Reading.{region, regionOf}
+use Rattle.chart.specs.WellFormed.{WellFormed}
+use Rattle.chart.proofs.Constructs.{parallel-below, parallel-inner}
+use Rattle.chart.proofs.Facts.{Named, TablesFit, FrameAt}
+use Rattle.chart.proofs.Tree.{outside-encloses}
+use Rattle.chart.proofs.Reading.{Frame, begin, end, marks}
+use Rattle.chart.proofs.Scopes.{byteOf}
+use Rattle.chart.proofs.Tables.{lies, scoped, scope-below, lies-scope, scope-frame, frame-only, frame-here, frame-scope, frame-lies, frame-found, edge-at, start-lies, finish-lies}
+use Rattle.chart.proofs.RegionFacts.{counts-within, within-encloses, edge-in, edge-within, edge-of, start-outer, start-inner, finish-outer, finish-inner, encloses-within, marks-at}
+use Rattle.chart.proofs.Accepted.{well-formed-tables}
+use Rattle.paths.specs.Path.{Path, Edge, Any}
+use Rattle.paths.specs.PathLaws.{reverse}
+use Rattle.paths.specs.Doors.{inner-path}
+use Rattle.paths.specs.Connected.{Connected}
+use Rattle.paths.specs.Admission.{badPaths}
+use Rattle.paths.specs.Row10.{from-start, to-finish, connected}
+
+module _ (D : Decoded) (few : length (D .constructs) ≤ outside) (F : TablesFit D) (h : badPaths (region D) ≡ false) where
+  whole : WellFormed (region D)
+  whole = well-formed-tables D few F outside (inl refl)
+
+  module _ (p : ℕ) (is : isParallel (D .constructs) p ≡ true) where
+    inner-p : p ≢ outside
+    inner-p = parallel-inner (D .constructs) p few is
+
+    abbrev parent : ℕ → ℕ
+    parent = parentOf (D .constructs)
+
+    below : p < length (D .constructs)
+    below = parallel-below (D .constructs) p is
+
+    -- what lies in the region, and its begin and end
+    abbrev In : ℕ → Type 0
+    In x = Encloses parent (lies D x) p
+
+    abbrev At : Frame → ℕ → Type 0
+    At f x = FrameAt (D .nodes) (byteOf f) p x
+
+    to-scope : (f : Frame) (x : ℕ) → In x ⊎ At f x → Encloses parent (scoped D f x) p
+    to-scope f x (inl i) = lies-scope D F f x i
+    to-scope f x (inr w) = subst (λ (q : ℕ). Encloses parent q p) (sym (frame-scope D F f x p w)) (here inner-p)
+
+    -- edges of the chart that touch the region
+    scopes : (x y : ℕ) → Edge (region D) x y → scoped D begin x ≡ scoped D end y
+    scopes x y e = edge-at D F x y (edge-in D outside x y e) .scopes
+
+    back : (x y : ℕ) → Edge (region D) x y → In y ⊎ At end y → In x ⊎ At begin x
+    back x y e b = scope-frame D F begin x (subst (λ (q : ℕ). Encloses parent q p) (sym (scopes x y e)) (to-scope end y b))
+
+    forth : (x y : ℕ) → Edge (region D) x y → In x ⊎ At begin x → In y ⊎ At end y
+    forth x y e b = scope-frame D F end y (subst (λ (q : ℕ). Encloses parent q p) (scopes x y e) (to-scope begin x b))
+
+    keeps : (x y : ℕ) → In x ⊎ At begin x → Edge (region D) x y → Edge (regionOf p D) x y
+    keeps x y b e = edge-of D p x y (edge-in D outside x y e) (encloses-within D p F (scoped D begin x) (scope-below D F begin x) (to-scope begin x b))
+
+    -- Start and Finish of the chart are not in the region
+    start-out : In (region D .start) → ⊥
+    start-out i = outside-encloses (start-lies D F) (subst In (start-outer D outside refl) i)
+
+    finish-out : In (region D .finish) → ⊥
+    finish-out i = outside-encloses (finish-lies D F) (subst In (finish-outer D outside refl) i)
+
+    kinds : {k f : ℕ} → k ≡ barrierNode → k ≡ f → beginNode ≤ f → ⊥
+    kinds a b l = omega arith
+
+    start-no-begin : At begin (region D .start) → ⊥
+    start-no-begin w = kinds (F .barriers .start) (subst (At begin) (start-outer D outside refl) w .0) (omega arith)
+
+    finish-no-end : At end (region D .finish) → ⊥
+    finish-no-end w = kinds (F .barriers .finish) (subst (At end) (finish-outer D outside refl) w .0) (omega arith)
+
+    from-begin : (x : ℕ) → x < length (D .nodes) → In x → Path (Edge (regionOf p D)) Any (regionOf p D .start) x
+    from-begin x l i =
+        subst (λ (d : ℕ). Path (Edge (regionOf p D)) Any d x) (sym (start-inner D p inner-p))
+        (inner-path In (At begin) (At end) (λ z w. frame-only D F begin z p w) (frame-found D F begin p below) back keeps
+        start-out start-no-begin (from-start (region D) whole h x l (λ q. start-out (subst In q i))) (inl i))
+
+    to-end : (x : ℕ) → x < length (D .nodes) → In x → Path (Edge (regionOf p D)) Any x (regionOf p D .finish)
+    to-end x l i =
+        subst (λ (d : ℕ). Path (Edge (regionOf p D)) Any x d) (sym (finish-inner D p inner-p))
+        (reverse (inner-path {E = λ a b. Edge (region D) b a} {F = λ a b. Edge (regionOf p D) b a} In (At end) (At begin) (λ z w. frame-only D F end z p w) (frame-found D F end p below)
+        (λ a b e v. forth b a e v) (λ a b v e. keeps b a (back b a e v) e)
+        finish-out finish-no-end (reverse (to-finish (region D) whole h x l (λ q. finish-out (subst In q i)))) (inl i)))
+
+    -- the ends of an edge of the region
+    edge-from : (x y : ℕ) → Edge (regionOf p D) x y → In x ⊎ At begin x
+    edge-from x y e = scope-frame D F begin x (within-encloses D p (scoped D begin x) inner-p (edge-within D p x y e))
+
+    edge-to : (x y : ℕ) → Edge (regionOf p D) x y → In y ⊎ At end y
+    edge-to x y e =
+        scope-frame D F end y (subst (λ (q : ℕ). Encloses parent q p) (edge-at D F x y (edge-in D p x y e) .scopes)
+        (within-encloses D p (scoped D begin x) inner-p (edge-within D p x y e)))
+
+    marks-to-end : (f : Frame) (x c : ℕ) → regionOf p D .role x ≡ marks f c → Path (Edge (regionOf p D)) Any x (regionOf p D .finish)
+    marks-to-end f x c w =
+        let m = marks-at D p F f x c w in
+        to-end x (frame-here D F f x c (m .0))
+        (subst (λ (q : ℕ). Encloses parent q p) (sym (frame-lies D F f x c (m .0))) (counts-within D p (m .1) inner-p))
+
+    inner : Connected (regionOf p D)
+    inner = record {
+      from-start = λ {x} {y} e n. elim (edge-from x y e) [
+        | inl i ↦ from-begin x (edge-at D F x y (edge-in D p x y e) .from-below) i
+        | inr w ↦ absurd (n (frame-only D F begin x p w ∙ sym (start-inner D p inner-p)))
+      ];
+      to-finish = λ {x} {y} e n. elim (edge-to x y e) [
+        | inl i ↦ to-end y (edge-at D F x y (edge-in D p x y e) .to-below) i
+        | inr w ↦ absurd (n (frame-only D F end y p w ∙ sym (finish-inner D p inner-p)))
+      ];
+      begin-to-finish = λ {x} {c} w. marks-to-end begin x c w;
+      end-to-finish = λ {x} {c} w. marks-to-end end x c w;
+    }
+
+  pub connected-in : (p : ℕ) → Named (D .constructs) p → Connected (regionOf p D)
+  connected-in p (inl q) = subst (λ (k : ℕ). Connected (regionOf k D)) (sym q) (connected (region D) whole h)
+  connected-in p (inr n) = inner p n
