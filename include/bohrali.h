@@ -191,6 +191,13 @@ enum bohrali_answer {
  * both are. */
 #define BOHRALI_ANSWER_AT_BARRIER 255
 
+/* Keeping answers while edges are added. Take two charts with the same nodes and constructs, tags
+ * and edition aside, of which one has all the edges of the other and any others besides. Then every
+ * never of the larger is a never of the smaller, in each region, though not always by the same
+ * rule; and a list of claims that passes for the larger passes for the smaller. So, of answers that
+ * were kept, each 0 stays 0 when edges are added; each never has to be asked again, or is asked
+ * once of a chart with all the edges that may ever be added, and then holds until they are. */
+
 /* Refusals. A call returns the first that applies, negated, and then has written nothing. Each is
  * checked over the whole chart, or the whole list of claims, before the next, in the order of their
  * numbers but for one: 23 comes straight after 10, so before 11, 12 and 13. */

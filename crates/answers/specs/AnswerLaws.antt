@@ -2,7 +2,7 @@
 -- most 5, and the same both ways round.
 -- Assumes nothing.
 use mathlib.Core.Path.{_≡_, refl, ap, sym, _∙_, subst}
-use mathlib.Core.Logic.{_⊎_, inl, inr, _↔_}
+use mathlib.Core.Logic.{_⊎_, inl, inr, _↔_, _≢_}
 use mathlib.Core.Bool.{Bool, true, false, _&&_, _||_, cond}
 use mathlib.Core.List.{List}
 use Prim.Native.Nat.{ℕ, suc, _≤_, _<_}
@@ -106,6 +106,11 @@ module _ {P : Rule → Type 0} where
       passed : t ≡ false → (s : Rule) → number s < suc (number r) → P s → Dec (number s < number r) → ⊥
       passed h s l q (yes d) = f s d q
       passed h s l q (no d) = clash (p .1 (subst P (one-rule s r (omega arith)) q)) h
+
+-- where the conditions of one chain hold in another too, a first rule of the one leaves a first rule to the other
+pub first-kept : {P Q : Rule → Type 0} → ((r : Rule) → P r → Q r) → {v w : ℕ} → First P v → First Q w → v ≢ 0 → w ≢ 0
+first-kept h (first r p f) B n e = first-none B e r (h r p)
+first-kept h (none f) B n e = n refl
 
 -- each condition is the same both ways round
 swap : (R : Region) (a b : ℕ) (r : Rule) → Excludes R a b r → Excludes R b a r

@@ -4,3 +4,4 @@ pub mod AnswerLaws
 pub mod Starred
 pub mod Numbers
 pub mod Sheet
+pub mod MoreEdges

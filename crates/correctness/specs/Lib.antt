@@ -5,3 +5,4 @@ pub mod PhasesCorrectLaws
 pub mod AdmitCorrectLaws
 pub mod AnswersCorrect
 pub mod AnswersCorrectLaws
+pub mod MoreEdges

@@ -90,6 +90,11 @@ unfolding any
 any-same zero f g h = refl
 any-same (suc n) f g h = rw (any-same n f g (λ k l. h k (omega arith)), h n (omega arith))
 
+pub first-same : (n : ℕ) (f g : ℕ → Bool) → ((k : ℕ) → f k ≡ g k) → first n f ≡ first n g
+unfolding first
+first-same zero f g h = refl
+first-same (suc n) f g h = rw (any-same n f g (λ k l. h k), first-same n f g h, h n)
+
 -- the first that passes, where some one does, is below n and passes
 pub first-passes : (n : ℕ) (f : ℕ → Bool) → any n f ≡ true → (first n f < n) × (f (first n f) ≡ true)
 unfolding any first

@@ -3,6 +3,7 @@
 
 pub mod benchmark;
 pub mod damage;
+pub mod more_edges;
 pub mod random;
 pub mod regions;
 pub mod valid;

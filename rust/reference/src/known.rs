@@ -111,6 +111,22 @@ pub fn chart_y(filters: [u16; 2], added: &[(usize, usize)]) -> Vec<u8> {
     chart.bytes()
 }
 
+/// Two masters in a row, each around one plain node, with a barrier between them and edges added.
+pub fn masters_apart(added: &[(usize, usize)]) -> Vec<u8> {
+    let mut chart = ChartBuilder::new();
+    chart.barrier();
+    for _ in 0..2 {
+        let master = chart.construct(Construct::MASTER, Construct::NONE, 0);
+        chart.begin(master);
+        chart.plain(master);
+        chart.end(master);
+        chart.barrier();
+    }
+    chart.row();
+    added.iter().for_each(|&(from, to)| chart.edge(from, to));
+    chart.bytes()
+}
+
 /// Constructs (kind, name), each the only child of the one before, with a plain node in the innermost
 /// one or none; edges in a row.
 pub fn nested(constructs: &[(u8, u16)], filled: bool) -> ChartBuilder {
