@@ -1,9 +1,13 @@
-// What comes along edges once: the sources' bits, from their nodes to those to which their edges lead, and what masks bring to the stops.
+// What comes along edges once: the sources' bits, from their nodes to those to which their edges lead, and what masks bring to the stops;
+// and levels, as they begin and as they are told.
 ghost use mathlib.Core.Path.{_≡_};
 ghost use Prim.Native.Nat.{ℕ, _+_, _≤_, _<_};
 ghost use lib.ListN.{getD, length};
 ghost use Rattle.sweeps.specs.Sweep.{Between};
 ghost use Rattle.feeding.specs.Fed.{Fed, Leaves, Owned, Stored};
+
+pub mod levels;
+
 use bits::bit;
 use chart::cursor::wide;
 use chart::format::Chart;

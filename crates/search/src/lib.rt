@@ -1,6 +1,6 @@
 // The search, from up to 64 sources at once: for each node a mask with a bit for each source from which a path leads there, and forward
 // the fewest edges on such a path. What the sources' edges lead to is closed by sweeps along the edges between nodes that may be passed,
-// forward or with the edges turned round. The fewest edges are found by a search of their own, breadth first.
+// forward or with the edges turned round. The fewest edges are swept or searched, breadth first.
 ghost use mathlib.Core.Path.{_≡_};
 ghost use mathlib.Core.List.{List};
 ghost use Prim.Native.Nat.{ℕ, _+_, _≤_, _<_};
@@ -9,13 +9,15 @@ ghost use Rattle.paths.specs.Graph.{Listed, Places};
 ghost use Rattle.paths.specs.Found.{Clear, Leveled};
 ghost use Rattle.splitting.specs.Parts.{row, Split};
 ghost use Rattle.search.specs.Search.{Ready, Standing, Sown, Spread, Marked};
+
+pub mod nearest;
+
+use crate::nearest::fewest;
 use chart::format::Chart;
 use feeding::clear;
 use feeding::feed;
 use feeding::leave;
-use feeding::mark;
 use feeding::stand;
-use levels::search;
 use splitting::Extent;
 use splitting::Parts;
 use sweeps::close::close;
@@ -113,23 +115,6 @@ fn behind(
     );
 }
 
-// The fewest edges from the stops to the nodes that may be passed.
-fn fewest(
-    edges: &[[u8; Chart::EDGES]; Parts::ROWS],
-    places: &[usize; Chart::PLACES],
-    nodes: &[u8; Chart::BARRIERS],
-    total: usize,
-    levels: &mut [u8; Chart::NODES],
-)
-    requires { ⌜ (total ≤ 64) × ((ups : ℕ) × (low : ℕ) × (ins : ℕ) × Ready (now edges) (now places) ups low ins) ⌝ }
-    requires { ⌜ ((b : ℕ) → getD (now nodes) b 0 < 192) ⌝ }
-    ensures { λ _. ⌜ ((e : ℕ) (stops : List ℕ) (ups low ins : ℕ) → Split (now (edges .entry)) e stops ups low ins → Places (row (now (edges .entry)) 0) e (now (places .entry)) → Standing stops (now (nodes .entry)) total → Leveled (Listed (row (now (edges .entry)) 0) (row (now (edges .entry)) 1) e) (Clear stops) (Clear stops) (now (nodes .entry)) total (now (levels .exit))) ⌝ }
-{
-    *levels = [0u8; Chart::NODES];
-    mark(nodes, total, levels);
-    search(&edges[Parts::TO], places, nodes, total, levels);
-}
-
 // From the stops: the masks of the nodes that may be passed and their levels, and the masks of all nodes.
 pub fn starts(
     edges: &[[u8; Chart::EDGES]; Parts::ROWS],
@@ -147,7 +132,7 @@ pub fn starts(
     let total = extent.barriers;
     let parts = extent.parts;
     depart(edges, places, nodes, total, masks);
-    fewest(edges, places, nodes, total, levels);
+    fewest(edges, places, extent, nodes, masks, levels);
     proceed(edges, parts, masks);
     *all = *masks;
     clear(nodes, total, masks);

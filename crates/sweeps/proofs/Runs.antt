@@ -5,7 +5,7 @@ use mathlib.Core.Path.{_≡_, refl, sym, _∙_}
 use mathlib.Core.Logic.{_⊎_, ⊎-elim}
 use mathlib.Core.Bool.{Bool, true, false}
 use mathlib.Core.List.{List, [], _∷_}
-use Prim.Native.Nat.{ℕ, zero, suc, _+_, _-_, _^_, _≤_, _<_}
+use Prim.Native.Nat.{ℕ, zero, suc, _+_, _-_, _^_, _≤_, _<_, min}
 use native.Mathlib.Omega.{arith}
 use native.Mathlib.Decide.{ℕ-discrete}
 use borrow.Author.Count.{below-more}
@@ -15,6 +15,7 @@ use lib.Seq.{getD-set-same, getD-set-other}
 use Rattle.lists.specs.Mask.{Sub, or-left, or-right, or-more}
 use Rattle.lists.specs.Store.{at-set}
 use Rattle.sweeps.specs.Sweep.{Between, place, passed, Step, Run, none, more, Carried, start, then, Closed, Ahead, weight, gap, flag, Kind}
+use Rattle.sweeps.specs.LevelLaws.{nearer, Follows}
 
 -- nothing is new in two sweeps exactly when nothing is in either
 pub or-none : (a b : ℕ) → bitOr a b ≡ 0 → (a ≡ 0) × (b ≡ 0)
@@ -26,7 +27,7 @@ none-or a b e f = rw (e, f) (or-zero-l 0)
 pub xor-same : (a b : ℕ) → bitXor a b ≡ 0 → a ≡ b
 xor-same a b e = omega (arith, xor-add-and a b, and-le-l a b, and-le-r a b)
 
--- masks
+-- masks and levels
 pub masks-kind : Kind bitOr Sub Sub gap (λ m. m < 18446744073709551616)
 masks-kind = record {
   same = λ a b h. h;
@@ -37,6 +38,18 @@ masks-kind = record {
   keep = λ v a b f g i h. g i (f i h);
   bound = λ a v. or-lt 64 a v;
   falls = λ a v l m n. omega (arith, or-more a v);
+}
+
+pub levels-kind : Kind nearer (λ a b. b ≤ a) Follows (λ d. d) (λ d. d ≤ 254)
+levels-kind = record {
+  same = λ a. omega arith;
+  over = λ a b c f g. omega arith;
+  up = λ a v. omega arith;
+  loop = λ a. omega arith;
+  near = λ a v. omega arith;
+  keep = λ v a b f g. omega arith;
+  bound = λ a v l m. omega arith;
+  falls = λ a v l m n. omega arith;
 }
 
 -- places

@@ -30,6 +30,12 @@ unfolding flag
 flag-le zero = omega arith
 flag-le (suc n) = omega arith
 
+pub flag-mono : (m n : ℕ) → m ≤ n → flag m ≤ flag n
+unfolding flag
+flag-mono zero n h = omega arith
+flag-mono (suc m) zero h = absurd (omega arith)
+flag-mono (suc m) (suc n) h = omega arith
+
 -- Of the edges of a graph, L has those from a node with P to one with Q; each node with P to which an edge leads has Q.
 pub record Inner (E : ℕ → ℕ → Type 0) (P Q : ℕ → Type 0) (L : ℕ → ℕ → Type 0) : Type 0 where
   pub node : (x y : ℕ) → L x y → y < 192

@@ -12,7 +12,7 @@ start c = c .before .before .before
 
 -- where the sources' edges have been followed, and all edges
 abbrev left : (c : tie.After-proceed) → tie.After-depart
-left c = c .before .before .before .before
+left c = c .before .before .before .before .before
 
 abbrev gone : (c : tie.After-clear) → tie.After-proceed
 gone c = c .before .before .before
@@ -24,12 +24,12 @@ depart-requires c κs =
 
 fewest-requires : tie.Need-fewest-requires
 fewest-requires c κs =
-    let ((few, ready), nodes) = start (c .before) .pre in
-    ((few, (_, _, _, ready)), nodes)
+    let ((few, ready), nodes) = start (c .before .before) .pre in
+    ((few, ready), nodes)
 
 proceed-requires : tie.Need-proceed-requires
 proceed-requires c κs =
-    let departed = c .before .before .before in
+    let departed = c .before .before .before .before in
     let ((few, ready), nodes) = start departed .pre in
     let w = departed .depart .ensures _ _ _ _ _ (ready .split) (ready .begins) in
     ((_, _, ready .split), (w .long, sown-fits few w))
@@ -59,7 +59,7 @@ returns c = λ e stops T P S.
     let p = gone cleared in
     let w = left p .depart .ensures e stops _ _ _ T P in (
       marked-starts T S (p .proceed .ensures e stops _ _ T w) (cleared .clear .ensures) (c .feed .ensures),
-      p .before .before .fewest .ensures e stops _ _ _ T P S,
+      p .before .before .fewest .ensures e stops T P S w,
     )
 
 pub starts-spec : {M : Type 1} → statement M

@@ -1,0 +1,22 @@
+-- `search::nearest::fewest` meets its contract, whichever way it takes. Assumes nothing.
+use borrow.Author.Needs.{needs}
+use Rattle.search.proofs.nearest.fewest.Statement.{statement}
+use Rattle.search.proofs.nearest.fewest.Tie as tie
+
+far-requires : tie.Need-far-requires
+far-requires c κs = search needs
+
+searched-requires : tie.Need-searched-requires
+searched-requires c κs = search needs
+
+returns : tie.Need-returns
+returns c = λ e stops T P S w. c .searched .ensures e stops _ _ _ T P S
+
+swept-requires : tie.Need-swept-requires
+swept-requires c κs = search needs
+
+returns-2 : tie.Need-returns-2
+returns-2 c = λ e stops T P S w. c .swept .ensures e stops _ _ T w
+
+pub fewest-spec : {M : Type 1} → statement M
+fewest-spec = tie.close (tie.spec far-requires searched-requires returns swept-requires returns-2)

@@ -1,0 +1,86 @@
+// The fewest edges on a path from any source: by sweeps, or where these would be many or long by one search.
+ghost use mathlib.Core.List.{List};
+ghost use Prim.Native.Nat.{ℕ, _≤_, _<_};
+ghost use lib.ListN.{getD};
+ghost use Rattle.paths.specs.Graph.{Listed, Places};
+ghost use Rattle.paths.specs.Found.{Clear, Leveled};
+ghost use Rattle.splitting.specs.Parts.{row, Split};
+ghost use Rattle.search.specs.Search.{Ready, Standing, Sown};
+use chart::format::Chart;
+use feeding::levels::begin;
+use feeding::levels::tell;
+use feeding::mark;
+use levels::search;
+use splitting::Extent;
+use splitting::Parts;
+use sweeps::levels::measure;
+
+// The levels of the nodes that may be passed, from the masks of the sources that have an edge to each node.
+fn swept(
+    edges: &[[u8; Chart::EDGES]; Parts::ROWS],
+    parts: Parts,
+    masks: &[u64; Chart::NODES],
+    levels: &mut [u8; Chart::NODES],
+)
+    requires { ⌜ ((e : ℕ) × (stops : List ℕ) × Split (now edges) e stops (parts .ups) (parts .low) (parts .ins)) ⌝ }
+    ensures { λ _. ⌜ ((e : ℕ) (stops sources : List ℕ) (total : ℕ) → Split (now (edges .entry)) e stops (parts .ups) (parts .low) (parts .ins) → Sown (Listed (row (now (edges .entry)) 0) (row (now (edges .entry)) 1) e) sources total (now (masks .entry)) → Leveled (Listed (row (now (edges .entry)) 0) (row (now (edges .entry)) 1) e) (Clear stops) (Clear stops) sources total (now (levels .exit))) ⌝ }
+{
+    begin(masks, levels);
+    measure(
+        &edges[Parts::PLAIN_FROM],
+        &edges[Parts::PLAIN_TO],
+        parts.ups,
+        parts.low,
+        false,
+        levels,
+    );
+    tell(levels);
+}
+
+// The same by one search.
+fn searched(
+    edges: &[[u8; Chart::EDGES]; Parts::ROWS],
+    places: &[usize; Chart::PLACES],
+    nodes: &[u8; Chart::BARRIERS],
+    total: usize,
+    levels: &mut [u8; Chart::NODES],
+)
+    requires { ⌜ (total ≤ 64) × ((ups : ℕ) × (low : ℕ) × (ins : ℕ) × Ready (now edges) (now places) ups low ins) ⌝ }
+    requires { ⌜ ((b : ℕ) → getD (now nodes) b 0 < 192) ⌝ }
+    ensures { λ _. ⌜ ((e : ℕ) (stops : List ℕ) (ups low ins : ℕ) → Split (now (edges .entry)) e stops ups low ins → Places (row (now (edges .entry)) 0) e (now (places .entry)) → Standing stops (now (nodes .entry)) total → Leveled (Listed (row (now (edges .entry)) 0) (row (now (edges .entry)) 1) e) (Clear stops) (Clear stops) (now (nodes .entry)) total (now (levels .exit))) ⌝ }
+{
+    *levels = [0u8; Chart::NODES];
+    mark(nodes, total, levels);
+    search(&edges[Parts::TO], places, nodes, total, levels);
+}
+
+// Whether a search is the faster way: many falling edges, each of which may ask for one more sweep, and many edges to sweep for each
+// source, whose edges a search meets one source after the other.
+fn far(parts: Parts, total: usize) -> bool
+    requires { ⌜ (parts .ups ≤ 1024) × (parts .low ≤ 1024) × (total ≤ 64) ⌝ }
+{
+    let falling = Chart::EDGES - parts.low;
+    if falling <= 64 {
+        return false;
+    }
+    8 * total < parts.ups + falling
+}
+
+pub fn fewest(
+    edges: &[[u8; Chart::EDGES]; Parts::ROWS],
+    places: &[usize; Chart::PLACES],
+    extent: Extent,
+    nodes: &[u8; Chart::BARRIERS],
+    masks: &[u64; Chart::NODES],
+    levels: &mut [u8; Chart::NODES],
+)
+    requires { ⌜ (extent .barriers ≤ 64) × Ready (now edges) (now places) (extent .parts .ups) (extent .parts .low) (extent .parts .ins) ⌝ }
+    requires { ⌜ ((b : ℕ) → getD (now nodes) b 0 < 192) ⌝ }
+    ensures { λ _. ⌜ ((e : ℕ) (stops : List ℕ) → Split (now (edges .entry)) e stops (extent .parts .ups) (extent .parts .low) (extent .parts .ins) → Places (row (now (edges .entry)) 0) e (now (places .entry)) → Standing stops (now (nodes .entry)) (extent .barriers) → Sown (Listed (row (now (edges .entry)) 0) (row (now (edges .entry)) 1) e) (now (nodes .entry)) (extent .barriers) (now (masks .entry)) → Leveled (Listed (row (now (edges .entry)) 0) (row (now (edges .entry)) 1) e) (Clear stops) (Clear stops) (now (nodes .entry)) (extent .barriers) (now (levels .exit))) ⌝ }
+{
+    if far(extent.parts, extent.barriers) {
+        searched(edges, places, nodes, extent.barriers, levels);
+        return;
+    }
+    swept(edges, extent.parts, masks, levels);
+}
