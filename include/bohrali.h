@@ -13,7 +13,7 @@
  *
  * The first word of a constant says what it is: LEAST and MOST are limits, BYTES sizes, TRAILER
  * fields of the trailer, NODE and CONSTRUCT kinds, REGION numbers of regions, ANSWER answers,
- * REFUSED refusals.
+ * DISTANCE distances, REFUSED refusals.
  */
 #ifndef BOHRALI_H
 #define BOHRALI_H
@@ -198,6 +198,9 @@ enum bohrali_answer {
  * were kept, each 0 stays 0 when edges are added; each never has to be asked again, or is asked
  * once of a chart with all the edges that may ever be added, and then holds until they are. */
 
+/* In place of a node's distance: it is a barrier or outside the region. No distance is over 190. */
+#define BOHRALI_DISTANCE_AT_BARRIER 255
+
 /* Refusals. A call returns the first that applies, negated, and then has written nothing. Each is
  * checked over the whole chart, or the whole list of claims, before the next, in the order of their
  * numbers but for one: 23 comes straight after 10, so before 11, 12 and 13. */
@@ -233,6 +236,14 @@ int64_t bohrali_admit(const uint8_t *chart, size_t chart_len);
 /* The answer for nodes a and b of a region: 0 to 5, or a refusal 1 to 10, 23 or 13, negated. Any
  * numbers may be handed over; the order of the two nodes does not matter. */
 int64_t bohrali_pair(const uint8_t *chart, size_t chart_len, size_t region, size_t a, size_t b);
+
+/* Writes for each node, by rising number, one byte: its distance in a region, the fewest edges on a
+ * barrier-free path that leads to it from a start of it, or BOHRALI_DISTANCE_AT_BARRIER where it is
+ * a barrier or outside the region. Every barrier-free path from a barrier to the node has at least
+ * so many edges. Returns the number of bytes written, one for each node of the whole chart, or a
+ * refusal 1 to 10, 23 or 11, negated. Bytes past the result keep their values. */
+int64_t bohrali_distances(const uint8_t *chart, size_t chart_len, size_t region, uint8_t *out,
+                          size_t out_len);
 
 /* Judges a list of claims about a region, each a pair of bytes: two node numbers, of which it is
  * claimed that two threads of the region's team are never there together, in a run that finishes.

@@ -25,11 +25,15 @@ static void expect(const char *call, int64_t got, int64_t wanted)
 int main(void)
 {
     expect("admit nothing", bohrali_admit(NULL, 0), -BOHRALI_REFUSED_SHORT);
+    expect("distances of nothing", bohrali_distances(NULL, 0, REGION, NULL, 0),
+           -BOHRALI_REFUSED_SHORT);
     expect("judge nothing", bohrali_judge(NULL, 0, REGION, NULL, 0), -BOHRALI_REFUSED_SHORT);
     expect("pair of nothing", bohrali_pair(NULL, 0, REGION, 0, 0), -BOHRALI_REFUSED_SHORT);
     expect("phases of nothing", bohrali_phases(NULL, 0, REGION, NULL, 0), -BOHRALI_REFUSED_SHORT);
     expect("sheet of nothing", bohrali_sheet(NULL, 0, REGION, NULL, 0), -BOHRALI_REFUSED_SHORT);
     expect("no claims", bohrali_judge(chart, sizeof chart, REGION, NULL, 0), 0);
+    expect("no room for distances", bohrali_distances(chart, sizeof chart, REGION, NULL, 0),
+           -BOHRALI_REFUSED_ROOM);
     expect("no room for phases", bohrali_phases(chart, sizeof chart, REGION, NULL, 0),
            -BOHRALI_REFUSED_ROOM);
     expect("no room for a sheet", bohrali_sheet(chart, sizeof chart, REGION, NULL, 0),

@@ -4,12 +4,14 @@
 ghost use mathlib.Core.Path.{_≡_};
 ghost use Rattle.admission.specs.Admission.{admitted, numberOf as Admission·numberOf};
 ghost use Rattle.output.specs.Output.{numberOf as Output·numberOf};
+ghost use Rattle.distances.specs.Distances.{distancesWritten, distancesLeft};
 ghost use Rattle.calls.specs.Phases.{phasesWritten, phasesLeft};
 ghost use Rattle.calls.specs.Sheet.{sheetWritten, sheetLeft};
 ghost use Rattle.calls.specs.Pair.{pairAnswered, numberOf as Pair·numberOf};
 ghost use Rattle.verdicts.specs.Judged.{judged, numberOf as Judged·numberOf};
 ghost use Rattle.verdicts.specs.Correct.{Correct};
 ghost use Rattle.correctness.specs.PhasesCorrect.{PhasesCorrect, AdmitCorrect};
+ghost use Rattle.correctness.specs.DistancesCorrect.{DistancesCorrect};
 ghost use Rattle.correctness.specs.AnswersCorrect.{PairCorrect, SheetCorrect};
 ghost use Rattle.bohrali.specs.Bounds.{SmallCounts};
 ghost use Prim.Native.Nat.{_+_, _*_, _^_, _<_};
@@ -59,6 +61,18 @@ pub extern "C" fn bohrali_phases(chart: &[u8], region: usize, out: &mut [u8]) ->
     ensures { λ r. ⌜ PhasesCorrect (now (chart .entry)) region (now (out .entry)) r (now (out .exit)) ⌝ }
 {
     match calls::writing::phases(chart, region, out) {
+        Written::Bytes(count) => counted(count),
+        Written::Refused(refusal) => negated(refusal),
+    }
+}
+
+#[no_mangle]
+pub extern "C" fn bohrali_distances(chart: &[u8], region: usize, out: &mut [u8]) -> i64
+    ensures { λ r. ⌜ r ≡ Output·numberOf (distancesWritten (now (chart .entry)) region (now (out .entry))) ⌝ }
+    ensures { λ _. ⌜ now (out .exit) ≡ distancesLeft (now (chart .entry)) region (now (out .entry)) ⌝ }
+    ensures { λ r. ⌜ DistancesCorrect (now (chart .entry)) region (now (out .entry)) r (now (out .exit)) ⌝ }
+{
+    match distances::distances(chart, region, out) {
         Written::Bytes(count) => counted(count),
         Written::Refused(refusal) => negated(refusal),
     }

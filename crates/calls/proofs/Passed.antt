@@ -1,6 +1,6 @@
 -- Where the rows before a call's own let pass: what it answers of the region that the chart was read for is what it answers of the named one.
 -- Assumes nothing.
-use mathlib.Core.Path.{_≡_, sym, _∙_}
+use mathlib.Core.Path.{_≡_}
 use mathlib.Core.List.{List, [], _∷_}
 use mathlib.Core.Option.{none}
 use Prim.Native.Nat.{ℕ}
@@ -14,7 +14,7 @@ use Rattle.paths.specs.Admission.{regionRows}
 use Rattle.answers.specs.Answer.{answer}
 use Rattle.output.specs.Output.{outputRows, writtenBy, leftBy}
 use Rattle.output.specs.declared.Written.{Written}
-use Rattle.output.proofs.Outputs.{passed-before}
+use Rattle.output.proofs.Outputs.{passed-named}
 use Rattle.calls.specs.Pair.{numbersRow, pairRows, answered, pairAnswered}
 use Rattle.calls.specs.declared.pair.Answered.{Answered}
 
@@ -31,6 +31,4 @@ module _ (s : List ℕ) (p read : ℕ) (named : read ≡ p) (passes : firstOf (r
       → let full = length (result (regionOf p (decode s))) in
       (r ≡ writtenBy (outputRows (regionRows s p) (length old) full []) full)
       × (new ≡ leftBy (outputRows (regionRows s p) (length old) full []) (result (regionOf p (decode s))) old)
-  output-passed result old h k =
-      let b = passed-before (regionRows s p) [] (length (result (regionOf p (decode s)))) (result (regionOf p (decode s))) old passes in
-      (rw named at h ∙ sym (b .0), rw named at k ∙ sym (b .1))
+  output-passed result old = passed-named (regionRows s p) (λ (q : ℕ). result (regionOf q (decode s))) old named passes

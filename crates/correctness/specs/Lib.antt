@@ -6,3 +6,5 @@ pub mod AdmitCorrectLaws
 pub mod AnswersCorrect
 pub mod AnswersCorrectLaws
 pub mod MoreEdges
+pub mod DistancesCorrect
+pub mod DistancesCorrectLaws

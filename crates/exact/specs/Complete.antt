@@ -193,7 +193,7 @@ module _ {R : Region} (W : WellFormed R) (C : Connected R) {m : ℕ} where
     from-start : Dec (start D ≡ R .start) → AllCome R m (initial R) (start D)
     unfolding initial
     from-start (yes z) = (initial R, done, λ t l. sym z)
-    from-start (no z) = travel W C (C .from-start (first-edge (start-a D) .1) z) (W .start-barrier) (start-barrier D) (inl refl) (λ t l. refl)
+    from-start (no z) = travel W C (C .from-start (W .from-kept (first-edge (start-a D) .1)) z) (W .start-barrier) (start-barrier D) (inl refl) (λ t l. refl)
 
     to-finish : {τ : State} → AllAt m τ (end D) → Dec (end D ≡ R .finish) → AllCome R m τ (R .finish)
     to-finish {τ} all (yes z) = (τ, done, λ t l. all t l ∙ z)

@@ -19,7 +19,7 @@ pub record Least (f : ℕ → ℕ) (k v : ℕ) : Type 0 where
   pub one : 0 < v → (b : ℕ) × (b < k) × (f b ≡ v)
   pub below : (b : ℕ) → b < k → 0 < f b → (0 < v) × (v ≤ f b)
 
-least-is : (f : ℕ → ℕ) (k : ℕ) → Least f k (least f k)
+pub least-is : (f : ℕ → ℕ) (k : ℕ) → Least f k (least f k)
 unfolding least
 least-is f zero = record { one = λ h. absurd (omega arith); below = λ b l. absurd (omega arith) }
 least-is f (suc k) = go (least f k) (f k) refl (least-is f k)

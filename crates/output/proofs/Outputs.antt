@@ -1,6 +1,6 @@
 -- Calls that write a result: what they answer and leave by the outcome of their rows, and what an answer says of these.
 -- Assumes nothing.
-use mathlib.Core.Path.{_≡_, refl, ap, sym}
+use mathlib.Core.Path.{_≡_, refl, ap, sym, _∙_}
 use mathlib.Core.List.{List, [], _∷_, _++_}
 use mathlib.Core.Option.{Option, none, some}
 use Prim.Native.Nat.{ℕ, _≤_}
@@ -11,6 +11,7 @@ use Rattle.chart.specs.Refusal.{Row, firstOf}
 use Rattle.chart.specs.declared.format.Refusal.{Refusal}
 use Rattle.chart.proofs.Rows.{none-applies, both-pass, first-decides, second-decides}
 use Rattle.output.specs.Output.{roomRow, outputRows, written, content, writtenBy, leftBy}
+use Rattle.output.specs.declared.Written.{Written}
 use Rattle.output.specs.declared.Written.the-variants.{Bytes, Refused}
 
 -- an answer read backwards
@@ -61,3 +62,13 @@ module _ (rows : List Row) (size : ℕ) (result old : List ℕ) where
   pub put : {count : ℕ} → writtenBy rows size ≡ Bytes count → result ++ drop (length result) old ≡ leftBy rows result old
   unfolding writtenBy leftBy content
   put h = rw (bytes-none (firstOf rows) h .0)
+
+-- where the rows before row 11 let pass: what is answered of what was read is what is answered of what was named
+pub passed-named : (before : List Row) (result : ℕ → List ℕ) (old : List ℕ) {read named : ℕ} → read ≡ named → firstOf before ≡ none → {r : Written} {new : List ℕ}
+    → let size = length (result read) in r ≡ writtenBy (outputRows [] (length old) size []) size
+    → new ≡ leftBy (outputRows [] (length old) size []) (result read) old
+    → let full = length (result named) in (r ≡ writtenBy (outputRows before (length old) full []) full)
+    × (new ≡ leftBy (outputRows before (length old) full []) (result named) old)
+passed-named before result old {named = named} q passes h k =
+    let b = passed-before before [] (length (result named)) (result named) old passes in
+    (rw q at h ∙ sym (b .0), rw q at k ∙ sym (b .1))

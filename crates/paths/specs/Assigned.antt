@@ -13,5 +13,5 @@ use Rattle.paths.specs.Connected.{Connected}
 pub assigned : {R : Region} → WellFormed R → Connected R → {x s : ℕ} → R .role x ≡ opens s → R .kind s ≡ section → R .edge (R .begin (R .parent s)) x ≡ true
 assigned {R} W C {x} w k =
     let out = first-edge (C .begin-to-finish w) in
-    let (z, e) = last-edge (C .from-start (out .1) (λ q. bad (cc (w, W .start-barrier, q)))) in
+    let (z, e) = last-edge (C .from-start (W .from-kept (out .1)) (λ q. bad (cc (w, W .start-barrier, q)))) in
     subst (λ (n : ℕ). R .edge n x ≡ true) (W .opens-begin (assigned-from W w k e)) e

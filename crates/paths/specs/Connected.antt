@@ -8,7 +8,7 @@ use Rattle.chart.specs.Region.{opens, closes, Region}
 use Rattle.paths.specs.Path.{Path, Edge, Any}
 
 pub record Connected (R : Region) : Type 0 where
-  pub from-start : {x y : ℕ} → R .edge x y ≡ true → x ≢ R .start → Path (Edge R) Any (R .start) x
+  pub from-start : {x : ℕ} → R .kept x ≡ true → x ≢ R .start → Path (Edge R) Any (R .start) x
   pub to-finish : {x y : ℕ} → R .edge x y ≡ true → y ≢ R .finish → Path (Edge R) Any y (R .finish)
   pub begin-to-finish : {x c : ℕ} → R .role x ≡ opens c → Path (Edge R) Any x (R .finish)
   pub end-to-finish : {x c : ℕ} → R .role x ≡ closes c → Path (Edge R) Any x (R .finish)

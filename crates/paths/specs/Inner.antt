@@ -6,10 +6,12 @@ use mathlib.Core.Logic.{_⊎_, inl, inr, _≢_}
 use mathlib.Core.Bool.{true, false}
 use Prim.Native.Nat.{ℕ, _≤_, _<_}
 use native.Mathlib.Omega.{arith}
+use lib.Dec.{ltb}
 use lib.ListN.{length}
+use Rattle.lists.specs.Truth.{and-both, or-cases}
 use Rattle.chart.specs.Format.{outside, Decoded}
 use Rattle.chart.specs.Scope.{barrierNode, beginNode, Encloses, here, parentOf}
-use Rattle.chart.specs.Nested.{isParallel}
+use Rattle.chart.specs.Nested.{isParallel, liesWithin, keptIn}
 use Rattle.chart.specs.Reading.{region, regionOf}
 use Rattle.chart.specs.WellFormed.{WellFormed}
 use Rattle.chart.proofs.Constructs.{parallel-below, parallel-inner}
@@ -75,17 +77,24 @@ module _ (D : Decoded) (few : length (D .constructs) ≤ outside) (F : TablesFit
     kinds : {k f : ℕ} → k ≡ barrierNode → k ≡ f → beginNode ≤ f → ⊥
     kinds a b l = omega arith
 
-    start-no-begin : At begin (region D .start) → ⊥
-    start-no-begin w = kinds (F .barriers .start) (subst (At begin) (start-outer D outside refl) w .0) (omega arith)
+    frames : (f : Frame) → beginNode ≤ byteOf f
+    frames begin = omega arith
+    frames end = omega arith
+
+    start-no : (f : Frame) → At f (region D .start) → ⊥
+    start-no f w = kinds (F .barriers .start) (subst (At f) (start-outer D outside refl) w .0) (frames f)
+
+    start-none : In (region D .start) ⊎ At end (region D .start) → ⊥
+    start-none b = elim b [ inl i ↦ start-out i | inr w ↦ start-no end w ]
 
     finish-no-end : At end (region D .finish) → ⊥
     finish-no-end w = kinds (F .barriers .finish) (subst (At end) (finish-outer D outside refl) w .0) (omega arith)
 
-    from-begin : (x : ℕ) → x < length (D .nodes) → In x → Path (Edge (regionOf p D)) Any (regionOf p D .start) x
-    from-begin x l i =
+    from-begin : (x : ℕ) → x < length (D .nodes) → In x ⊎ At end x → Path (Edge (regionOf p D)) Any (regionOf p D .start) x
+    from-begin x l b =
         subst (λ (d : ℕ). Path (Edge (regionOf p D)) Any d x) (sym (start-inner D p inner-p))
         (inner-path In (At begin) (At end) (λ z w. frame-only D F begin z p w) (frame-found D F begin p below) back keeps
-        start-out start-no-begin (from-start (region D) whole h x l (λ q. start-out (subst In q i))) (inl i))
+        start-out (start-no begin) (from-start (region D) whole h x l (λ q. start-none (subst (λ (z : ℕ). In z ⊎ At end z) q b))) b)
 
     to-end : (x : ℕ) → x < length (D .nodes) → In x → Path (Edge (regionOf p D)) Any x (regionOf p D .finish)
     to-end x l i =
@@ -94,9 +103,19 @@ module _ (D : Decoded) (few : length (D .constructs) ≤ outside) (F : TablesFit
         (λ a b e v. forth b a e v) (λ a b v e. keeps b a (back b a e v) e)
         finish-out finish-no-end (reverse (to-finish (region D) whole h x l (λ q. finish-out (subst In q i)))) (inl i)))
 
-    -- the ends of an edge of the region
-    edge-from : (x y : ℕ) → Edge (regionOf p D) x y → In x ⊎ At begin x
-    edge-from x y e = scope-frame D F begin x (within-encloses D p (scoped D begin x) inner-p (edge-within D p x y e))
+    -- what is one of the region, other than its begin, and what an edge of the region leads to
+    kept-scopes : (x : ℕ) → regionOf p D .kept x ≡ true → (liesWithin (D .constructs) p (scoped D begin x) ≡ true) ⊎ (liesWithin (D .constructs) p (scoped D end x) ≡ true)
+    unfolding keptIn
+    kept-scopes x k = or-cases _ _ (and-both (ltb x (length (D .nodes))) _ k .1)
+
+    kept-to : (x : ℕ) → regionOf p D .kept x ≡ true → x ≢ regionOf p D .start → In x ⊎ At end x
+    kept-to x k n = elim (kept-scopes x k) [
+      | inl w ↦ elim (scope-frame D F begin x (within-encloses D p (scoped D begin x) inner-p w)) [
+        | inl i ↦ inl i
+        | inr b ↦ absurd (n (frame-only D F begin x p b ∙ sym (start-inner D p inner-p)))
+      ]
+      | inr w ↦ scope-frame D F end x (within-encloses D p (scoped D end x) inner-p w)
+    ]
 
     edge-to : (x y : ℕ) → Edge (regionOf p D) x y → In y ⊎ At end y
     edge-to x y e =
@@ -111,10 +130,7 @@ module _ (D : Decoded) (few : length (D .constructs) ≤ outside) (F : TablesFit
 
     inner : Connected (regionOf p D)
     inner = record {
-      from-start = λ {x} {y} e n. elim (edge-from x y e) [
-        | inl i ↦ from-begin x (edge-at D F x y (edge-in D p x y e) .from-below) i
-        | inr w ↦ absurd (n (frame-only D F begin x p w ∙ sym (start-inner D p inner-p)))
-      ];
+      from-start = λ {x} k n. from-begin x (well-formed-tables D few F p (inr is) .kept-below k) (kept-to x k n);
       to-finish = λ {x} {y} e n. elim (edge-to x y e) [
         | inl i ↦ to-end y (edge-at D F x y (edge-in D p x y e) .to-below) i
         | inr w ↦ absurd (n (frame-only D F end y p w ∙ sym (finish-inner D p inner-p)))

@@ -1,3 +1,4 @@
 pub mod Phases
 pub mod PhasesLaws
 pub mod Counted
+pub mod NearestLaws

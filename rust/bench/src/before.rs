@@ -34,6 +34,7 @@ pub const BEFORE: Calls = Calls {
     phases: |chart, out| unsafe {
         before_bohrali_phases(chart.as_ptr(), chart.len(), out.as_mut_ptr(), out.len())
     },
+    distances: None,
     pair: |chart, a, b| unsafe { before_bohrali_pair(chart.as_ptr(), chart.len(), a, b) },
     sheet: |chart, out| unsafe {
         before_bohrali_sheet(chart.as_ptr(), chart.len(), out.as_mut_ptr(), out.len())

@@ -1,4 +1,4 @@
-//! What is measured: the five calls of one implementation, for the outermost region, each by C's one
+//! What is measured: the six calls of one implementation, for the outermost region, each by C's one
 //! number.
 
 use bohrali::Region::Outermost;
@@ -10,6 +10,8 @@ use bohrali::{Counts, Refusal, Verdict};
 pub struct Calls {
     pub admit: fn(&[u8]) -> i64,
     pub phases: fn(&[u8], &mut [u8]) -> i64,
+    /// Where the implementation has it.
+    pub distances: Option<fn(&[u8], &mut [u8]) -> i64>,
     pub pair: fn(&[u8], usize, usize) -> i64,
     pub sheet: fn(&[u8], &mut [u8]) -> i64,
     pub judge: fn(&[u8], &[u8]) -> i64,
@@ -22,6 +24,7 @@ pub const LIBRARY: Calls = Calls {
         number(bohrali::admit(chart), packed)
     },
     phases: |chart, out| number(bohrali::phases(chart, Outermost, out), |bytes| bytes),
+    distances: Some(|chart, out| number(bohrali::distances(chart, Outermost, out), |bytes| bytes)),
     pair: |chart, a, b| {
         number(bohrali::pair(chart, Outermost, a, b), |answer| {
             answer as usize
@@ -56,6 +59,7 @@ const fn tuned<const LEVELS: bool>() -> Calls {
     Calls {
         admit: tuned::admit::<LEVELS>,
         phases: tuned::phases::<LEVELS>,
+        distances: if LEVELS { Some(tuned::distances) } else { None },
         pair: tuned::pair::<LEVELS>,
         sheet: tuned::sheet::<LEVELS>,
         judge: tuned::judge::<LEVELS>,

@@ -9,20 +9,27 @@ use std::hint::black_box;
 
 const CLAIMS: usize = 1_024;
 
-/// One of the five calls.
+/// One of the six calls.
 #[derive(Clone, Copy)]
 pub enum Call {
     Admit,
     Phases,
+    Distances,
     Pair,
     Sheet,
     Judge,
 }
 
 impl Call {
-    pub const ALL: [Call; 5] = [
+    /// Whether an implementation has it.
+    pub fn is_in(self, calls: &Calls) -> bool {
+        !matches!(self, Call::Distances) || calls.distances.is_some()
+    }
+
+    pub const ALL: [Call; 6] = [
         Call::Admit,
         Call::Phases,
+        Call::Distances,
         Call::Pair,
         Call::Sheet,
         Call::Judge,
@@ -74,6 +81,9 @@ impl Asked {
         match call {
             Call::Admit => (by.admit)(chart),
             Call::Phases => (by.phases)(chart, &mut out[..BYTES_PHASES * self.nodes]),
+            Call::Distances => by
+                .distances
+                .map_or(0, |distances| distances(chart, &mut out[..self.nodes])),
             Call::Pair => (by.pair)(chart, self.node, self.node),
             Call::Sheet => (by.sheet)(chart, &mut out[..self.nodes * self.nodes]),
             Call::Judge => (by.judge)(chart, &self.claims),
@@ -110,9 +120,11 @@ impl Subject {
         Subject::new("64 charts in turn", charts::benchmark::in_turn())
     }
 
-    /// Nanoseconds of one call on one chart by each implementation.
+    /// Nanoseconds of one call on one chart by each implementation. The first one, which has all calls,
+    /// stands in for another that lacks this one, so that all numbers can be compared.
     pub fn times<const N: usize>(&self, call: Call, by: [&Calls; N]) -> [f64; N] {
         let mut out = vec![0; self.room];
+        let by = by.map(|calls| if call.is_in(calls) { calls } else { by[0] });
         let all = least(|index| {
             self.charts.iter().fold(0i64, |sum, asked| {
                 let number = asked.ask(call, by[index], &mut out);
@@ -127,6 +139,7 @@ impl Subject {
         match (call, &self.charts[..]) {
             (Call::Admit, _) => "admit".into(),
             (Call::Phases, _) => "phases".into(),
+            (Call::Distances, _) => "distances".into(),
             (Call::Pair, _) => "pair".into(),
             (Call::Sheet, _) => "sheet".into(),
             (Call::Judge, [one]) => format!("judge {}", one.claims.len() / 2),

@@ -56,17 +56,22 @@ fn print_table<'s, const N: usize>(
     let mut worst: [(f64, String); N] = std::array::from_fn(|_| (0.0, String::new()));
     for (subject, times) in subjects {
         for (call, times) in Call::ALL.into_iter().zip(times) {
-            let call = subject.name_of(call);
+            let name = subject.name_of(call);
             print!(
-                "| {:<34} | {call:<10} | {:11.2} |",
+                "| {:<34} | {name:<10} | {:11.2} |",
                 subject.name,
                 times[0] / 1e3
             );
             for (index, column) in columns.iter().enumerate() {
+                let width = column.len() - 2;
+                if !call.is_in(&by[index + 1].1) {
+                    print!("{:>width$} |", "-");
+                    continue;
+                }
                 let ratio = times[0] / times[index + 1];
-                print!("{ratio:>width$.2} |", width = column.len() - 2);
+                print!("{ratio:>width$.2} |");
                 if ratio > worst[index + 1].0 {
-                    worst[index + 1] = (ratio, format!("{ratio:.2} ({call}, {})", subject.name));
+                    worst[index + 1] = (ratio, format!("{ratio:.2} ({name}, {})", subject.name));
                 }
             }
             println!();

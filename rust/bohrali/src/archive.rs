@@ -2,6 +2,13 @@
 
 extern "C" {
     pub fn bohrali_admit(chart: *const u8, chart_len: usize) -> i64;
+    pub fn bohrali_distances(
+        chart: *const u8,
+        chart_len: usize,
+        region: usize,
+        out: *mut u8,
+        out_len: usize,
+    ) -> i64;
     pub fn bohrali_judge(
         chart: *const u8,
         chart_len: usize,

@@ -48,6 +48,9 @@ pub const BYTES_TRAILER: usize = 16;
 /// What `phases` writes for each node.
 pub const BYTES_PHASES: usize = 16;
 
+/// What `distances` writes for a barrier, and for a node outside the region.
+pub const DISTANCE_AT_BARRIER: u8 = 255;
+
 /// The first field of the trailer.
 pub const TRAILER_EDITION: u16 = 1;
 /// The same, of charts with filters.

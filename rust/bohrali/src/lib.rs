@@ -40,10 +40,26 @@ pub fn admit(chart: &[u8]) -> Result<Counts, Refusal> {
     })
 }
 
+/// Writes for each node in a region, a byte each, the fewest edges on a barrier-free path to it from any
+/// barrier, and gives the number of bytes written. Barriers, and nodes outside the region, have
+/// `layout::DISTANCE_AT_BARRIER`.
+pub fn distances(chart: &[u8], region: Region, out: &mut [u8]) -> Result<usize, Refusal> {
+    // SAFETY: as above; `out` is lent for the call alone and does not overlap `chart`; the region is a number.
+    accepted(unsafe {
+        archive::bohrali_distances(
+            chart.as_ptr(),
+            chart.len(),
+            region.number(),
+            out.as_mut_ptr(),
+            out.len(),
+        )
+    })
+}
+
 /// Whether all claims about a region hold: pairs of node numbers, of which each is said never to have two
 /// threads of the region's team at its two nodes together, in a run that finishes.
 pub fn judge(chart: &[u8], region: Region, claims: &[u8]) -> Result<Verdict, Refusal> {
-    // SAFETY: as above, for both slices; the region is a number.
+    // SAFETY: as above, for both slices.
     let number = unsafe {
         archive::bohrali_judge(
             chart.as_ptr(),
@@ -70,7 +86,7 @@ pub fn pair(chart: &[u8], region: Region, a: usize, b: usize) -> Result<Answer, 
 /// Writes the starts and ends of each node in a region, `layout::BYTES_PHASES` bytes, and gives the number
 /// of bytes written. Nodes outside the region have none.
 pub fn phases(chart: &[u8], region: Region, out: &mut [u8]) -> Result<usize, Refusal> {
-    // SAFETY: as above; `out` is lent for the call alone and does not overlap `chart`.
+    // SAFETY: as above.
     accepted(unsafe {
         archive::bohrali_phases(
             chart.as_ptr(),

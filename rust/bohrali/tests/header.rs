@@ -16,13 +16,14 @@ const LIMITS: [(&str, usize); 7] = [
     ("MOST_CHART_BYTES", limits::MOST_CHART_BYTES),
 ];
 
-const LAYOUT: [(&str, usize); 22] = [
+const LAYOUT: [(&str, usize); 23] = [
     ("BYTES_NODE", layout::BYTES_NODE),
     ("BYTES_EDGE", layout::BYTES_EDGE),
     ("BYTES_CONSTRUCT", layout::BYTES_CONSTRUCT),
     ("BYTES_CONSTRUCT_2", layout::BYTES_CONSTRUCT_2),
     ("BYTES_TRAILER", layout::BYTES_TRAILER),
     ("BYTES_PHASES", layout::BYTES_PHASES),
+    ("DISTANCE_AT_BARRIER", layout::DISTANCE_AT_BARRIER as usize),
     ("TRAILER_EDITION", layout::TRAILER_EDITION as usize),
     ("TRAILER_EDITION_2", layout::TRAILER_EDITION_2 as usize),
     ("TRAILER_CLOSING", layout::TRAILER_CLOSING as usize),

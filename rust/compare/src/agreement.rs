@@ -2,7 +2,7 @@
 
 use crate::regions::regions_of;
 use crate::Archive;
-use reference::calls;
+use reference::{calls, distances};
 
 /// So many regions of a chart are asked for: the plain implementation takes its time over large ones.
 const REGIONS: usize = 3;
@@ -14,8 +14,8 @@ const FILL: u8 = 0xA5;
 type Writer = fn(&[u8], u64, &mut [u8]) -> i64;
 
 impl Archive {
-    /// Admits a chart and writes the phases and the sheet of the outermost region and of some inner ones
-    /// into buffers that are somewhat longer: all numbers and bytes agree. Gives the number of Admit.
+    /// Admits a chart and writes the phases, the distances and the sheet of the outermost region and of some
+    /// inner ones into buffers that are somewhat longer: all numbers and bytes agree. Gives the number of Admit.
     pub fn agree(&mut self, chart: &[u8]) -> i64 {
         let number = self.admit(chart);
         assert_eq!(number, calls::admit(chart), "admit, {chart:02X?}");
@@ -33,6 +33,9 @@ impl Archive {
         let mut ours = vec![FILL; calls::PHASE_BYTES * nodes + 3];
         let written = self.phases(chart, region, &mut ours);
         assert_written(calls::phases, chart, region, written, &ours);
+        let mut ours = vec![FILL; nodes + 3];
+        let written = self.distances(chart, region, &mut ours);
+        assert_written(distances::write, chart, region, written, &ours);
     }
 }
 

@@ -48,6 +48,11 @@ impl Archive {
         })
     }
 
+    /// Distances into a buffer, which afterwards holds what the call left there.
+    pub fn distances(&mut self, chart: &[u8], region: usize, out: &mut [u8]) -> i64 {
+        self.write(chart, region, out, bohrali::distances)
+    }
+
     pub fn judge(&mut self, chart: &[u8], region: usize, claims: &[u8]) -> i64 {
         let Archive {
             chart: charts,
@@ -72,7 +77,7 @@ impl Archive {
         })
     }
 
-    /// Phases into a buffer, which afterwards holds what the call left there.
+    /// Phases, in the same way.
     pub fn phases(&mut self, chart: &[u8], region: usize, out: &mut [u8]) -> i64 {
         self.write(chart, region, out, bohrali::phases)
     }

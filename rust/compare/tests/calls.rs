@@ -4,7 +4,7 @@
 use charts::random::Random;
 use compare::regions::{any_region, OUTERMOST};
 use compare::Archive;
-use reference::calls;
+use reference::{calls, distances};
 use std::io::Write;
 
 const CHARTS: usize = 100_000;
@@ -57,6 +57,12 @@ impl Comparison {
         self.written("phases", chart, calls::phases, number, &ours);
     }
 
+    fn distances(&mut self, chart: &[u8], room: usize) {
+        let mut ours = vec![FILL; room];
+        let number = self.archive.distances(chart, self.region, &mut ours);
+        self.written("distances", chart, distances::write, number, &ours);
+    }
+
     fn sheet(&mut self, chart: &[u8], room: usize) {
         let mut ours = vec![FILL; room];
         let number = self.archive.sheet(chart, self.region, &mut ours);
@@ -106,6 +112,9 @@ fn all_calls_agree() {
         for room in rooms(calls::PHASE_BYTES * nodes) {
             comparison.phases(&chart, room);
         }
+        for room in rooms(nodes) {
+            comparison.distances(&chart, room);
+        }
         comparison.pair(&chart, random.below(nodes), random.below(nodes));
         comparison.judge(&chart, &claims(&mut random, nodes));
         if index % SHEETS == 0 {
@@ -127,6 +136,7 @@ fn benchmark_charts_agree() {
     for (_, chart) in charts::benchmark::all() {
         let nodes = comparison.admit(&chart);
         comparison.phases(&chart, calls::PHASE_BYTES * nodes);
+        comparison.distances(&chart, nodes);
         comparison.sheet(&chart, nodes * nodes);
     }
 }

@@ -5,7 +5,7 @@ use bohrali::{limits, Answer, Region};
 use reference::answers::Rules;
 use reference::calls::PHASE_BYTES;
 use reference::chart::{Chart, Construct, Edge, Node, Trailer};
-use reference::{masked, printing, regions};
+use reference::{distances, masked, printing, regions};
 
 #[test]
 fn limits_of_a_chart() {
@@ -29,6 +29,7 @@ fn records() {
     assert_eq!(layout::BYTES_CONSTRUCT_2, masked::CONSTRUCT_BYTES);
     assert_eq!(layout::BYTES_TRAILER, Trailer::BYTES);
     assert_eq!(layout::BYTES_PHASES, PHASE_BYTES);
+    assert_eq!(layout::DISTANCE_AT_BARRIER, distances::AT_BARRIER);
     assert_eq!(layout::TRAILER_EDITION, Trailer::EDITION);
     assert_eq!(layout::TRAILER_EDITION_2, masked::EDITION);
     assert_eq!(layout::TRAILER_CLOSING.to_le_bytes(), Trailer::CLOSING);

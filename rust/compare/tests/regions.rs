@@ -39,6 +39,7 @@ fn assert_refused(archive: &mut Archive, chart: &[u8], region: usize) {
     for room in [0, 1, 192, 192 * 192] {
         let mut out = vec![FILL; room];
         assert_eq!(archive.phases(chart, region, &mut out), -23, "{region}");
+        assert_eq!(archive.distances(chart, region, &mut out), -23, "{region}");
         assert_eq!(archive.sheet(chart, region, &mut out), -23, "{region}");
         assert_eq!(out, vec![FILL; room], "{region}");
     }
@@ -100,6 +101,7 @@ fn refusals_in_order() {
         assert_eq!(archive.judge(&chart, region, &[3, 3, 0]), -12);
         assert_eq!(archive.judge(&chart, region, &[3, 3, 3, 0]), -13);
         assert_eq!(archive.phases(&chart, region, &mut [FILL; 127]), -11);
+        assert_eq!(archive.distances(&chart, region, &mut [FILL; 7]), -11);
         assert_eq!(archive.sheet(&chart, region, &mut [FILL; 63]), -11);
     }
 }

@@ -34,6 +34,7 @@ fn calls_fit_a_small_stack() {
             let node = usize::from(node);
             bohrali::pair(&chart, region, node, node).expect(name);
             bohrali::phases(&chart, region, &mut out).expect(name);
+            bohrali::distances(&chart, region, &mut out).expect(name);
             bohrali::sheet(&chart, region, &mut out).expect(name);
         };
         let thread = thread::Builder::new().stack_size(STACK).spawn(calls);

@@ -1,4 +1,4 @@
-//! The five calls as C sees them: lent bytes in, one signed 64-bit number out. A refusal is its
+//! Five of the calls as C sees them: lent bytes in, one signed 64-bit number out. A refusal is its
 //! number negated and leaves the lent bytes as found; bytes past a result keep their values. "Each call
 //! but Admit .. names a region, or 255 for the outermost"; 23 is refused "straight after 10".
 

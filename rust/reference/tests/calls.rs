@@ -1,4 +1,4 @@
-//! The five calls on lent buffers: lengths, bytes past a result, and refusals 11 to 13 with their
+//! Five of the calls on lent buffers: lengths, bytes past a result, and refusals 11 to 13 with their
 //! order after a chart's own refusals.
 
 use reference::calls::admit;

@@ -1,6 +1,8 @@
 //! Distances of charts that can be checked by eye, and the call that writes them.
 
-use reference::distances::distances;
+use reference::builder::ChartBuilder;
+use reference::chart::Construct;
+use reference::distances::{distances, write};
 use reference::known::*;
 use reference::regions::{outermost, read_outermost};
 
@@ -18,6 +20,45 @@ fn known_charts() {
     assert_eq!(of(&chart_s_through_barrier()), [255, 1, 2, 3, 255, 255]);
     let figure = [255, 1, 255, 255, 1, 1, 2, 3, 3, 255, 255, 1, 255];
     assert_eq!(of(&figure_2b()), figure);
+    assert_eq!(of(&chart_s(Construct::SINGLE, &[])), [255, 1, 2, 3, 255]);
+    assert_eq!(of(&chart_d(&[])), [255, 1, 2, 3, 4, 5, 255]);
+    assert_eq!(of(&chart_x(&[])), [255, 1, 2, 3, 4, 2, 3, 4, 255]);
+}
+
+/// Node 3 has the starts 0 and 4, and the nearer one counts, which is the later of the two.
+#[test]
+fn the_nearest_of_two_starts() {
+    let mut chart = ChartBuilder::new();
+    chart.barrier();
+    for _ in 1..=3 {
+        chart.plain(Construct::NONE);
+    }
+    chart.barrier();
+    chart.barrier();
+    chart.row();
+    chart.edge(4, 3);
+    assert_eq!(of(&chart.bytes()), [255, 1, 2, 1, 255, 255]);
+}
+
+#[test]
+fn regions_of_chart_z() {
+    let chart = chart_z(&[]);
+    for (region, expected) in [
+        (255, [255, 1, 2, 3, 4, 5, 6, 255]),
+        (0, [255, 255, 1, 2, 3, 255, 255, 255]),
+    ] {
+        let mut out = [FILL; 8];
+        assert_eq!(write(&chart, region, &mut out[..7]), -11);
+        assert_eq!(out, [FILL; 8]);
+        assert_eq!(write(&chart, region, &mut out), 8);
+        assert_eq!(out, expected);
+    }
+    let mut out = [FILL; 8];
+    for region in [1, 254, 256, u64::MAX] {
+        assert_eq!(write(&chart, region, &mut out), -23);
+        assert_eq!(write(&chart, region, &mut []), -23);
+        assert_eq!(out, [FILL; 8]);
+    }
 }
 
 #[test]
