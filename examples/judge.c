@@ -1,8 +1,9 @@
 /* Admits a chart, prints a region's sheet and judges a list of claims about the region.
  *
- *     judge CHART [@REGION] [A B]...
+ *     judge CHART [@REGION] [=SIZE] [A B]...
  *
- * CHART is a file, REGION the number of a parallel; without it the outermost region is meant. Each
+ * CHART is a file, REGION the number of a parallel; without it the outermost region is meant. SIZE
+ * is the number of threads of the region's team; without it teams of any size are meant. Each
  * claim A B says that two threads of the region's team are never at nodes A and B together, in a
  * run that finishes. Ends with 0 when all claims hold, 1 when one does not, 2 when something was
  * refused. */
@@ -16,10 +17,26 @@
 static uint8_t chart[BOHRALI_MOST_CHART_BYTES + 1];
 static uint8_t sheet[BOHRALI_MOST_NODES * BOHRALI_MOST_NODES];
 
+/* What the claims are about. */
+struct asked {
+    size_t chart_len;
+    size_t region;
+    int sized;
+    size_t size;
+};
+
 static int refused(int64_t number)
 {
     printf("refused %" PRId64 "\n", -number);
     return 2;
+}
+
+static int64_t write_sheet(const struct asked *asked)
+{
+    return asked->sized ? bohrali_sheet_sized(chart, asked->chart_len, asked->region, asked->size,
+                                              sheet, sizeof sheet)
+                        : bohrali_sheet(chart, asked->chart_len, asked->region, sheet,
+                                        sizeof sheet);
 }
 
 /* Prints the rows of the region's nodes that are no barriers. */
@@ -52,9 +69,12 @@ static size_t read_claims(int count, char **words, uint8_t *claims)
     return (size_t)count;
 }
 
-static int judge(size_t chart_len, size_t region, const uint8_t *claims, size_t claims_len)
+static int judge(const struct asked *asked, const uint8_t *claims, size_t claims_len)
 {
-    int64_t verdict = bohrali_judge(chart, chart_len, region, claims, claims_len);
+    int64_t verdict = asked->sized
+        ? bohrali_judge_sized(chart, asked->chart_len, asked->region, asked->size, claims,
+                              claims_len)
+        : bohrali_judge(chart, asked->chart_len, asked->region, claims, claims_len);
     if (verdict < 0) {
         return refused(verdict);
     }
@@ -72,7 +92,7 @@ int main(int argc, char **argv)
 {
     static uint8_t claims[4096];
     if (argc < 2 || (size_t)argc - 2 > sizeof claims) {
-        fprintf(stderr, "usage: judge CHART [@REGION] [A B]...\n");
+        fprintf(stderr, "usage: judge CHART [@REGION] [=SIZE] [A B]...\n");
         return 2;
     }
     FILE *file = fopen(argv[1], "rb");
@@ -80,23 +100,29 @@ int main(int argc, char **argv)
         perror(argv[1]);
         return 2;
     }
-    size_t chart_len = fread(chart, 1, sizeof chart, file);
+    struct asked asked = {0, BOHRALI_REGION_OUTERMOST, 0, 0};
+    asked.chart_len = fread(chart, 1, sizeof chart, file);
     fclose(file);
 
-    int64_t counts = bohrali_admit(chart, chart_len);
+    int64_t counts = bohrali_admit(chart, asked.chart_len);
     if (counts < 0) {
         return refused(counts);
     }
     int64_t nodes = counts % 256;
     printf("%" PRId64 " nodes, %" PRId64 " barriers, %" PRId64 " phases\n",
            nodes, counts / 256 % 256, counts / 65536);
-    int named = argc > 2 && argv[2][0] == '@';
-    size_t region = named ? strtoul(argv[2] + 1, NULL, 10) : BOHRALI_REGION_OUTERMOST;
-    int64_t written = bohrali_sheet(chart, chart_len, region, sheet, sizeof sheet);
+    int first = 2;
+    if (first < argc && argv[first][0] == '@') {
+        asked.region = strtoul(argv[first++] + 1, NULL, 10);
+    }
+    if (first < argc && argv[first][0] == '=') {
+        asked.sized = 1;
+        asked.size = strtoul(argv[first++] + 1, NULL, 10);
+    }
+    int64_t written = write_sheet(&asked);
     if (written < 0) {
         return refused(written);
     }
     print_sheet(nodes);
-    int first = named ? 3 : 2;
-    return judge(chart_len, region, claims, read_claims(argc - first, argv + first, claims));
+    return judge(&asked, claims, read_claims(argc - first, argv + first, claims));
 }

@@ -121,6 +121,10 @@ extern "C" {
 #define BOHRALI_MOST_CONSTRUCTS 48
 #define BOHRALI_MOST_BARRIERS 64
 
+/* Limits of a team's size, where one is named. */
+#define BOHRALI_LEAST_SIZE 1
+#define BOHRALI_MOST_SIZE 1024
+
 /* The length of the longest chart, which is one of edition 2. */
 #define BOHRALI_MOST_CHART_BYTES 3120
 
@@ -165,16 +169,19 @@ enum bohrali_construct_kind {
 #define BOHRALI_REGION_OUTERMOST 255
 
 /* Answers for two nodes of a region, which may be equal and are no barriers: can two threads of the
- * region's team, of any size, be at them together, in a run that finishes? A run finishes when all
- * its threads are at the region's Finish in the end. Other runs count for nothing: in one that
- * hangs, because threads wait at different barriers, two threads may have been at nodes for which
- * the answer is never.
+ * region's team be at them together, in a run that finishes? The team may have any size; the calls
+ * that end in _sized are about teams of just the size that they name, as where the region carries
+ * NUM_THREADS. A run finishes when all its threads are at the region's Finish in the end. Other
+ * runs count for nothing: in one that hangs, because threads wait at different barriers, two
+ * threads may have been at nodes for which the answer is never.
  *
  * A path is one or more edges in a row; it is barrier-free if no node strictly between its two ends
  * is a barrier. The starts of a node that is no barrier are the barriers from which a barrier-free
  * path leads to it, its ends those to which one leads from it. A construct returns if a
  * barrier-free path leads from its end to its begin. A never has the number of the first rule that
- * gives it; criticals give none. */
+ * gives it, in the order 6, 7, 1 to 5; criticals give none. Rules 6 and 7 are for a size that is
+ * named. A never for teams of any size is a never for each size; the other way round it is not: 0
+ * says that two threads can be there in a team of some size, perhaps of a larger one only. */
 enum bohrali_answer {
     BOHRALI_ANSWER_CONCURRENT = 0,      /* they can */
     BOHRALI_ANSWER_NO_COMMON_PHASE = 1, /* never: no common start, or no common end */
@@ -183,8 +190,11 @@ enum bohrali_answer {
     BOHRALI_ANSWER_SINGLE = 3,          /* never: both inside one single, which does not return */
     BOHRALI_ANSWER_ORDERED = 4,         /* never: both inside ordereds of one do, which does not
                                            return */
-    BOHRALI_ANSWER_SECTION = 5          /* never: both inside one section, its begin and end counted
+    BOHRALI_ANSWER_SECTION = 5,         /* never: both inside one section, its begin and end counted
                                            as inside, whose sections does not return */
+    BOHRALI_ANSWER_ONE_THREAD = 6,      /* never: the team has one thread */
+    BOHRALI_ANSWER_MISSING_THREAD = 7   /* never: a node is inside a masked whose filter is at or
+                                           over the size, so that the team lacks its thread */
 };
 
 /* In a sheet, in place of an answer: one of the two nodes is a barrier or outside the region, or
@@ -193,17 +203,18 @@ enum bohrali_answer {
 
 /* Keeping answers while edges are added. Take two charts with the same nodes and constructs, tags
  * and edition aside, of which one has all the edges of the other and any others besides. Then every
- * never of the larger is a never of the smaller, in each region, though not always by the same
- * rule; and a list of claims that passes for the larger passes for the smaller. So, of answers that
- * were kept, each 0 stays 0 when edges are added; each never has to be asked again, or is asked
- * once of a chart with all the edges that may ever be added, and then holds until they are. */
+ * never of the larger is a never of the smaller, in each region and for each size, though not
+ * always by the same rule; and a list of claims that passes for the larger passes for the smaller.
+ * So, of answers that were kept, each 0 stays 0 when edges are added; each never has to be asked
+ * again, or is asked once of a chart with all the edges that may ever be added, and then holds
+ * until they are. */
 
 /* In place of a node's distance: it is a barrier or outside the region. No distance is over 190. */
 #define BOHRALI_DISTANCE_AT_BARRIER 255
 
 /* Refusals. A call returns the first that applies, negated, and then has written nothing. Each is
  * checked over the whole chart, or the whole list of claims, before the next, in the order of their
- * numbers but for one: 23 comes straight after 10, so before 11, 12 and 13. */
+ * numbers but for one: 23 comes straight after 10, so before 11, 12, 13 and 21. */
 enum bohrali_refusal {
     BOHRALI_REFUSED_SHORT = 1,     /* fewer than 16 bytes */
     BOHRALI_REFUSED_MARKS = 2,     /* edition neither 1 nor 2, or closing bytes differ */
@@ -224,6 +235,7 @@ enum bohrali_refusal {
     BOHRALI_REFUSED_CLAIMS = 12,   /* an odd number of bytes */
     BOHRALI_REFUSED_NUMBERS = 13,  /* a node number that no node has, or that of a barrier of the
                                       region or of a node outside it */
+    BOHRALI_REFUSED_SIZE = 21,     /* a team size below 1 or over 1024 */
     BOHRALI_REFUSED_REGION = 23    /* a number that is not BOHRALI_REGION_OUTERMOST and names no
                                       parallel */
 };
@@ -236,6 +248,11 @@ int64_t bohrali_admit(const uint8_t *chart, size_t chart_len);
 /* The answer for nodes a and b of a region: 0 to 5, or a refusal 1 to 10, 23 or 13, negated. Any
  * numbers may be handed over; the order of the two nodes does not matter. */
 int64_t bohrali_pair(const uint8_t *chart, size_t chart_len, size_t region, size_t a, size_t b);
+
+/* The same for teams of just `size` threads: 0 to 7, or a refusal 1 to 10, 23, 13 or 21,
+ * negated. */
+int64_t bohrali_pair_sized(const uint8_t *chart, size_t chart_len, size_t region, size_t size,
+                           size_t a, size_t b);
 
 /* Writes for each node, by rising number, one byte: its distance in a region, the fewest edges on a
  * barrier-free path that leads to it from a start of it, or BOHRALI_DISTANCE_AT_BARRIER where it is
@@ -254,6 +271,12 @@ int64_t bohrali_distances(const uint8_t *chart, size_t chart_len, size_t region,
 int64_t bohrali_judge(const uint8_t *chart, size_t chart_len, size_t region, const uint8_t *claims,
                       size_t claims_len);
 
+/* The same for teams of just `size` threads: the list passes where no team of that size has such a
+ * run, and fails at the first pair for which one has. Refusals are 1 to 10, 23, 12, 13 and 21; an
+ * empty list passes where chart, region and size are not refused. */
+int64_t bohrali_judge_sized(const uint8_t *chart, size_t chart_len, size_t region, size_t size,
+                            const uint8_t *claims, size_t claims_len);
+
 /* Writes for each node, by rising number, its starts and its ends in a region: two masks of 8 bytes
  * each, little-endian, with bit b for barrier b of the region. Barriers, and nodes outside the
  * region, have no starts and no ends: 16 bytes of 0. Returns the number of bytes written, 16 for
@@ -269,6 +292,11 @@ int64_t bohrali_phases(const uint8_t *chart, size_t chart_len, size_t region, ui
  * their values. */
 int64_t bohrali_sheet(const uint8_t *chart, size_t chart_len, size_t region, uint8_t *out,
                       size_t out_len);
+
+/* The same for teams of just `size` threads, with the answers of bohrali_pair_sized and
+ * BOHRALI_ANSWER_AT_BARRIER where bohrali_sheet has it. Refusals are 1 to 10, 23, 11 and 21. */
+int64_t bohrali_sheet_sized(const uint8_t *chart, size_t chart_len, size_t region, size_t size,
+                            uint8_t *out, size_t out_len);
 
 #ifdef __cplusplus
 }

@@ -28,15 +28,26 @@ int main(void)
     expect("distances of nothing", bohrali_distances(NULL, 0, REGION, NULL, 0),
            -BOHRALI_REFUSED_SHORT);
     expect("judge nothing", bohrali_judge(NULL, 0, REGION, NULL, 0), -BOHRALI_REFUSED_SHORT);
+    expect("judge nothing, sized", bohrali_judge_sized(NULL, 0, REGION, 2, NULL, 0),
+           -BOHRALI_REFUSED_SHORT);
     expect("pair of nothing", bohrali_pair(NULL, 0, REGION, 0, 0), -BOHRALI_REFUSED_SHORT);
+    expect("pair of nothing, sized", bohrali_pair_sized(NULL, 0, REGION, 2, 0, 0),
+           -BOHRALI_REFUSED_SHORT);
     expect("phases of nothing", bohrali_phases(NULL, 0, REGION, NULL, 0), -BOHRALI_REFUSED_SHORT);
     expect("sheet of nothing", bohrali_sheet(NULL, 0, REGION, NULL, 0), -BOHRALI_REFUSED_SHORT);
+    expect("sheet of nothing, sized", bohrali_sheet_sized(NULL, 0, REGION, 2, NULL, 0),
+           -BOHRALI_REFUSED_SHORT);
     expect("no claims", bohrali_judge(chart, sizeof chart, REGION, NULL, 0), 0);
+    expect("no claims, sized", bohrali_judge_sized(chart, sizeof chart, REGION, 1, NULL, 0), 0);
+    expect("no claims and no size", bohrali_judge_sized(chart, sizeof chart, REGION, 0, NULL, 0),
+           -BOHRALI_REFUSED_SIZE);
     expect("no room for distances", bohrali_distances(chart, sizeof chart, REGION, NULL, 0),
            -BOHRALI_REFUSED_ROOM);
     expect("no room for phases", bohrali_phases(chart, sizeof chart, REGION, NULL, 0),
            -BOHRALI_REFUSED_ROOM);
     expect("no room for a sheet", bohrali_sheet(chart, sizeof chart, REGION, NULL, 0),
+           -BOHRALI_REFUSED_ROOM);
+    expect("no room and no size", bohrali_sheet_sized(chart, sizeof chart, REGION, 0, NULL, 0),
            -BOHRALI_REFUSED_ROOM);
     expect("no region and no room", bohrali_sheet(chart, sizeof chart, 0, NULL, 0),
            -BOHRALI_REFUSED_REGION);

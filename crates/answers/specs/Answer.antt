@@ -3,12 +3,14 @@
 -- Assumes nothing.
 use mathlib.Core.Bool.{Bool, false, _&&_, _||_, not, cond}
 use Prim.Native.Nat.{ℕ}
-use lib.Dec.{eqb}
+use lib.Dec.{eqb, leb}
 use Rattle.lists.specs.Truth.{is}
 use Rattle.lists.specs.Range.{any}
 use Rattle.chart.specs.Region.{Role, plain, barrier, opens, closes, Kind, Kind-discrete, single, master, ordered, section, Region}
 use Rattle.paths.specs.Decide.{returns}
 use Rattle.phases.specs.Phases.{Direction, forward, backward, isBoundary}
+use Rattle.answers.specs.declared.Size.{Size}
+use Rattle.answers.specs.declared.Size.the-variants.{Any, Of}
 
 -- x is inside c (01: inside, at any depth), a construct of this kind.
 unfoldable pub isIn : Region → Kind → ℕ → ℕ → Bool
@@ -64,3 +66,17 @@ answer R a b =
     (cond (bothInOrdereds R a b) 4
     (cond (bothInSection R a b) 5
     0))))
+
+-- x is inside a master whose thread a team of m lacks (02, Note 10: a masked whose filter is at or over the size).
+unfoldable pub lacksThread : Region → ℕ → ℕ → Bool
+lacksThread R m x = any (R .constructs) (λ c. isIn R master x c && leb m (R .thread c))
+
+-- The answer for teams of m threads (02, Note 10). Ahead of all other rules: 6, the team has one thread; 7, one of the nodes is inside a master
+-- whose thread it lacks.
+unfoldable pub answerIn : Region → ℕ → ℕ → ℕ → ℕ
+answerIn R m a b = cond (leb m 1) 6 (cond (lacksThread R m a || lacksThread R m b) 7 (answer R a b))
+
+-- The answer for the teams of a size, or for all.
+abbrev pub answerFor : Region → Size → ℕ → ℕ → ℕ
+answerFor R Any = answer R
+answerFor R (Of m) = answerIn R m

@@ -26,7 +26,7 @@ use Rattle.phases.specs.PhasesLaws.{boundary-means, returns-means}
 use Rattle.answers.specs.Answer.{isIn, inOrderedOf, frames, inSection, noCommon, noCommonPhase, bothInMasters, bothInSingle, bothInOrdereds, bothInSection, answer}
 use Rattle.answers.specs.Unexcluded.{Returns, Common, In, Rule, by-phase, by-master, by-single, by-ordered, by-section, number, Excludes, First, first, none, Answers, Unexcluded}
 
-in-of : (R : Region) (kind : Kind) (x c : ℕ) → (isIn R kind x c ≡ true) ↔ In R kind x c
+pub in-of : (R : Region) (kind : Kind) (x c : ℕ) → (isIn R kind x c ≡ true) ↔ In R kind x c
 unfolding isIn
 in-of R kind x c = both-of (is-true (Kind-discrete (R .kind c) kind), true-is (Kind-discrete (R .kind c) kind)) ((λ h. h), λ h. h)
 
@@ -120,7 +120,7 @@ swap R a b by-single (c, ((x, y), n)) = (c, ((y, x), n))
 swap R a b by-ordered (d, ((x, y), n)) = (d, ((y, x), n))
 swap R a b by-section (s, ((x, y), n)) = (s, ((y, x), n))
 
-first-swap : (R : Region) (a b : ℕ) {v : ℕ} → First (Excludes R a b) v → First (Excludes R b a) v
+pub first-swap : (R : Region) (a b : ℕ) {v : ℕ} → First (Excludes R a b) v → First (Excludes R b a) v
 first-swap R a b (first r p f) = first r (swap R a b r p) (λ s l q. f s l (swap R b a s q))
 first-swap R a b (none f) = none (λ r q. f r (swap R b a r q))
 
@@ -183,7 +183,7 @@ module _ {R : Region} (W : WellFormed R) where
     section-of = some-of (R .constructs) _ (λ s. (InSection R a s × InSection R b s) × (Returns R (R .parent s) → ⊥))
         (λ s. both-of (both-of (in-section-of R a s) (in-section-of R b s)) (not-of (returns-means R W (R .parent s)))) (λ s h. section-below W (h .0 .0))
 
-    -- What is computed is the answer, and nothing else is.
+    -- What is computed is the answer; by `first-unique` nothing else is.
     pub answer-first : Answers R a b (answer R a b)
     unfolding answer
     answer-first =
@@ -200,9 +200,6 @@ module _ {R : Region} (W : WellFormed R) where
         number-most by-single = omega arith
         number-most by-ordered = omega arith
         number-most by-section = omega arith
-
-    pub answers-only : {k : ℕ} → Answers R a b k → k ≡ answer R a b
-    answers-only A = first-unique A answer-first
 
     -- A rule's number is the answer exactly when its condition holds, and that of no earlier rule.
     pub answer-rule : (r : Rule) → (answer R a b ≡ number r) ↔ (Excludes R a b r × ((s : Rule) → number s < number r → Excludes R a b s → ⊥))
@@ -235,7 +232,7 @@ module _ {R : Region} (W : WellFormed R) where
   pub answer-symmetric : (a b : ℕ) → answer R a b ≡ answer R b a
   answer-symmetric a b = first-unique (first-swap R a b (answer-first a b)) (answer-first b a)
 
-cond-most : (b : Bool) (x y : ℕ) {n : ℕ} → x ≤ n → y ≤ n → cond b x y ≤ n
+pub cond-most : (b : Bool) (x y : ℕ) {n : ℕ} → x ≤ n → y ≤ n → cond b x y ≤ n
 cond-most true x y h k = h
 cond-most false x y h k = k
 

@@ -1,7 +1,9 @@
 pub mod Answer
 pub mod Unexcluded
 pub mod AnswerLaws
+pub mod SizeLaws
 pub mod Starred
 pub mod Numbers
+pub mod Size
 pub mod Sheet
 pub mod MoreEdges

@@ -1,11 +1,13 @@
 -- More edges only loosen (02, Note 8): of two admitted charts alike but that one has all the edges of the other and perhaps more, a never of the
--- larger is a never of the smaller, in each of their regions. The edges that one has more are any, all of them together.
+-- larger is a never of the smaller, in each of their regions and for each size of teams. The edges that one has more are any, all of them
+-- together.
 -- Assumes nothing.
 use mathlib.Core.Path.{_≡_, sym, _∙_, subst, subst₂}
 use mathlib.Core.Logic.{inl, inr, _≢_}
 use mathlib.Core.Bool.{true, false}
 use mathlib.Core.List.{List, [], _∷_}
 use Prim.Native.Nat.{ℕ}
+use native.Mathlib.Omega.{arith}
 use lib.ListN.{length}
 use Rattle.lists.specs.Truth.{and-both, both-and}
 use Rattle.lists.specs.Range.{first-same}
@@ -23,10 +25,13 @@ use Rattle.paths.specs.PathLaws.{carry}
 use Rattle.paths.specs.Admission.{admitRows, badRegion, regionRows, Admitted, AdmittedIn}
 use Rattle.paths.specs.AdmissionLaws.{admitted-well-formed}
 use Rattle.phases.specs.Phases.{Direction, forward, backward, Free, Boundary}
-use Rattle.answers.specs.Answer.{answer}
-use Rattle.answers.specs.Unexcluded.{Returns, In, Rule, by-phase, by-master, by-single, by-ordered, by-section, Excludes}
+use Rattle.answers.specs.Answer.{answerFor}
+use Rattle.answers.specs.Unexcluded.{Returns, In, Rule, by-phase, by-master, by-single, by-ordered, by-section, Excludes, Lacks, AnswersIn, alone, lacking, fitting, AnswersFor}
 use Rattle.answers.specs.Numbers.{asked}
-use Rattle.answers.specs.AnswerLaws.{answer-first, first-kept}
+use Rattle.answers.specs.AnswerLaws.{first-kept}
+use Rattle.answers.specs.SizeLaws.{has-all, answer-for}
+use Rattle.answers.specs.declared.Size.{Size}
+use Rattle.answers.specs.declared.Size.the-variants.{Any, Of}
 
 -- E is the chart D with perhaps more edges. Tags, and the edition, may differ; what the edition lets a construct have, its filter, may not.
 pub record MoreEdges (D E : Decoded) : Type 0 where
@@ -98,6 +103,23 @@ module _ {R S : Region} (X : Widens R S) where
   loosen a b by-section (s, ((x, y), n)) =
       (s, ((same-section x, same-section y), λ w. n (subst (Returns S) (sym (X .parent s)) (wide-returns (R .parent s) w))))
 
+  -- 6 and 7 do not depend on edges
+  same-lacks : (m : ℕ) {x : ℕ} → Lacks S m x → Lacks R m x
+  same-lacks m (c, (i, l)) = (c, (same-in _ i, rw (X .thread c) at l))
+
+  -- so an answer other than 0 in the larger leaves no 0 to the smaller
+  pub kept-for : (size : Size) (a b : ℕ) {v w : ℕ} → AnswersFor S size a b v → AnswersFor R size a b w → v ≢ 0 → w ≢ 0
+  kept-for Any a b A B = first-kept (loosen a b) A B
+  kept-for (Of m) a b A B = go A B
+    where
+      go : {v w : ℕ} → AnswersIn S m a b v → AnswersIn R m a b w → v ≢ 0 → w ≢ 0
+      go A (alone h) n e = omega arith
+      go A (lacking h x) n e = omega arith
+      go (alone l) (fitting h f g B) n e = omega arith
+      go (lacking l (inl x)) (fitting h f g B) n e = has-all R m a f (same-lacks m x)
+      go (lacking l (inr x)) (fitting h f g B) n e = has-all R m b g (same-lacks m x)
+      go (fitting l f' g' A) (fitting h f g B) n e = first-kept (loosen a b) A B n e
+
   -- and what a claim may name stays
   pub same-asked : (x : ℕ) → asked S x ≡ asked R x
   unfolding asked
@@ -149,10 +171,10 @@ module _ (s t : List ℕ) (p : ℕ) (smaller : Admitted s) (larger : AdmittedIn 
       let named : badRegion (decode t) p ≡ false = none-applies more (both-pass (admitRows t) more larger .1) .0 in
       second-decides (admitRows s) rows smaller ∙ applies-none rows (sym (same-region M p) ∙ named, tt)
 
--- Note 8.
+-- Note 8, of the answers for all teams and of those for teams of one size.
 pub more-edges-loosen : (s t : List ℕ) (p : ℕ) → Admitted s → AdmittedIn t p → MoreEdges (decode s) (decode t)
-    → (a b : ℕ) → answer (regionOf p (decode t)) a b ≢ 0 → answer (regionOf p (decode s)) a b ≢ 0
-more-edges-loosen s t p smaller larger M a b =
+    → (size : Size) (a b : ℕ) → answerFor (regionOf p (decode t)) size a b ≢ 0 → answerFor (regionOf p (decode s)) size a b ≢ 0
+more-edges-loosen s t p smaller larger M size a b =
     let narrow = admitted-well-formed s p (smaller-in s t p smaller larger M) in
     let wide = admitted-well-formed t p larger in
-    first-kept (loosen (widens M p) a b) (answer-first wide a b) (answer-first narrow a b)
+    kept-for (widens M p) size a b (answer-for wide size a b) (answer-for narrow size a b)

@@ -1,5 +1,5 @@
--- The answers that 01 stars ("Charts with known answers"), and answers in regions inside regions (02, Note 12): one list, and one proof over the
--- definitions, from the bytes of each chart on.
+-- The answers that 01 stars ("Charts with known answers"), answers in regions inside regions (02, Note 12) and for teams of one size (02, Note
+-- 10): one list, and one proof over the definitions, from the bytes of each chart on.
 -- Assumes nothing.
 use mathlib.Core.Path.{_≡_, refl}
 use mathlib.Core.List.{List, [], _∷_, _++_, map}
@@ -19,7 +19,9 @@ use Rattle.paths.specs.Reach.{marks?, marks, reaches}
 use Rattle.paths.specs.Decide.{reachesFree, reachesAny, returns}
 use Rattle.paths.specs.Admission.{cutOff, badPaths, admitRows, badRegion, regionRows}
 use Rattle.phases.specs.Phases.{isBoundary}
-use Rattle.answers.specs.Answer.{isIn, inOrderedOf, inSection, noCommon, noCommonPhase, bothInMasters, bothInSingle, bothInOrdereds, bothInSection, answer}
+use Rattle.answers.specs.Answer.{isIn, inOrderedOf, inSection, noCommon, noCommonPhase, bothInMasters, bothInSingle, bothInOrdereds, bothInSection, answer, lacksThread, answerIn, answerFor}
+use Rattle.answers.specs.declared.Size.{Size}
+use Rattle.answers.specs.declared.Size.the-variants.{Any, Of}
 
 -- The bytes of records: the four kinds of nodes, an edge, a construct. Tags and names are 0.
 abbrev barrier : List ℕ
@@ -40,17 +42,24 @@ edge from to = from ∷ to ∷ []
 abbrev construct : ℕ → ℕ → List ℕ
 construct kind parent = kind ∷ parent ∷ 0 ∷ 0 ∷ []
 
--- The trailer of a chart of edition 1 and of fewer than 256 bytes, and such a chart.
-abbrev trailer : ℕ → ℕ → ℕ → List ℕ
-trailer n e c = 1 ∷ 0 ∷ n ∷ 0 ∷ e ∷ 0 ∷ c ∷ 0 ∷ (4 * n + 2 * e + 4 * c + 16) ∷ 0 ∷ (2 * e + 4 * c + 16) ∷ 0 ∷ (4 * c + 16) ∷ 0 ∷ 0x4F ∷ 0x43 ∷ []
+-- In edition 2: a masked outside everything, for a thread below 256.
+abbrev masked : ℕ → List ℕ
+masked thread = masterByte ∷ outside ∷ 0 ∷ 0 ∷ thread ∷ 0 ∷ []
+
+-- The trailer of a chart of fewer than 256 bytes with c constructs in b bytes, and such a chart.
+abbrev trailer : ℕ → ℕ → ℕ → ℕ → ℕ → List ℕ
+trailer edition n e c b = edition ∷ 0 ∷ n ∷ 0 ∷ e ∷ 0 ∷ c ∷ 0 ∷ (4 * n + 2 * e + b + 16) ∷ 0 ∷ (2 * e + b + 16) ∷ 0 ∷ (b + 16) ∷ 0 ∷ 0x4F ∷ 0x43 ∷ []
 
 abbrev joined : List (List ℕ) → List ℕ
 joined [] = []
 joined (r ∷ rs) = r ++ joined rs
 
+abbrev chartOf : ℕ → List (List ℕ) → List (List ℕ) → List (List ℕ) → List ℕ
+chartOf edition nodes edges constructs =
+    joined nodes ++ (joined edges ++ (joined constructs ++ trailer edition (length nodes) (length edges) (length constructs) (length (joined constructs))))
+
 abbrev chart : List (List ℕ) → List (List ℕ) → List (List ℕ) → List ℕ
-chart nodes edges constructs =
-    joined nodes ++ (joined edges ++ (joined constructs ++ trailer (length nodes) (length edges) (length constructs)))
+chart nodes edges constructs = chartOf 1 nodes edges constructs
 
 -- 01's charts. K.
 abbrev chartK : List ℕ
@@ -100,6 +109,11 @@ abbrev chartW : List ℕ
 chartW = chart (barrier ∷ inner 0 ∷ begin 0 ∷ end 0 ∷ plain 0 ∷ barrier ∷ [])
     (edge 0 2 ∷ edge 1 3 ∷ edge 2 4 ∷ edge 3 5 ∷ edge 4 1 ∷ []) (construct parallelByte outside ∷ [])
 
+-- 02, Note 10. Y: two masked constructs, for threads 1 and 2.
+abbrev chartY : List ℕ
+chartY = chartOf 2 (barrier ∷ begin 0 ∷ plain 0 ∷ end 0 ∷ begin 1 ∷ plain 1 ∷ end 1 ∷ barrier ∷ [])
+    (edge 0 1 ∷ edge 1 2 ∷ edge 2 3 ∷ edge 3 4 ∷ edge 4 5 ∷ edge 5 6 ∷ edge 6 7 ∷ []) (masked 1 ∷ masked 2 ∷ [])
+
 -- The bytes of S with a single, one by one: what the functions above build.
 bytes-S : chartS singleByte inRow
     ≡ 0x01 ∷ 0xFF ∷ 0x00 ∷ 0x00 ∷ 0x02 ∷ 0x00 ∷ 0x00 ∷ 0x00 ∷ 0x00 ∷ 0x00 ∷ 0x00 ∷ 0x00 ∷ 0x03 ∷ 0x00 ∷ 0x00 ∷ 0x00 ∷ 0x01 ∷ 0xFF ∷ 0x00 ∷ 0x00
@@ -107,48 +121,57 @@ bytes-S : chartS singleByte inRow
     ∷ 0x01 ∷ 0x00 ∷ 0x05 ∷ 0x00 ∷ 0x04 ∷ 0x00 ∷ 0x01 ∷ 0x00 ∷ 0x30 ∷ 0x00 ∷ 0x1C ∷ 0x00 ∷ 0x14 ∷ 0x00 ∷ 0x4F ∷ 0x43 ∷ []
 bytes-S = refl
 
--- A chart, one of its regions, two nodes, and the answer that 01 or 02 gives.
+-- A chart, one of its regions, the teams that are asked about, two nodes, and the answer that 01 or 02 gives.
 pub record Entry : Type 0 where
   pub bytes : List ℕ
   pub named : ℕ
+  pub teams : Size
   pub a : ℕ
   pub b : ℕ
   pub gives : ℕ
 
 unfoldable pub starred : List Entry
 starred =
-    record { bytes = chartK; named = outside; a = 1; b = 3; gives = 0 }
-    ∷ record { bytes = chartS singleByte inRow; named = outside; a = 2; b = 2; gives = 3 }
-    ∷ record { bytes = chartS singleByte inRow; named = outside; a = 1; b = 2; gives = 0 }
-    ∷ record { bytes = chartS singleByte inRow; named = outside; a = 3; b = 3; gives = 0 }
-    ∷ record { bytes = chartS singleByte andBack; named = outside; a = 2; b = 2; gives = 0 }
-    ∷ record { bytes = chartS masterByte andBack; named = outside; a = 2; b = 2; gives = 2 }
-    ∷ record { bytes = chartS criticalByte inRow; named = outside; a = 2; b = 2; gives = 0 }
-    ∷ record { bytes = chartD (edge 5 6 ∷ []); named = outside; a = 3; b = 3; gives = 4 }
-    ∷ record { bytes = chartD (edge 5 6 ∷ []); named = outside; a = 2; b = 3; gives = 0 }
-    ∷ record { bytes = chartD (edge 5 1 ∷ edge 5 6 ∷ []); named = outside; a = 3; b = 3; gives = 0 }
-    ∷ record { bytes = chartB; named = outside; a = 2; b = 2; gives = 3 }
-    ∷ record { bytes = chartT []; named = outside; a = 4; b = 4; gives = 3 }
-    ∷ record { bytes = chartT []; named = outside; a = 3; b = 3; gives = 3 }
-    ∷ record { bytes = chartT []; named = 1; a = 4; b = 4; gives = 3 }
-    ∷ record { bytes = chartT []; named = 1; a = 3; b = 3; gives = 0 }
-    ∷ record { bytes = chartT (edge 5 3 ∷ []); named = 1; a = 4; b = 4; gives = 0 }
-    ∷ record { bytes = chartT (edge 5 3 ∷ []); named = outside; a = 4; b = 4; gives = 3 }
-    ∷ record { bytes = chartU; named = 0; a = 3; b = 3; gives = 3 }
-    ∷ record { bytes = chartU; named = outside; a = 3; b = 3; gives = 0 }
-    ∷ record { bytes = chartZ; named = outside; a = 3; b = 3; gives = 0 }
-    ∷ record { bytes = chartZ; named = 0; a = 3; b = 3; gives = 3 }
-    ∷ record { bytes = chartZ; named = outside; a = 5; b = 5; gives = 0 }
-    ∷ record { bytes = chartW; named = 0; a = 4; b = 4; gives = 0 }
+    record { bytes = chartK; named = outside; teams = Any; a = 1; b = 3; gives = 0 }
+    ∷ record { bytes = chartS singleByte inRow; named = outside; teams = Any; a = 2; b = 2; gives = 3 }
+    ∷ record { bytes = chartS singleByte inRow; named = outside; teams = Any; a = 1; b = 2; gives = 0 }
+    ∷ record { bytes = chartS singleByte inRow; named = outside; teams = Any; a = 3; b = 3; gives = 0 }
+    ∷ record { bytes = chartS singleByte andBack; named = outside; teams = Any; a = 2; b = 2; gives = 0 }
+    ∷ record { bytes = chartS masterByte andBack; named = outside; teams = Any; a = 2; b = 2; gives = 2 }
+    ∷ record { bytes = chartS criticalByte inRow; named = outside; teams = Any; a = 2; b = 2; gives = 0 }
+    ∷ record { bytes = chartD (edge 5 6 ∷ []); named = outside; teams = Any; a = 3; b = 3; gives = 4 }
+    ∷ record { bytes = chartD (edge 5 6 ∷ []); named = outside; teams = Any; a = 2; b = 3; gives = 0 }
+    ∷ record { bytes = chartD (edge 5 1 ∷ edge 5 6 ∷ []); named = outside; teams = Any; a = 3; b = 3; gives = 0 }
+    ∷ record { bytes = chartB; named = outside; teams = Any; a = 2; b = 2; gives = 3 }
+    ∷ record { bytes = chartT []; named = outside; teams = Any; a = 4; b = 4; gives = 3 }
+    ∷ record { bytes = chartT []; named = outside; teams = Any; a = 3; b = 3; gives = 3 }
+    ∷ record { bytes = chartT []; named = 1; teams = Any; a = 4; b = 4; gives = 3 }
+    ∷ record { bytes = chartT []; named = 1; teams = Any; a = 3; b = 3; gives = 0 }
+    ∷ record { bytes = chartT (edge 5 3 ∷ []); named = 1; teams = Any; a = 4; b = 4; gives = 0 }
+    ∷ record { bytes = chartT (edge 5 3 ∷ []); named = outside; teams = Any; a = 4; b = 4; gives = 3 }
+    ∷ record { bytes = chartU; named = 0; teams = Any; a = 3; b = 3; gives = 3 }
+    ∷ record { bytes = chartU; named = outside; teams = Any; a = 3; b = 3; gives = 0 }
+    ∷ record { bytes = chartZ; named = outside; teams = Any; a = 3; b = 3; gives = 0 }
+    ∷ record { bytes = chartZ; named = 0; teams = Any; a = 3; b = 3; gives = 3 }
+    ∷ record { bytes = chartZ; named = outside; teams = Any; a = 5; b = 5; gives = 0 }
+    ∷ record { bytes = chartW; named = 0; teams = Any; a = 4; b = 4; gives = 0 }
+    ∷ record { bytes = chartY; named = outside; teams = Any; a = 2; b = 5; gives = 0 }
+    ∷ record { bytes = chartY; named = outside; teams = Of 1; a = 2; b = 5; gives = 6 }
+    ∷ record { bytes = chartY; named = outside; teams = Of 2; a = 2; b = 5; gives = 7 }
+    ∷ record { bytes = chartY; named = outside; teams = Of 2; a = 2; b = 2; gives = 2 }
+    ∷ record { bytes = chartY; named = outside; teams = Of 3; a = 2; b = 5; gives = 0 }
+    ∷ record { bytes = chartS singleByte inRow; named = outside; teams = Of 1; a = 2; b = 2; gives = 6 }
+    ∷ record { bytes = chartS singleByte inRow; named = outside; teams = Of 2; a = 2; b = 2; gives = 3 }
+    ∷ record { bytes = chartK; named = outside; teams = Of 2; a = 1; b = 3; gives = 0 }
     ∷ []
 
 -- What the definitions give for an entry: the row that refuses its chart, and its answer.
 unfoldable pub computed : Entry → Option ℕ × ℕ
-computed e = (firstOf (regionRows (e .bytes) (e .named)), answer (regionOf (e .named) (decode (e .bytes))) (e .a) (e .b))
+computed e = (firstOf (regionRows (e .bytes) (e .named)), answerFor (regionOf (e .named) (decode (e .bytes))) (e .teams) (e .a) (e .b))
 
 -- Every chart of the list is admitted and has the region, and every answer is 01's or 02's.
 pub starred-answers : map computed starred ≡ map (λ e. (none, e .gives)) starred
-unfolding starred computed answer bothInSection bothInOrdereds bothInSingle bothInMasters noCommonPhase noCommon inOrderedOf inSection isIn returns isBoundary
+unfolding starred computed answerIn lacksThread answer bothInSection bothInOrdereds bothInSingle bothInMasters noCommonPhase noCommon inOrderedOf inSection isIn returns isBoundary
     regionRows badRegion admitRows badPaths cutOff reachesAny reachesFree reaches marks marks? chartRows tableRows trailerRows firstOf badEdges joinsSections framesSection badEdgeAt rises badEdge badBarriers
     tooManyIn barrierOf isBarrier badFrames badFrame framesIn badConstructs strayNode badAlone badConstruct foreignNumber badNodes badNodeAt badOuter badNode badLengths badCounts badMarks badEdition
     misnested misplaced wronglyAbove excluded sameCritical mayEnclose enclosesNear roleIn keptIn liesWithin countsIn regionAt isParallel edgeIn insideAt frameOf scopeAt liesAt parentOf encloses scope liesIn kindOf

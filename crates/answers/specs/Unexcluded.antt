@@ -2,14 +2,16 @@
 -- of them. This is what 01's answer 0 stands for.
 -- Assumes nothing.
 use mathlib.Core.Path.{_≡_}
-use mathlib.Core.Logic.{_≢_}
+use mathlib.Core.Logic.{_⊎_, _≢_}
 use mathlib.Core.Bool.{true}
-use Prim.Native.Nat.{ℕ, _<_}
+use Prim.Native.Nat.{ℕ, _≤_, _<_}
 use Rattle.chart.specs.Region.{Kind, single, master, Region}
 use Rattle.chart.specs.InOrdered.{InOrdered}
 use Rattle.chart.specs.InSection.{InSection}
 use Rattle.paths.specs.Path.{BarrierFree}
 use Rattle.phases.specs.Phases.{Direction, Boundary}
+use Rattle.answers.specs.declared.Size.{Size}
+use Rattle.answers.specs.declared.Size.the-variants.{Any, Of}
 
 -- A barrier-free path leads from the construct's end to its begin (01: it returns).
 abbrev pub Returns : Region → ℕ → Type 0
@@ -17,7 +19,7 @@ Returns R c = BarrierFree R (R .end c) (R .begin c)
 
 -- One is common to a and b: a start, an end.
 abbrev pub Common : (ℕ → ℕ → Type 0) → ℕ → ℕ → Type 0
-Common Of a b = (s : ℕ) × (Of a s × Of b s)
+Common P a b = (s : ℕ) × (P a s × P b s)
 
 -- x is inside c, a construct of this kind.
 abbrev pub In : Region → Kind → ℕ → ℕ → Type 0
@@ -51,6 +53,24 @@ pub data First (P : Rule → Type 0) : ℕ → Type 0 where
 -- k is the answer for a and b (01: the first that applies).
 abbrev pub Answers : Region → ℕ → ℕ → ℕ → Type 0
 Answers R a b k = First (Excludes R a b) k
+
+-- x is inside a master whose thread a team of m lacks; and there is none such, so that a team of m has the threads of all masters around x.
+abbrev pub Lacks : Region → ℕ → ℕ → Type 0
+Lacks R m x = (c : ℕ) × (In R master x c × (m ≤ R .thread c))
+
+abbrev pub Has : Region → ℕ → ℕ → Type 0
+Has R m x = (c : ℕ) → R .kind c ≡ master → R .inside x c ≡ true → R .thread c < m
+
+-- k is the answer for a and b in teams of m threads (02, Note 10): 6 and 7 go ahead of all other rules.
+pub data AnswersIn (R : Region) (m a b : ℕ) : ℕ → Type 0 where
+  alone : m ≤ 1 → AnswersIn R m a b 6
+  lacking : 2 ≤ m → Lacks R m a ⊎ Lacks R m b → AnswersIn R m a b 7
+  fitting : {k : ℕ} → 2 ≤ m → Has R m a → Has R m b → Answers R a b k → AnswersIn R m a b k
+
+-- k is the answer for a and b in the teams of a size, or in all.
+abbrev pub AnswersFor : Region → Size → ℕ → ℕ → ℕ → Type 0
+AnswersFor R Any a b k = Answers R a b k
+AnswersFor R (Of m) a b k = AnswersIn R m a b k
 
 -- What is left to the pairs that no rule excludes.
 pub record Unexcluded (R : Region) (a b : ℕ) : Type 0 where

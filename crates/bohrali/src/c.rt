@@ -1,28 +1,31 @@
 // The calls in C. A slice is a pointer and a length there; each call returns one signed number. Each but Admit names a region of the chart, by the
-// number of a parallel or by 255 for the outermost one; any other number is refused. The last part of each contract is demand 2, of
+// number of a parallel or by 255 for the outermost one; any other number is refused. Those that end in `_sized` are for teams of
+// just so many threads (02, Note 10), from 1 to 1,024. The last part of each contract is demand 2, of
 // Judge's demand 3: what the number and the lent bytes say in paths, barriers and constructs, and about finished runs.
 ghost use mathlib.Core.Path.{_≡_};
 ghost use Rattle.admission.specs.Admission.{admitted, numberOf as Admission·numberOf};
 ghost use Rattle.output.specs.Output.{numberOf as Output·numberOf};
 ghost use Rattle.distances.specs.Distances.{distancesWritten, distancesLeft};
 ghost use Rattle.calls.specs.Phases.{phasesWritten, phasesLeft};
-ghost use Rattle.calls.specs.Sheet.{sheetWritten, sheetLeft};
-ghost use Rattle.calls.specs.Pair.{pairAnswered, numberOf as Pair·numberOf};
-ghost use Rattle.verdicts.specs.Judged.{judged, numberOf as Judged·numberOf};
-ghost use Rattle.verdicts.specs.Correct.{Correct};
+ghost use Rattle.calls.specs.Sheet.{sheetWritten, sheetLeft, sheetWrittenFor, sheetLeftFor};
+ghost use Rattle.calls.specs.Pair.{pairAnswered, pairAnsweredFor, numberOf as Pair·numberOf};
+ghost use Rattle.answers.specs.declared.Size.the-variants.{Of};
+ghost use Rattle.verdicts.specs.Judged.{judged, judgedFor, numberOf as Judged·numberOf};
+ghost use Rattle.verdicts.specs.Correct.{Correct, CorrectIn};
 ghost use Rattle.correctness.specs.PhasesCorrect.{PhasesCorrect, AdmitCorrect};
 ghost use Rattle.correctness.specs.DistancesCorrect.{DistancesCorrect};
-ghost use Rattle.correctness.specs.AnswersCorrect.{PairCorrect, SheetCorrect};
+ghost use Rattle.correctness.specs.AnswersCorrect.{PairCorrect, PairCorrectIn, SheetCorrect, SheetCorrectIn};
 ghost use Rattle.bohrali.specs.Bounds.{SmallCounts};
 ghost use Prim.Native.Nat.{_+_, _*_, _^_, _<_};
+use crate::sized::judge;
+use crate::sized::pair;
+use crate::sized::sheet;
 use admission::admit::Admission;
 use admission::admit::Counts;
-use calls::pair::Answered;
-use chart::cursor::wide;
+use answers::Size;
 use output::Written;
 use output::signed::counted;
 use output::signed::negated;
-use verdicts::Verdict;
 
 // Admit's three counts in one number.
 fn packed(counts: Counts) -> usize
@@ -48,10 +51,21 @@ pub extern "C" fn bohrali_pair(chart: &[u8], region: usize, a: usize, b: usize) 
     ensures { λ r. ⌜ r ≡ Pair·numberOf (pairAnswered (now (chart .entry)) region a b) ⌝ }
     ensures { λ r. ⌜ PairCorrect (now (chart .entry)) region a b r ⌝ }
 {
-    match calls::pair::pair(chart, region, a, b) {
-        Answered::Answer(answer) => counted(wide(answer.number)),
-        Answered::Refused(refusal) => negated(refusal),
-    }
+    pair(chart, region, Size::Any, a, b)
+}
+
+#[no_mangle]
+pub extern "C" fn bohrali_pair_sized(
+    chart: &[u8],
+    region: usize,
+    size: usize,
+    a: usize,
+    b: usize,
+) -> i64
+    ensures { λ r. ⌜ r ≡ Pair·numberOf (pairAnsweredFor (now (chart .entry)) region (Of size) a b) ⌝ }
+    ensures { λ r. ⌜ PairCorrectIn (now (chart .entry)) region size a b r ⌝ }
+{
+    pair(chart, region, Size::Of(size), a, b)
 }
 
 #[no_mangle]
@@ -84,10 +98,21 @@ pub extern "C" fn bohrali_sheet(chart: &[u8], region: usize, out: &mut [u8]) -> 
     ensures { λ _. ⌜ now (out .exit) ≡ sheetLeft (now (chart .entry)) region (now (out .entry)) ⌝ }
     ensures { λ r. ⌜ SheetCorrect (now (chart .entry)) region (now (out .entry)) r (now (out .exit)) ⌝ }
 {
-    match calls::writing::sheet(chart, region, out) {
-        Written::Bytes(count) => counted(count),
-        Written::Refused(refusal) => negated(refusal),
-    }
+    sheet(chart, region, Size::Any, out)
+}
+
+#[no_mangle]
+pub extern "C" fn bohrali_sheet_sized(
+    chart: &[u8],
+    region: usize,
+    size: usize,
+    out: &mut [u8],
+) -> i64
+    ensures { λ r. ⌜ r ≡ Output·numberOf (sheetWrittenFor (now (chart .entry)) region (Of size) (now (out .entry))) ⌝ }
+    ensures { λ _. ⌜ now (out .exit) ≡ sheetLeftFor (now (chart .entry)) region (Of size) (now (out .entry)) ⌝ }
+    ensures { λ r. ⌜ SheetCorrectIn (now (chart .entry)) region size (now (out .entry)) r (now (out .exit)) ⌝ }
+{
+    sheet(chart, region, Size::Of(size), out)
 }
 
 #[no_mangle]
@@ -95,9 +120,18 @@ pub extern "C" fn bohrali_judge(chart: &[u8], region: usize, claims: &[u8]) -> i
     ensures { λ r. ⌜ r ≡ Judged·numberOf (judged (now (chart .entry)) region (now (claims .entry))) ⌝ }
     ensures { λ r. ⌜ Correct (now (chart .entry)) region (now (claims .entry)) r ⌝ }
 {
-    match judge::judge(chart, region, claims) {
-        Verdict::Passed => counted(0),
-        Verdict::Failed(index) => counted(index + 1),
-        Verdict::Refused(refusal) => negated(refusal),
-    }
+    judge(chart, region, Size::Any, claims)
+}
+
+#[no_mangle]
+pub extern "C" fn bohrali_judge_sized(
+    chart: &[u8],
+    region: usize,
+    size: usize,
+    claims: &[u8],
+) -> i64
+    ensures { λ r. ⌜ r ≡ Judged·numberOf (judgedFor (now (chart .entry)) region (Of size) (now (claims .entry))) ⌝ }
+    ensures { λ r. ⌜ CorrectIn (now (chart .entry)) region size (now (claims .entry)) r ⌝ }
+{
+    judge(chart, region, Size::Of(size), claims)
 }

@@ -1,20 +1,23 @@
-// Pair as a call on a slice, the number of a region and two of nodes.
+// Pair as a call on a slice, the number of a region, a size and two numbers of nodes.
 ghost use mathlib.Core.Path.{_≡_};
-ghost use mathlib.Core.List.{[], _∷_};
+ghost use mathlib.Core.List.{_∷_};
 ghost use Rattle.chart.specs.Checked.{reading};
 ghost use Rattle.chart.specs.Refusal.{firstOf};
-ghost use Rattle.answers.specs.Answer.{answer as answerOf};
+ghost use Rattle.answers.specs.Answer.{answerFor};
+ghost use Rattle.answers.specs.Size.{sizeRows};
 ghost use Rattle.loading.specs.Tables.{Accepted};
 ghost use Rattle.profiles.specs.Marks.{Marks};
-ghost use Rattle.calls.specs.Pair.{numbersRow, answered, pairAnswered};
+ghost use Rattle.calls.specs.Pair.{numbersRow, answered, pairAnsweredFor};
+use answers::Size;
 use chart::format::Chart;
 use chart::format::Refusal;
-use loading::closed::load_closed;
-use pairs::numbers::bad_number;
+use pairs::numbers::bad_node;
 use pairs::rules::Answer;
 use profiles::chains::Sets;
 use profiles::marks::MaskTable;
 use profiles::marks::ROWS;
+use profiles::sizes::bad_size;
+use profiles::sizes::sets_for;
 use survey::Surveyed;
 use survey::survey;
 
@@ -24,10 +27,11 @@ pub enum Answered {
     Refused(Refusal),
 }
 
-// Row 13 and the answer, of a chart whose nodes are marked.
+// Rows 13 and 21 and the answer, of a chart whose nodes are marked.
 fn answer_pair(
     s: &[u8],
     chart: Chart,
+    size: Size,
     marks: &MaskTable,
     sets: Sets,
     a: usize,
@@ -36,27 +40,28 @@ fn answer_pair(
     requires { ⌜ Accepted (now s) chart × Marks (reading (now s) chart) (now marks) sets ⌝ }
     ensures { λ r.
         let R = reading (now (s .entry)) chart in
-        ⌜ r ≡ answered (firstOf (numbersRow R a b ∷ [])) (answerOf R a b) ⌝ }
+        ⌜ r ≡ answered (firstOf (numbersRow R a b ∷ sizeRows size)) (answerFor R size a b) ⌝ }
 {
-    let mut closed = [0u8; Chart::NODES];
-    load_closed(s, chart, &mut closed);
-    if bad_number(a, chart.nodes, &closed) {
+    if bad_node(s, chart, a) {
         return Answered::Refused(Refusal::NUMBERS);
     }
-    if bad_number(b, chart.nodes, &closed) {
+    if bad_node(s, chart, b) {
         return Answered::Refused(Refusal::NUMBERS);
     }
-    let number = pairs::rules::pair(a, b, marks, sets);
+    if bad_size(size) {
+        return Answered::Refused(Refusal::SIZE);
+    }
+    let number = pairs::rules::pair(a, b, marks, sets_for(s, chart, size, sets));
     Answered::Answer(Answer { number })
 }
 
-// The first of rows 1 to 10, 23 and 13 that applies, or the answer for nodes a and b of the region.
-pub fn pair(s: &[u8], region: usize, a: usize, b: usize) -> Answered
-    ensures { λ r. ⌜ r ≡ pairAnswered (now (s .entry)) region a b ⌝ }
+// The first of rows 1 to 10, 23, 13 and 21 that applies, or the answer for nodes a and b of the region and teams of this size.
+pub fn pair(s: &[u8], region: usize, size: Size, a: usize, b: usize) -> Answered
+    ensures { λ r. ⌜ r ≡ pairAnsweredFor (now (s .entry)) region size a b ⌝ }
 {
     let mut marks = [[0u64; Chart::NODES]; ROWS];
     match survey(s, region, &mut marks) {
         Surveyed::Refused(refusal) => Answered::Refused(refusal),
-        Surveyed::Marked(chart, sets) => answer_pair(s, chart, &marks, sets, a, b),
+        Surveyed::Marked(chart, sets) => answer_pair(s, chart, size, &marks, sets, a, b),
     }
 }

@@ -6,14 +6,18 @@ ghost use lib.ListN.{length};
 ghost use Rattle.chart.specs.Region.{Region};
 ghost use Rattle.chart.specs.Checked.{reading};
 ghost use Rattle.phases.specs.Phases.{forward, backward};
+ghost use Rattle.answers.specs.Answer.{answerFor};
+ghost use Rattle.answers.specs.Size.{sizeRows};
 ghost use Rattle.answers.specs.Sheet.{sheet as sheetOf};
 ghost use Rattle.loading.specs.Tables.{Accepted, Masks};
 ghost use Rattle.profiles.specs.Marks.{Marks};
 ghost use Rattle.output.specs.Output.{outputRows, writtenBy, leftBy};
 ghost use Rattle.calls.specs.Phases.{phasesResult, phasesWritten, phasesLeft};
-ghost use Rattle.calls.specs.Sheet.{sheetWritten, sheetLeft};
+ghost use Rattle.calls.specs.Sheet.{sheetWrittenFor, sheetLeftFor};
 use crate::fill::fill_phases;
+use answers::Size;
 use chart::format::Chart;
+use chart::format::Refusal;
 use entrance::Entered;
 use entrance::enter;
 use output::Written;
@@ -21,6 +25,7 @@ use output::room_for;
 use profiles::chains::Sets;
 use profiles::marks::MaskTable;
 use profiles::marks::ROWS;
+use profiles::sizes::bad_size;
 use sheets::fill_sheet;
 use survey::Surveyed;
 use survey::survey;
@@ -59,34 +64,46 @@ pub fn phases(s: &[u8], region: usize, out: &mut [u8]) -> Written
     }
 }
 
-// Row 11 and the bytes of Sheet, of a chart whose nodes are marked.
-fn write_sheet(s: &[u8], chart: Chart, marks: &MaskTable, sets: Sets, out: &mut [u8]) -> Written
+// Rows 11 and 21 and the bytes of Sheet, of a chart whose nodes are marked.
+fn write_sheet(
+    s: &[u8],
+    chart: Chart,
+    size: Size,
+    marks: &MaskTable,
+    sets: Sets,
+    out: &mut [u8],
+) -> Written
     requires { ⌜ Accepted (now s) chart × Marks (reading (now s) chart) (now marks) sets ⌝ }
     ensures { λ r.
-        let size = length (sheetOf (reading (now (s .entry)) chart)) in
-        ⌜ r ≡ writtenBy (outputRows [] (length (now (out .entry))) size []) size ⌝ }
+        let R = reading (now (s .entry)) chart in
+        let bytes = length (sheetOf R (answerFor R size)) in
+        ⌜ r ≡ writtenBy (outputRows [] (length (now (out .entry))) bytes (sizeRows size)) bytes ⌝ }
     ensures { λ _.
-        let result = sheetOf (reading (now (s .entry)) chart) in
-        ⌜ now (out .exit) ≡ leftBy (outputRows [] (length (now (out .entry))) (length result) []) result (now (out .entry)) ⌝ }
+        let R = reading (now (s .entry)) chart in
+        let result = sheetOf R (answerFor R size) in
+        ⌜ now (out .exit) ≡ leftBy (outputRows [] (length (now (out .entry))) (length result) (sizeRows size)) result (now (out .entry)) ⌝ }
 {
     let n = chart.nodes;
     match room_for(n * n, out.len()) {
         Written::Refused(refusal) => Written::Refused(refusal),
         Written::Bytes(bytes) => {
-            fill_sheet(s, chart, marks, sets, out);
+            if bad_size(size) {
+                return Written::Refused(Refusal::SIZE);
+            }
+            fill_sheet(s, chart, size, marks, sets, out);
             Written::Bytes(bytes)
         }
     }
 }
 
-// The first of rows 1 to 10, 23 and 11 that applies, or the bytes written.
-pub fn sheet(s: &[u8], region: usize, out: &mut [u8]) -> Written
-    ensures { λ r. ⌜ r ≡ sheetWritten (now (s .entry)) region (now (out .entry)) ⌝ }
-    ensures { λ _. ⌜ now (out .exit) ≡ sheetLeft (now (s .entry)) region (now (out .entry)) ⌝ }
+// The first of rows 1 to 10, 23, 11 and 21 that applies, or the bytes written, of the answers for teams of this size.
+pub fn sheet(s: &[u8], region: usize, size: Size, out: &mut [u8]) -> Written
+    ensures { λ r. ⌜ r ≡ sheetWrittenFor (now (s .entry)) region size (now (out .entry)) ⌝ }
+    ensures { λ _. ⌜ now (out .exit) ≡ sheetLeftFor (now (s .entry)) region size (now (out .entry)) ⌝ }
 {
     let mut marks = [[0u64; Chart::NODES]; ROWS];
     match survey(s, region, &mut marks) {
         Surveyed::Refused(refusal) => Written::Refused(refusal),
-        Surveyed::Marked(chart, sets) => write_sheet(s, chart, &marks, sets, out),
+        Surveyed::Marked(chart, sets) => write_sheet(s, chart, size, &marks, sets, out),
     }
 }

@@ -39,6 +39,8 @@ impl Chart {
         + Edge::BYTES * Chart::EDGES
         + Construct::BYTES_2 * Chart::CONSTRUCTS
         + Chart::TRAILER_BYTES;
+    // Such a chart with one edge more.
+    pub const SCRATCH_BYTES: usize = Chart::MOST_BYTES + Edge::BYTES;
     // A row for each kind of construct, a column for each kind above it: single, master, critical, do, ordered, sections, section, parallel. The
     // column of parallel is not asked: nesting starts anew inside each region.
     pub const NESTING: [[bool; Construct::KINDS]; Construct::KINDS] = [
@@ -148,6 +150,24 @@ impl Refusal {
     pub const CLAIMS: Refusal = Refusal { number: 12 };
 
     pub const NUMBERS: Refusal = Refusal { number: 13 };
+
+    pub const GRAMMAR: Refusal = Refusal { number: 14 };
+
+    pub const DEPTH: Refusal = Refusal { number: 15 };
+
+    pub const LIMITS: Refusal = Refusal { number: 16 };
+
+    pub const RECEIPT: Refusal = Refusal { number: 17 };
+
+    pub const SPACE: Refusal = Refusal { number: 18 };
+
+    pub const NO_EDGE: Refusal = Refusal { number: 19 };
+
+    pub const ACCESSES: Refusal = Refusal { number: 20 };
+
+    pub const SIZE: Refusal = Refusal { number: 21 };
+
+    pub const TRACE: Refusal = Refusal { number: 22 };
 
     pub const REGION: Refusal = Refusal { number: 23 };
 }

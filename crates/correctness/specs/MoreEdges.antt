@@ -1,10 +1,10 @@
--- More edges only loosen (02, Note 8), said of what Pair and Sheet return: a never of the larger chart is one of the smaller, and 255 stands in
--- both sheets at the same places. Judge is in crate `verdicts`.
+-- More edges only loosen (02, Note 8), said of what Pair and Sheet return, without a team size and with one: a never of the larger chart is one of
+-- the smaller, and 255 stands in both sheets at the same places. Judge is in crate `verdicts`.
 -- Assumes nothing.
 use mathlib.Core.Path.{_≡_, refl, sym, _∙_}
 use mathlib.Core.Logic.{_⊎_, inl, inr, _≢_, _↔_}
 use mathlib.Core.Bool.{true, false}
-use mathlib.Core.List.{List, [], _∷_}
+use mathlib.Core.List.{List, _∷_}
 use mathlib.Core.Option.{Option, none, some}
 use Prim.Native.Nat.{ℕ, zero, suc, _+_, _*_, _<_}
 use native.Mathlib.Omega.{arith}
@@ -17,13 +17,14 @@ use Rattle.chart.specs.Reading.{regionOf}
 use Rattle.chart.specs.Refusal.{firstOf}
 use Rattle.chart.proofs.Rows.{second-decides, both-pass}
 use Rattle.paths.specs.Admission.{regionRows, Admitted}
-use Rattle.answers.specs.Unexcluded.{Rule, by-phase, by-master, by-single, by-ordered, by-section, number, First, first, none as no-rule}
-use Rattle.answers.specs.AnswerLaws.{first-kept}
+use Rattle.answers.specs.SizeLaws.{answer-number}
 use Rattle.answers.specs.Numbers.{Asked, asked, asked-node, node-asked, badNumber}
-use Rattle.answers.specs.MoreEdges.{MoreEdges, Widens, loosen, same-asked, widens, smaller-in}
+use Rattle.answers.specs.Size.{sizeRows}
+use Rattle.answers.specs.MoreEdges.{MoreEdges, Widens, kept-for, same-asked, widens, smaller-in}
+use Rattle.answers.specs.declared.Size.{Size}
 use Rattle.output.specs.Output.{outputRows}
-use Rattle.calls.specs.Pair.{numbersRow, pairRows}
-use Rattle.correctness.specs.AnswersCorrect.{PairCorrect, SheetBytes, SheetCorrect}
+use Rattle.calls.specs.Pair.{numbersRow, pairRowsFor}
+use Rattle.correctness.specs.AnswersCorrect.{PairCorrectFor, SheetBytes, SheetCorrectFor}
 
 -- The number says never: it is a rule's.
 abbrev pub Never : ℤ → Type 0
@@ -39,40 +40,31 @@ same-numbers : {R S : Region} → Widens R S → (a b : ℕ) → numbersRow S a 
 unfolding numbersRow badNumber
 same-numbers X a b = rw (same-asked X a, same-asked X b)
 
-module _ (s t : List ℕ) (p : ℕ) (M : MoreEdges (decode s) (decode t)) where
-  smaller-asked : Admitted s → (a b : ℕ) → firstOf (pairRows t p a b) ≡ none → firstOf (pairRows s p a b) ≡ none
-  unfolding pairRows
+module _ (s t : List ℕ) (p : ℕ) (M : MoreEdges (decode s) (decode t)) (size : Size) where
+  smaller-asked : Admitted s → (a b : ℕ) → firstOf (pairRowsFor t p size a b) ≡ none → firstOf (pairRowsFor s p size a b) ≡ none
+  unfolding pairRowsFor
   smaller-asked smaller a b h =
-      let (larger, asked) = both-pass (regionRows t p) (numbersRow (regionOf p (decode t)) a b ∷ []) h in
-      second-decides (regionRows s p) (numbersRow (regionOf p (decode s)) a b ∷ []) (smaller-in s t p smaller larger M)
+      let (larger, asked) = both-pass (regionRows t p) (numbersRow (regionOf p (decode t)) a b ∷ sizeRows size) h in
+      second-decides (regionRows s p) (numbersRow (regionOf p (decode s)) a b ∷ sizeRows size) (smaller-in s t p smaller larger M)
       ∙ rw (same-numbers (widens M p) a b) at asked
 
   -- Whatever numbers are right for the two, a never for the larger is a never for the smaller.
-  pub pair-loosens : Admitted s → (a b : ℕ) (m n : ℤ) → PairCorrect t p a b m → PairCorrect s p a b n → Never m → Never n
-  pair-loosens smaller a b m n C D (j, (e, some-rule)) = go (firstOf (pairRows t p a b)) refl
+  pub pair-loosens : Admitted s → (a b : ℕ) (m n : ℤ) → PairCorrectFor t p size a b m → PairCorrectFor s p size a b n → Never m → Never n
+  pair-loosens smaller a b m n C D (j, (e, some-rule)) = go (firstOf (pairRowsFor t p size a b)) refl
     where
-      go : (o : Option ℕ) → firstOf (pairRows t p a b) ≡ o → Never n
+      go : (o : Option ℕ) → firstOf (pairRowsFor t p size a b) ≡ o → Never n
       go (some row) h = absurd (refused-not row j (sym (C .refuses row h) ∙ e) some-rule)
       go none h =
           let (k, (q, A)) = C .answers h in
           let (l, (r, B)) = D .answers (smaller-asked smaller a b h) in
           let same : k ≡ j = cc in
-          (l, (r, first-kept (loosen (widens M p) a b) A B (λ z. some-rule (sym same ∙ z))))
+          (l, (r, kept-for (widens M p) size a b A B (λ z. some-rule (sym same ∙ z))))
 
 -- Entries x of the larger sheet and y of the smaller: a never stays a never, and 255 stands where 255 stands.
 abbrev pub Looser : ℕ → ℕ → Type 0
 Looser x y = (x ≢ 0 → y ≢ 0) × ((x ≡ 255) ↔ (y ≡ 255))
 
--- an answer is no 255
-rule-number : {P : Rule → Type 0} {k : ℕ} → First P k → k ≢ 255
-rule-number (first by-phase p f) e = omega arith
-rule-number (first by-master p f) e = omega arith
-rule-number (first by-single p f) e = omega arith
-rule-number (first by-ordered p f) e = omega arith
-rule-number (first by-section p f) e = omega arith
-rule-number (no-rule f) e = omega arith
-
-module _ {R S : Region} (X : Widens R S) {larger smaller : List ℕ} (L : SheetBytes S larger) (B : SheetBytes R smaller) where
+module _ {R S : Region} (X : Widens R S) {size : Size} {larger smaller : List ℕ} (L : SheetBytes S size larger) (B : SheetBytes R size smaller) where
   looser-at : (a b : ℕ) → a < R .nodes → b < R .nodes → Looser (getD larger (a * S .nodes + b) 0) (getD smaller (a * R .nodes + b) 0)
   looser-at a b la lb = go (truth (asked R a)) (truth (asked R b))
     where
@@ -92,15 +84,15 @@ module _ {R S : Region} (X : Widens R S) {larger smaller : List ℕ} (L : SheetB
       go (inl p) (inl q) =
           let l = L .answers a b (asked-node S a (same-asked X a ∙ p)) (asked-node S b (same-asked X b ∙ q)) in
           let m = B .answers a b (asked-node R a p) (asked-node R b q) in
-          (first-kept (loosen X a b) l m, ((λ e. absurd (rule-number l e)), λ e. absurd (rule-number m e)))
+          (kept-for X size a b l m, ((λ e. absurd (answer-number S a b size l e)), λ e. absurd (answer-number R a b size m e)))
 
 -- Sheet writes to bytes of this length.
-abbrev pub Writes : List ℕ → ℕ → ℕ → Type 0
-Writes s p room = let R = regionOf p (decode s) in firstOf (outputRows (regionRows s p) room (R .nodes * R .nodes) []) ≡ none
+abbrev pub Writes : List ℕ → ℕ → Size → ℕ → Type 0
+Writes s p size room = let R = regionOf p (decode s) in firstOf (outputRows (regionRows s p) room (R .nodes * R .nodes) (sizeRows size)) ≡ none
 
 -- Whatever bytes are right for the two, entry a * n + b of the smaller is as loose as that of the larger, or less.
-pub sheet-loosens : (s t : List ℕ) (p : ℕ) → MoreEdges (decode s) (decode t) → (room lent larger smaller : List ℕ) (m k : ℤ)
-    → SheetCorrect t p room m larger → SheetCorrect s p lent k smaller → Writes t p (length room) → Writes s p (length lent)
+pub sheet-loosens : (s t : List ℕ) (p : ℕ) → MoreEdges (decode s) (decode t) → (size : Size) (room lent larger smaller : List ℕ) (m k : ℤ)
+    → SheetCorrectFor t p size room m larger → SheetCorrectFor s p size lent k smaller → Writes t p size (length room) → Writes s p size (length lent)
     → let n = length (decode s .nodes) in (a b : ℕ) → a < n → b < n → Looser (getD larger (a * n + b) 0) (getD smaller (a * n + b) 0)
-sheet-loosens s t p M room lent larger smaller m k C D wide narrow a b la lb =
+sheet-loosens s t p M size room lent larger smaller m k C D wide narrow a b la lb =
     rw (M .nodes) at (looser-at (widens M p) (C .writes wide .1) (D .writes narrow .1) a b la lb)

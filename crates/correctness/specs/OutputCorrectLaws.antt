@@ -90,3 +90,7 @@ module _ (before after : List Row) (bytes old : List ℕ) (size : ℕ) (long : l
 -- what is correct of the definition's number and bytes is correct of those that equal them
 pub carried : (C : ℤ → List ℕ → Type 0) {m n : ℤ} {v w : List ℕ} → m ≡ n → v ≡ w → C n w → (m ≡ n) × ((v ≡ w) × C m v)
 carried C {v = v} {w} p q c = (p, (q, subst (λ (k : ℤ). C k v) (sym p) (subst (C _) (sym q) c)))
+
+-- the same of a call that lends no bytes
+pub told : (C : ℤ → Type 0) {m n : ℤ} → m ≡ n → C n → (m ≡ n) × C m
+told C p c = (p, subst C (sym p) c)

@@ -1,9 +1,8 @@
 -- The theorem: two nodes that are no barriers are excluded by no pair rule exactly when some finished run of some team has two threads at them
 -- in one state; and, for one size of teams, exactly when the team is also large enough for them.
 -- Assumes nothing.
-use mathlib.Core.Path.{_≡_, sym, subst}
+use mathlib.Core.Path.{sym, subst}
 use mathlib.Core.Logic.{_⊎_, inl, inr, _≢_, _↔_}
-use mathlib.Core.Bool.{true}
 use Prim.Native.Nat.{ℕ, suc, _+_, _≤_, _<_}
 use native.Mathlib.Omega.{arith}
 use native.Mathlib.Decide.{ℕ-discrete}
@@ -13,16 +12,12 @@ use Rattle.paths.specs.Path.{Open}
 use Rattle.paths.specs.Connected.{Connected}
 use Rattle.team.specs.Run.{ConcurrentIn, Concurrent}
 use Rattle.team.specs.Laws.{two-threads}
-use Rattle.answers.specs.Unexcluded.{Unexcluded}
+use Rattle.answers.specs.Unexcluded.{Has, Unexcluded}
 use Rattle.exact.specs.Nesting.{Within, Without, within}
 use Rattle.exact.specs.Invariant.{MasterOf}
 use Rattle.exact.specs.Sound.{master-a, master-b, sound}
 use Rattle.exact.specs.Rendezvous.{Chosen}
 use Rattle.exact.specs.Complete.{complete}
-
--- A team of m has the threads of the masters that enclose x.
-abbrev pub Fits : Region → ℕ → ℕ → Type 0
-Fits R m x = (c : ℕ) → R .kind c ≡ master → R .inside x c ≡ true → R .thread c < m
 
 module _ {R : Region} (W : WellFormed R) where
   its-master : {x : ℕ} (h : Within R master x) → MasterOf R (R .thread (h .0)) x
@@ -35,7 +30,7 @@ module _ {R : Region} (W : WellFormed R) where
   another : {m : ℕ} → 2 ≤ m → (n : ℕ) → (t : ℕ) × (t < m) × (n ≢ t)
   another two n = elim (ℕ-discrete n 0) [ yes z ↦ (1, omega arith, omega arith) | no z ↦ (0, omega arith, z) ]
 
-  chosen : {m a b : ℕ} → Unexcluded R a b → 2 ≤ m → Fits R m a → Fits R m b → Within R master a ⊎ Without R master a → Within R master b ⊎ Without R master b
+  chosen : {m a b : ℕ} → Unexcluded R a b → 2 ≤ m → Has R m a → Has R m b → Within R master a ⊎ Without R master a → Within R master b ⊎ Without R master b
       → Chosen R m a b
   chosen D two fa fb (inl x) (inl y) = record {
     p = R .thread (x .0);
@@ -75,12 +70,12 @@ module _ {R : Region} (W : WellFormed R) where
   }
 
   -- every team that is large enough fits
-  size-for : {x : ℕ} → Within R master x ⊎ Without R master x → (n : ℕ) × ((m : ℕ) → n ≤ m → Fits R m x)
+  size-for : {x : ℕ} → Within R master x ⊎ Without R master x → (n : ℕ) × ((m : ℕ) → n ≤ m → Has R m x)
   size-for (inl h) = (suc (R .thread (h .0)), λ m l c k i. subst (λ (n : ℕ). n < m) (its-master h c k i) l)
   size-for (inr h) = (0, λ m l c k i. absurd (h c k i))
 
 module _ {R : Region} (W : WellFormed R) (C : Connected R) {a b : ℕ} (oa : Open R a) (ob : Open R b) where
-  pub soundness : {m : ℕ} → ConcurrentIn R m a b → (2 ≤ m) × Fits R m a × Fits R m b × Unexcluded R a b
+  pub soundness : {m : ℕ} → ConcurrentIn R m a b → (2 ≤ m) × Has R m a × Has R m b × Unexcluded R a b
   soundness {m} M = (
     two-threads M,
     (λ c k i. subst (λ (n : ℕ). n < m) (master-a W C M c k i) (M .t-in)),
@@ -88,18 +83,18 @@ module _ {R : Region} (W : WellFormed R) (C : Connected R) {a b : ℕ} (oa : Ope
     sound W C M oa ob,
   )
 
-  pub completeness : {m : ℕ} → 2 ≤ m → Fits R m a → Fits R m b → Unexcluded R a b → ConcurrentIn R m a b
+  pub completeness : {m : ℕ} → 2 ≤ m → Has R m a → Has R m b → Unexcluded R a b → ConcurrentIn R m a b
   completeness two fa fb D = complete W C (chosen W D two fa fb (within W master a) (within W master b)) D oa ob
 
   -- teams of m threads
-  pub exactness-in : (m : ℕ) → ((2 ≤ m) × Fits R m a × Fits R m b × Unexcluded R a b) ↔ ConcurrentIn R m a b
+  pub exactness-in : (m : ℕ) → ((2 ≤ m) × Has R m a × Has R m b × Unexcluded R a b) ↔ ConcurrentIn R m a b
   exactness-in m = ((λ h. completeness (h .0) (h .1) (h .2) (h .3)), λ M. soundness M)
 
   -- all teams
   pub exactness : Unexcluded R a b ↔ Concurrent R a b
   exactness = (some-team (size-for W (within W master a)) (size-for W (within W master b)), λ M. exactness-in (M .0) .1 (M .1) .3)
     where
-      some-team : (n : ℕ) × ((m : ℕ) → n ≤ m → Fits R m a) → (n : ℕ) × ((m : ℕ) → n ≤ m → Fits R m b) → Unexcluded R a b → Concurrent R a b
+      some-team : (n : ℕ) × ((m : ℕ) → n ≤ m → Has R m a) → (n : ℕ) × ((m : ℕ) → n ≤ m → Has R m b) → Unexcluded R a b → Concurrent R a b
       some-team x y D =
           let m = 2 + (x .0 + y .0) in
           (m, exactness-in m .0 (omega arith, x .1 m (omega arith), y .1 m (omega arith), D))

@@ -17,11 +17,13 @@ use Rattle.chart.specs.Region.{Region}
 use Rattle.chart.specs.Reading.{regionOf}
 use Rattle.chart.specs.Refusal.{firstOf}
 use Rattle.chart.specs.WellFormed.{WellFormed}
+use Rattle.answers.specs.Answer.{answerFor}
 use Rattle.answers.specs.Numbers.{badNumber}
+use Rattle.answers.specs.declared.Size.{Size}
 use Rattle.pairs.proofs.BadNumbers.{past-bad}
 use Rattle.verdicts.specs.Claims.{total, badNumbers, isFalse}
 use Rattle.verdicts.specs.CorrectLaws.{good-numbers}
-use Rattle.verdicts.specs.Judged.{judgeRows, verdict, answered, judged}
+use Rattle.verdicts.specs.Judged.{judgeRowsFor, verdict, answered, judgedFor}
 use Rattle.verdicts.specs.declared.Verdict.the-variants.{Passed, Failed}
 
 -- a table of the bad numbers, when those below k are looked at; the others are taken for bad
@@ -59,12 +61,12 @@ numbers-fit R claims W few h j = go (decLt j (length claims))
     go (no l) = let past : length claims ≤ j = omega arith in omega (arith, List·getD-eq-default claims 0 past)
 
 -- a list fails at one of its claims
-pub failed-below : (s : List ℕ) (p : ℕ) (claims : List ℕ) (index : ℕ) → judged s p claims ≡ Failed index → index < total claims
-unfolding judged verdict answered
-failed-below s p claims index h = go (firstOf (judgeRows s p claims)) h
+pub failed-below : (s : List ℕ) (p : ℕ) (size : Size) (claims : List ℕ) (index : ℕ) → judgedFor s p size claims ≡ Failed index → index < total claims
+unfolding judgedFor verdict answered
+failed-below s p size claims index h = go (firstOf (judgeRowsFor s p size claims)) h
   where
     f : ℕ → Bool
-    f = isFalse (regionOf p (decode s)) claims
+    f = isFalse (answerFor (regionOf p (decode s)) size) claims
 
     here : (any (total claims) f ≡ true) ⊎ (any (total claims) f ≡ false) → cond (any (total claims) f) (Failed (first (total claims) f)) Passed ≡ Failed index → index < total claims
     here (inl g) e =
@@ -73,6 +75,6 @@ failed-below s p claims index h = go (firstOf (judgeRows s p claims)) h
         omega (arith, first-passes (total claims) f g .0)
     here (inr g) e = let passed : Passed ≡ Failed index = rw g at e in absurd (bad (cc))
 
-    go : (o : Option ℕ) → answered o (verdict (regionOf p (decode s)) claims) ≡ Failed index → index < total claims
+    go : (o : Option ℕ) → answered o (verdict (answerFor (regionOf p (decode s)) size) claims) ≡ Failed index → index < total claims
     go none e = here (truth (any (total claims) f)) e
     go (some number) e = absurd (bad (cc))

@@ -1,4 +1,4 @@
-// One list of claims against a chart whose nodes are marked: rows 12 and 13, and the first false claim.
+// One list of claims against a chart whose nodes are marked: rows 12, 13 and 21, and the first false claim.
 ghost use mathlib.Core.Path.{_≡_};
 ghost use mathlib.Core.Bool.{false};
 ghost use Prim.Native.Nat.{ℕ, _+_, _*_, _≤_, _<_};
@@ -8,10 +8,12 @@ ghost use Rattle.chart.specs.Refusal.{firstOf};
 ghost use Rattle.chart.specs.WellFormed.{WellFormed};
 ghost use Rattle.chart.specs.Checked.{reading};
 ghost use Rattle.loading.specs.Tables.{Accepted, Closed};
-ghost use Rattle.profiles.specs.Marks.{Marks};
+ghost use Rattle.answers.specs.Answer.{answerFor};
 ghost use Rattle.answers.specs.Numbers.{badNumber};
+ghost use Rattle.profiles.specs.Marks.{Sized, Marks};
 ghost use Rattle.verdicts.specs.Claims.{badNumbers, isFalse};
 ghost use Rattle.verdicts.specs.Judged.{claimRows, verdict, answered};
+use answers::Size;
 use bits::either;
 use chart::cursor::wide;
 use chart::format::Chart;
@@ -22,6 +24,8 @@ use pairs::rules::Answer;
 use pairs::rules::pair;
 use profiles::chains::Sets;
 use profiles::marks::MaskTable;
+use profiles::sizes::bad_size;
+use profiles::sizes::sets_for;
 use verdicts::Verdict;
 
 // Row 13, of each number that a byte can be.
@@ -59,7 +63,7 @@ fn bad_numbers(s: &[u8], chart: Chart, claims: &[u8]) -> bool
 // Whether claim k is false.
 fn is_false(claims: &[u8], k: usize, marks: &MaskTable, sets: Sets) -> bool
     requires { ⌜ (2 * k + 1 < length (now claims)) × ((j : ℕ) → getD (now claims) j 0 < 192) ⌝ }
-    ensures { λ r. ⌜ ((R : Region) → Marks R (now (marks .entry)) sets → badNumbers R (now (claims .entry)) ≡ false → r ≡ isFalse R (now (claims .entry)) k) ⌝ }
+    ensures { λ r. ⌜ ((R : Region) (size : Size) → Marks R (now (marks .entry)) sets → Sized R size sets → badNumbers R (now (claims .entry)) ≡ false → r ≡ isFalse (answerFor R size) (now (claims .entry)) k) ⌝ }
 {
     let a = wide(claims[2 * k]);
     let b = wide(claims[2 * k + 1]);
@@ -69,7 +73,7 @@ fn is_false(claims: &[u8], k: usize, marks: &MaskTable, sets: Sets) -> bool
 // The verdict on a list that is not refused.
 fn first_false(claims: &[u8], marks: &MaskTable, sets: Sets) -> Verdict
     requires { ⌜ ((j : ℕ) → getD (now claims) j 0 < 192) ⌝ }
-    ensures { λ r. ⌜ ((R : Region) → Marks R (now (marks .entry)) sets → badNumbers R (now (claims .entry)) ≡ false → r ≡ verdict R (now (claims .entry))) ⌝ }
+    ensures { λ r. ⌜ ((R : Region) (size : Size) → Marks R (now (marks .entry)) sets → Sized R size sets → badNumbers R (now (claims .entry)) ≡ false → r ≡ verdict (answerFor R size) (now (claims .entry))) ⌝ }
 {
     let n = claims.len() / 2;
     let mut k = 0;
@@ -82,12 +86,19 @@ fn first_false(claims: &[u8], marks: &MaskTable, sets: Sets) -> Verdict
     Verdict::Passed
 }
 
-// Rows 12 and 13 over the whole list, then the verdict.
-pub fn judge_claims(s: &[u8], chart: Chart, claims: &[u8], marks: &MaskTable, sets: Sets) -> Verdict
+// Rows 12 and 13 over the whole list, row 21 of the size, then the verdict.
+pub fn judge_claims(
+    s: &[u8],
+    chart: Chart,
+    size: Size,
+    claims: &[u8],
+    marks: &MaskTable,
+    sets: Sets,
+) -> Verdict
     requires { ⌜ Accepted (now s) chart × Marks (reading (now s) chart) (now marks) sets ⌝ }
     ensures { λ r.
         let R = reading (now (s .entry)) chart in
-        ⌜ r ≡ answered (firstOf (claimRows R (now (claims .entry)))) (verdict R (now (claims .entry))) ⌝ }
+        ⌜ r ≡ answered (firstOf (claimRows R size (now (claims .entry)))) (verdict (answerFor R size) (now (claims .entry))) ⌝ }
 {
     if claims.len() % 2 == 1 {
         return Verdict::Refused(Refusal::CLAIMS);
@@ -95,5 +106,8 @@ pub fn judge_claims(s: &[u8], chart: Chart, claims: &[u8], marks: &MaskTable, se
     if bad_numbers(s, chart, claims) {
         return Verdict::Refused(Refusal::NUMBERS);
     }
-    first_false(claims, marks, sets)
+    if bad_size(size) {
+        return Verdict::Refused(Refusal::SIZE);
+    }
+    first_false(claims, marks, sets_for(s, chart, size, sets))
 }

@@ -1,18 +1,20 @@
 // Spelt charts, one on each line: name, nodes, edges and constructs, with a / between them. After one more / comes the trailer in
 // hexadecimal; where it is left out it follows from the parts. A | before the constructs, in place of a /, is for edition 2. A line with a ? in front has pairs
-// of nodes of the chart above it, of the outermost region or, after an @, of the region that the next letter names; one with a # in front is a
-// comment.
+// of nodes of the chart above it, of the outermost region or, after an @, of the region that the next letter names, for teams of any size or,
+// after a *, of the size whose two bytes the next letters spell; one with a # in front is a comment.
+use crate::report::NO_SIZE;
 use crate::report::report_before;
 use crate::report::report_pair_before;
 use crate::spelling::put;
 use crate::spelling::value;
 use crate::trailer::Ends;
 use crate::trailer::put_trailer;
+use chart::cursor::wide;
 use chart::format::Chart;
 use chart::format::Construct;
 
 // How far a line has been read: the part, the place for its next byte, where the nodes and the edges end, and the first half of a byte of
-// the trailer or of a pair; its edition; how long the chart above it is; and the region that its pairs are asked in.
+// the trailer or of a pair; its edition; how long the chart above it is; and the region and the size that its pairs are asked for.
 struct Line {
     part: u8,
     at: usize,
@@ -22,6 +24,7 @@ struct Line {
     edition: usize,
     above: usize,
     region: u8,
+    size: usize,
 }
 
 impl Line {
@@ -40,6 +43,10 @@ impl Line {
     const COMMENT: u8 = 6;
 
     const REGION: u8 = 7;
+
+    const SIZE: u8 = 8;
+
+    const SIZE_HIGH: u8 = 9;
     // No half has been read.
     const WHOLE: u8 = 255;
 
@@ -53,6 +60,7 @@ impl Line {
             edition: Chart::EDITION_1,
             above: above,
             region: Construct::NONE,
+            size: NO_SIZE,
         }
     }
 
@@ -76,10 +84,10 @@ impl Line {
         self.next()
     }
 
-    // The line at an @, which stands before a region in a line of pairs.
-    fn named(mut self, out: &mut [u8], letter: u8) -> Line {
+    // The line at an @ or a *, which stand before a region and a size in a line of pairs.
+    fn asked(mut self, out: &mut [u8], letter: u8, part: u8) -> Line {
         if self.part == Line::PAIRS {
-            self.part = Line::REGION;
+            self.part = part;
             return self;
         }
         self.letter(out, letter)
@@ -88,6 +96,18 @@ impl Line {
     // The line after the letter of a region.
     fn within(mut self, region: u8) -> Line {
         self.region = region;
+        self.part = Line::PAIRS;
+        self
+    }
+
+    // The line after a letter of a size: the low byte, then the high one.
+    fn sized(mut self, byte: u8) -> Line {
+        if self.part == Line::SIZE {
+            self.size = wide(byte);
+            self.part = Line::SIZE_HIGH;
+            return self;
+        }
+        self.size = self.size % 256 + 256 * wide(byte);
         self.part = Line::PAIRS;
         self
     }
@@ -111,7 +131,7 @@ impl Line {
             self.half = node;
             return self;
         }
-        report_pair_before(out, self.above, self.region, self.half, node);
+        report_pair_before(out, self.above, self.region, self.size, self.half, node);
         self.half = Line::WHOLE;
         self
     }
@@ -125,6 +145,9 @@ impl Line {
         }
         if self.part == Line::REGION {
             return self.within(value(letter));
+        }
+        if self.part >= Line::SIZE {
+            return self.sized(value(letter));
         }
         if self.part == Line::NAME {
             io::write_all(1, &[letter]);
@@ -163,7 +186,8 @@ impl Line {
             b'?' => Line::new(Line::PAIRS, self.above),
             b'/' => self.next(),
             b'|' => self.filtered(),
-            b'@' => self.named(out, letter),
+            b'@' => self.asked(out, letter, Line::REGION),
+            b'*' => self.asked(out, letter, Line::SIZE),
             b' ' => self,
             _ => self.letter(out, letter),
         }

@@ -122,9 +122,13 @@ module _ (D : Decoded) (p : ℕ) where
   )
 
 -- nothing lies outside the outermost region
-pub stops-closed : (s : List ℕ) (chart : Chart) (stops : List ℕ) → chart .region ≡ outside → Stops (reading s chart) stops → Closed (reading s chart) stops
+pub stop-closed : (s : List ℕ) (chart : Chart) (x : ℕ) → chart .region ≡ outside → x < length (decode s .nodes)
+    → asked (reading s chart) x ≡ noBarrier (reading s chart .role x)
 unfolding asked keptIn liesWithin
-stops-closed s chart stops q S = record { at = λ x l. rw (lt-ltb x (length (decode s .nodes)) l, eq-eqb (chart .region) outside q) (S .at x) }
+stop-closed s chart x q l = rw (lt-ltb x (length (decode s .nodes)) l, eq-eqb (chart .region) outside q)
+
+pub stops-closed : (s : List ℕ) (chart : Chart) (stops : List ℕ) → chart .region ≡ outside → Stops (reading s chart) stops → Closed (reading s chart) stops
+stops-closed s chart stops q S = record { at = λ x l. rw (stop-closed s chart x q l) (S .at x) }
 
 module _ (s : List ℕ) (chart : Chart) (A : Accepted s chart) (inner : chart .region ≢ outside) where
   abbrev D : Decoded

@@ -2,10 +2,12 @@
 ghost use mathlib.Core.Path.{_≡_};
 ghost use mathlib.Core.Logic.{_≢_};
 ghost use mathlib.Core.Bool.{_&&_, cond};
+ghost use Prim.Native.Nat.{_<_};
 ghost use lib.Dec.{eqb, leb};
 ghost use lib.ListN.{getD};
 ghost use Rattle.chart.specs.Format.{outside};
 ghost use Rattle.chart.specs.Checked.{reading};
+ghost use Rattle.answers.specs.Numbers.{asked};
 ghost use Rattle.loading.specs.Tables.{Accepted, Closed};
 use crate::cut::within;
 use crate::load::load_stops;
@@ -51,4 +53,19 @@ pub fn load_closed(s: &[u8], chart: Chart, closed: &mut [u8; Chart::NODES])
         return;
     }
     close_region(s, chart, closed);
+}
+
+// The flag of one node.
+pub fn closed_at(s: &[u8], chart: Chart, x: usize) -> u8
+    requires { ⌜ Accepted (now s) chart × (x < chart .nodes) ⌝ }
+    ensures { λ r. ⌜ r ≡ cond (asked (reading (now (s .entry)) chart) x) 0 1 ⌝ }
+{
+    let node = Node::read(s, chart, x);
+    let region = chart.region;
+    if region == Chart::OUTERMOST {
+        return stop(node, region);
+    }
+    let mut places = [0u8; 256];
+    within(s, chart, &mut places);
+    shut(node, region, &places)
 }

@@ -52,9 +52,30 @@ module _ (before after : List Row) (size : ℕ) (result old : List ℕ) where
   unfolding writtenBy leftBy outputRows
   passed-before h = let q = second-decides before (roomRow (length old) size ∷ after) h in (rw q, rw q)
 
--- by an answer
+-- row 11 decides, or leaves it to the rows after it
+
+module _ (room size : ℕ) (after : List Row) where
+  pub room-refused : {refusal : Refusal} → writtenBy (outputRows [] room size []) size ≡ Refused refusal
+      → firstOf (outputRows [] room size after) ≡ some (refusal .number)
+  unfolding writtenBy outputRows
+  room-refused h = first-decides (roomRow room size ∷ []) after _ (refused-some (firstOf (roomRow room size ∷ [])) size h)
+
+  pub room-passed : {count : ℕ} → writtenBy (outputRows [] room size []) size ≡ Bytes count
+      → (firstOf (outputRows [] room size after) ≡ firstOf after) × (size ≡ count)
+  unfolding writtenBy outputRows
+  room-passed h = let (p, q) = bytes-none (firstOf (roomRow room size ∷ [])) h in (second-decides (roomRow room size ∷ []) after p, q)
+
+-- by the first row that applies, and by an answer
 
 module _ (rows : List Row) (size : ℕ) (result old : List ℕ) where
+  pub refused : {number : ℕ} → firstOf rows ≡ some number → (Refused (record { number = number }) ≡ writtenBy rows size) × (old ≡ leftBy rows result old)
+  unfolding writtenBy leftBy written content
+  refused h = (rw h, rw h)
+
+  pub passed : {count : ℕ} → size ≡ count → firstOf rows ≡ none → (Bytes count ≡ writtenBy rows size) × (result ++ drop (length result) old ≡ leftBy rows result old)
+  unfolding writtenBy leftBy written content
+  passed q h = (rw (h, q), rw h)
+
   pub kept : {refusal : Refusal} → writtenBy rows size ≡ Refused refusal → old ≡ leftBy rows result old
   unfolding writtenBy leftBy content
   kept h = rw (refused-some (firstOf rows) size h)
@@ -64,11 +85,11 @@ module _ (rows : List Row) (size : ℕ) (result old : List ℕ) where
   put h = rw (bytes-none (firstOf rows) h .0)
 
 -- where the rows before row 11 let pass: what is answered of what was read is what is answered of what was named
-pub passed-named : (before : List Row) (result : ℕ → List ℕ) (old : List ℕ) {read named : ℕ} → read ≡ named → firstOf before ≡ none → {r : Written} {new : List ℕ}
-    → let size = length (result read) in r ≡ writtenBy (outputRows [] (length old) size []) size
-    → new ≡ leftBy (outputRows [] (length old) size []) (result read) old
-    → let full = length (result named) in (r ≡ writtenBy (outputRows before (length old) full []) full)
-    × (new ≡ leftBy (outputRows before (length old) full []) (result named) old)
-passed-named before result old {named = named} q passes h k =
-    let b = passed-before before [] (length (result named)) (result named) old passes in
+pub passed-named : (before after : List Row) (result : ℕ → List ℕ) (old : List ℕ) {read named : ℕ} → read ≡ named → firstOf before ≡ none
+    → {r : Written} {new : List ℕ} → let size = length (result read) in r ≡ writtenBy (outputRows [] (length old) size after) size
+    → new ≡ leftBy (outputRows [] (length old) size after) (result read) old
+    → let full = length (result named) in (r ≡ writtenBy (outputRows before (length old) full after) full)
+    × (new ≡ leftBy (outputRows before (length old) full after) (result named) old)
+passed-named before after result old {named = named} q passes h k =
+    let b = passed-before before after (length (result named)) (result named) old passes in
     (rw q at h ∙ sym (b .0), rw q at k ∙ sym (b .1))

@@ -1,27 +1,30 @@
--- The pair rules as common bits: rule 1 is no common start or no common end, and rules 2 to 5 are each a construct of their kind that both
--- nodes hold. So the answer is read off the masks.
+-- The pair rules as common bits: rule 1 is no common start or no common end, rules 2 to 5 are each a construct of their kind that both nodes
+-- hold, and for a known size rule 7 is a master that one of them holds and the team lacks. So the answer is read off the masks.
 -- Assumes nothing.
 use mathlib.Core.Path.{_≡_, refl, sym, _∙_, subst}
-use mathlib.Core.Logic.{_↔_}
-use mathlib.Core.Bool.{true, false, _||_, not, cond}
+use mathlib.Core.Logic.{inl, inr, _↔_}
+use mathlib.Core.Bool.{Bool, true, false, _||_, not, cond}
 use mathlib.Core.List.{List}
 use Prim.Native.Nat.{ℕ, _<_}
 use native.Mathlib.Omega.{arith}
-use lib.Bits.{bitAnd}
+use lib.Bits.{bitAnd, bitOr, and-zero-r}
 use lib.ListN.{length, getD}
-use Rattle.lists.specs.Truth.{same-truth}
+use Rattle.lists.specs.Truth.{same-truth, or-cases, or-left, or-right}
 use Rattle.lists.specs.Means.{not-of}
-use Rattle.lists.specs.Mask.{Mask, mask-carry, mask-of}
+use Rattle.lists.specs.Mask.{Mask, mask-carry, mask-of, mask-either}
 use Rattle.lists.specs.Common.{mask-both, common, common-test}
 use Rattle.chart.specs.Region.{Kind, single, master, loop, section, Region}
 use Rattle.chart.specs.WellFormed.{WellFormed}
 use Rattle.chart.proofs.Sections.{section-below}
-use Rattle.answers.specs.Answer.{noCommon, noCommonPhase, bothInMasters, bothInSingle, bothInOrdereds, bothInSection, answer}
+use Rattle.answers.specs.Answer.{noCommon, noCommonPhase, bothInMasters, bothInSingle, bothInOrdereds, bothInSection, answer, lacksThread, answerIn, answerFor}
+use Rattle.answers.specs.SizeLaws.{lacks-of}
+use Rattle.answers.specs.declared.Size.{Size}
+use Rattle.answers.specs.declared.Size.the-variants.{Any, Of}
 use Rattle.answers.specs.Unexcluded.{Common}
 use Rattle.answers.specs.AnswerLaws.{do-below, no-common-of, masters-of, single-of, ordereds-of, section-of}
 use Rattle.phases.specs.Phases.{Direction, forward, backward, Boundary, barriers, barrierAt, marked, marks}
 use Rattle.phases.specs.PhasesLaws.{Marked, marked-means, barrier-number}
-use Rattle.profiles.specs.Marks.{Holds, Held, OfKind, startsIn, endsIn, heldIn, Marks}
+use Rattle.profiles.specs.Marks.{Holds, Held, OfKind, Lacked, Sized, startsIn, endsIn, heldIn, Marks}
 use Rattle.profiles.specs.declared.chains.Sets.{Sets}
 use Rattle.pairs.specs.declared.rules.Profile.{Profile}
 
@@ -29,15 +32,19 @@ use Rattle.pairs.specs.declared.rules.Profile.{Profile}
 unfoldable pub profileAt : List (List ℕ) → ℕ → Profile
 profileAt marks x = record { starts = getD (startsIn marks) x 0; ends = getD (endsIn marks) x 0; held = getD (heldIn marks) x 0 }
 
--- The answer by the masks of the two nodes, the rules in their order.
-unfoldable pub answerBy : Sets → Profile → Profile → ℕ
-answerBy sets x y =
+-- The answer for all teams by the masks of the two nodes, the rules in their order.
+unfoldable pub ruledBy : Sets → Profile → Profile → ℕ
+ruledBy sets x y =
     cond (not (common (x .starts) (y .starts)) || not (common (x .ends) (y .ends))) 1
     (cond (common (bitAnd (x .held) (y .held)) (sets .masters)) 2
     (cond (common (bitAnd (x .held) (y .held)) (sets .singles)) 3
     (cond (common (bitAnd (x .held) (y .held)) (sets .dos)) 4
     (cond (common (bitAnd (x .held) (y .held)) (sets .sections)) 5
     0))))
+
+-- The answer for the teams that the sets are of.
+unfoldable pub answerBy : Sets → Profile → Profile → ℕ
+answerBy sets x y = cond (sets .alone) 6 (cond (common (bitOr (x .held) (y .held)) (sets .missing)) 7 (ruledBy sets x y))
 
 module _ {R : Region} (W : WellFormed R) where
   mask-marks : (d : Direction) (x : ℕ) → Mask (Marked d R x) (length (barriers R)) (marks d R x)
@@ -95,11 +102,30 @@ module _ {R : Region} (W : WellFormed R) where
         (λ h. let (d, ((x, y), f)) = section-of W a b .0 h in t .1 (d, (section-below W x, ((x, f), ((y, f), x .is-section)))))
         (λ h. let (d, (l, (x, (y, q)))) = t .0 h in section-of W a b .1 (d, ((x .0, y .0), x .1)))
 
--- The answer, read off the masks of two nodes.
-pub answer-by : {R : Region} {marks : List (List ℕ)} {sets : Sets} → Marks R marks sets → (a b : ℕ) → a < R .nodes → b < R .nodes
-    → answer R a b ≡ answerBy sets (profileAt marks a) (profileAt marks b)
-unfolding profileAt answerBy answer
-answer-by M a b la lb =
+  -- a master that one of them holds, for a thread that a team of this size lacks
+  module _ (size a b : ℕ) {m n s : ℕ} (v : Held R a m) (w : Held R b n) (z : Mask (Lacked R size) (R .constructs) s) where
+    lacking : (x d : ℕ) → Lacked R size d → Holds R x d (R .kind d) → lacksThread R size x ≡ true
+    lacking x d (q, l) h = let (c, (i, e)) = subst (Holds R x d) q h in lacks-of W size x .1 (c, (i, rw e l))
+
+    lacked : (x : ℕ) → lacksThread R size x ≡ true → (d : ℕ) × ((d < R .constructs) × (Holds R x d (R .kind d) × Lacked R size d))
+    lacked x h = let (c, (i, l)) = lacks-of W size x .0 h in (c, (W .inside-below (i .1), (subst (Holds R x c) (sym (i .0)) (c, (i, refl)), (i .0, l))))
+
+    lacks-by : (lacksThread R size a || lacksThread R size b) ≡ common (bitOr m n) s
+    lacks-by = let t = common-test (mask-either v w) z in same-truth _ _
+        (λ h. elim (or-cases (lacksThread R size a) (lacksThread R size b) h) [
+          | inl p ↦ (let (d, (l, (x, q))) = lacked a p in t .1 (d, (l, (inl x, q))))
+          | inr p ↦ (let (d, (l, (x, q))) = lacked b p in t .1 (d, (l, (inr x, q))))
+        ])
+        (λ h. let (d, (l, (x, q))) = t .0 h in elim x [
+          | inl p ↦ or-left (lacksThread R size a) (lacksThread R size b) (lacking a d q p)
+          | inr p ↦ or-right (lacksThread R size a) (lacksThread R size b) (lacking b d q p)
+        ])
+
+-- The answer, read off the masks of two nodes: for all teams, and for those of a size.
+ruled-by : {R : Region} {marks : List (List ℕ)} {sets : Sets} → Marks R marks sets → (a b : ℕ) → a < R .nodes → b < R .nodes
+    → answer R a b ≡ ruledBy sets (profileAt marks a) (profileAt marks b)
+unfolding profileAt ruledBy answer
+ruled-by M a b la lb =
     let W = M .well-formed in
     let v = M .has-held a la in
     let w = M .has-held b lb in
@@ -114,3 +140,21 @@ answer-by M a b la lb =
       ← ordereds-by W a b v w (M .kinds .dos),
       ← section-by W a b v w (M .kinds .sections),
     )
+
+pub sized-by : (sets : Sets) (x y : Profile) {alone lacks : Bool} → sets .alone ≡ alone → common (bitOr (x .held) (y .held)) (sets .missing) ≡ lacks
+    → answerBy sets x y ≡ cond alone 6 (cond lacks 7 (ruledBy sets x y))
+unfolding answerBy
+sized-by sets x y p q = cc
+
+-- where no thread is lacking
+pub lacks-none : (both : ℕ) {missing : ℕ} → missing ≡ 0 → common both missing ≡ false
+lacks-none both q = rw (q, and-zero-r both)
+
+pub answer-by : {R : Region} {marks : List (List ℕ)} {sets : Sets} → Marks R marks sets → (size : Size) → Sized R size sets
+    → (a b : ℕ) → a < R .nodes → b < R .nodes → answerFor R size a b ≡ answerBy sets (profileAt marks a) (profileAt marks b)
+unfolding profileAt answerIn
+answer-by {marks = marks} {sets = sets} M Any Z a b la lb =
+    ruled-by M a b la lb ∙ sym (sized-by sets (profileAt marks a) (profileAt marks b) (Z .0) (lacks-none (bitOr (getD (heldIn marks) a 0) (getD (heldIn marks) b 0)) (Z .1)))
+answer-by {marks = marks} {sets = sets} M (Of m) Z a b la lb =
+    let lacks = lacks-by (M .well-formed) m a b (M .has-held a la) (M .has-held b lb) (Z .1) in
+    rw (ruled-by M a b la lb) (sym (sized-by sets (profileAt marks a) (profileAt marks b) (Z .0) (sym lacks)))

@@ -3,9 +3,10 @@ ghost use mathlib.Core.Path.{_≡_};
 ghost use mathlib.Core.Bool.{true};
 ghost use Prim.Native.Nat.{_<_};
 ghost use Rattle.chart.specs.Region.{Region};
-ghost use Rattle.answers.specs.Answer.{answer as answerOf};
-ghost use Rattle.profiles.specs.Marks.{Marks};
-ghost use Rattle.pairs.specs.Rules.{profileAt, answerBy};
+ghost use Rattle.answers.specs.Answer.{answerFor};
+ghost use Rattle.answers.specs.declared.Size.{Size};
+ghost use Rattle.profiles.specs.Marks.{Sized, Marks};
+ghost use Rattle.pairs.specs.Rules.{profileAt, ruledBy, answerBy};
 use bits::common;
 use profiles::chains::Sets;
 use profiles::marks::ENDS;
@@ -30,6 +31,10 @@ impl Answer {
     pub const ORDERED: u8 = 4;
 
     pub const SECTION: u8 = 5;
+
+    pub const ALONE: u8 = 6;
+
+    pub const MISSING: u8 = 7;
 
     pub const BARRIER: u8 = 255;
 }
@@ -65,9 +70,9 @@ pub fn same(x: Profile, y: Profile) -> bool
     x.held == y.held
 }
 
-// The rules in their order; past the first, a rule asks for a construct of its kind that both hold.
-pub fn answer_by(sets: Sets, x: Profile, y: Profile) -> u8
-    ensures { λ r. ⌜ r ≡ answerBy sets x y ⌝ }
+// The rules for all teams in their order; past the first, a rule asks for a construct of its kind that both hold.
+fn ruled_by(sets: Sets, x: Profile, y: Profile) -> u8
+    ensures { λ r. ⌜ r ≡ ruledBy sets x y ⌝ }
 {
     if !common(x.starts, y.starts) {
         return Answer::NO_COMMON_PHASE;
@@ -91,10 +96,27 @@ pub fn answer_by(sets: Sets, x: Profile, y: Profile) -> u8
     Answer::CONCURRENT
 }
 
+// Ahead of them, of a known size: the team has one thread, or one of the nodes is inside a master for a thread that it lacks. Where it lacks
+// none, as where no size is known, what the nodes hold is not read for that.
+pub fn answer_by(sets: Sets, x: Profile, y: Profile) -> u8
+    ensures { λ r. ⌜ r ≡ answerBy sets x y ⌝ }
+{
+    if sets.alone {
+        return Answer::ALONE;
+    }
+    if sets.missing == 0 {
+        return ruled_by(sets, x, y);
+    }
+    if common(x.held | y.held, sets.missing) {
+        return Answer::MISSING;
+    }
+    ruled_by(sets, x, y)
+}
+
 // The answer for nodes a and b.
 pub fn pair(a: usize, b: usize, marks: &MaskTable, sets: Sets) -> u8
     requires { ⌜ (a < 192) × (b < 192) ⌝ }
-    ensures { λ r. ⌜ ((R : Region) → Marks R (now (marks .entry)) sets → a < R .nodes → b < R .nodes → r ≡ answerOf R a b) ⌝ }
+    ensures { λ r. ⌜ ((R : Region) (size : Size) → Marks R (now (marks .entry)) sets → Sized R size sets → a < R .nodes → b < R .nodes → r ≡ answerFor R size a b) ⌝ }
 {
     let x = profile_of(a, marks);
     answer_by(sets, x, profile_of(b, marks))

@@ -6,6 +6,7 @@ ghost use Prim.Native.Nat.{_≤_};
 use admission::admit::Admission;
 use admission::admit::Counts;
 use admission::admit::admit;
+use answers::Size;
 use calls::writing::phases;
 use calls::writing::sheet;
 use chart::cursor::wide;
@@ -25,7 +26,7 @@ fn print_admitted(s: &[u8], counts: Counts)
     let mut masks = [0u8; 3072];
     let mut answers = [0u8; 36864];
     phases(s, Chart::OUTERMOST, &mut masks);
-    sheet(s, Chart::OUTERMOST, &mut answers);
+    sheet(s, Chart::OUTERMOST, Size::Any, &mut answers);
     lines::counts(counts);
     lines::nodes(&masks, &answers, counts.nodes);
     lines::pairs(&answers, counts.nodes);

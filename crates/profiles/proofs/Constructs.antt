@@ -224,6 +224,8 @@ module _ (s : List ℕ) (chart : Chart) (A : Accepted s chart) where
     singles = maskOf (isOf (decode s .constructs) singleByte) (chart .constructs);
     dos = maskOf (isOf (decode s .constructs) loopByte) (chart .constructs);
     sections = maskOf (isOf (decode s .constructs) sectionByte) (chart .constructs);
+    alone = false;
+    missing = 0;
   })
   unfolding kindOf
   all-kinds = rw (← constructs-length s chart (A .laid)) (record {

@@ -4,7 +4,7 @@ use mathlib.Core.Path.{_≡_}
 use mathlib.Core.Bool.{Bool, _&&_, _||_, not, cond}
 use mathlib.Core.List.{List}
 use Prim.Native.Nat.{ℕ, _^_, _<_}
-use lib.Dec.{eqb}
+use lib.Dec.{eqb, leb}
 use lib.ListN.{length, getD}
 use Rattle.lists.specs.Mask.{Mask}
 use Rattle.lists.specs.Bits.{has}
@@ -61,3 +61,7 @@ unfoldable pub isLike : List Construct → ℕ → ℕ → ℕ → ℕ → Bool
 isLike constructs kind name filter d =
     let k = constructAt constructs d in
     eqb (k .kind) kind && (eqb (k .name) name && eqb (k .filter) filter)
+
+-- Construct c is a master for a thread that a team of m lacks.
+unfoldable pub isOver : List Construct → ℕ → ℕ → Bool
+isOver constructs m c = let k = constructAt constructs c in eqb (k .kind) masterByte && leb m (k .filter)

@@ -2,9 +2,10 @@
 -- is then a common bit of two nodes' masks (crate pairs, specs/Rules.antt).
 -- Assumes nothing.
 use mathlib.Core.Path.{_≡_}
-use mathlib.Core.Bool.{true}
+use mathlib.Core.Bool.{true, false}
 use mathlib.Core.List.{List, []}
 use Prim.Native.Nat.{ℕ, _≤_, _<_}
+use lib.Dec.{leb}
 use lib.ListN.{getD}
 use Rattle.lists.specs.Mask.{Mask}
 use Rattle.chart.specs.Region.{Kind, single, master, critical, loop, ordered, sections, section, parallel, Region}
@@ -12,6 +13,8 @@ use Rattle.chart.specs.InOrdered.{InOrdered}
 use Rattle.chart.specs.InSection.{InSection}
 use Rattle.chart.specs.WellFormed.{WellFormed}
 use Rattle.answers.specs.Unexcluded.{Returns, In}
+use Rattle.answers.specs.declared.Size.{Size}
+use Rattle.answers.specs.declared.Size.the-variants.{Any, Of}
 use Rattle.phases.specs.Phases.{forward, backward}
 use Rattle.loading.specs.Tables.{Masks}
 use Rattle.profiles.specs.declared.chains.Sets.{Sets}
@@ -39,6 +42,15 @@ pub record Kinds (R : Region) (sets : Sets) : Type 0 where
   pub singles : OfKind R single (sets .singles)
   pub dos : OfKind R loop (sets .dos)
   pub sections : OfKind R section (sets .sections)
+
+-- Master d is for a thread that a team of m lacks.
+abbrev pub Lacked : Region → ℕ → ℕ → Type 0
+Lacked R m d = (R .kind d ≡ master) × (m ≤ R .thread d)
+
+-- What the sets say of the teams that an answer is for.
+abbrev pub Sized : Region → Size → Sets → Type 0
+Sized R Any sets = (sets .alone ≡ false) × (sets .missing ≡ 0)
+Sized R (Of m) sets = (sets .alone ≡ leb m 1) × Mask (Lacked R m) (R .constructs) (sets .missing)
 
 -- The rows of a table of masks.
 abbrev pub startsIn : List (List ℕ) → List ℕ

@@ -118,12 +118,15 @@ pub fn fill_chains(
     }
 }
 
-// The constructs of the kinds that the rules speak of; `sections` are those of kind section.
+// The constructs of the kinds that the rules speak of; `sections` are those of kind section. Of a team of a known size, whether it has but one
+// thread, and the masters for a thread that it lacks.
 pub struct Sets {
     pub masters: u64,
     pub singles: u64,
     pub dos: u64,
     pub sections: u64,
+    pub alone: bool,
+    pub missing: u64,
 }
 
 pub fn sets_of(s: &[u8], chart: Chart) -> Sets
@@ -149,5 +152,7 @@ pub fn sets_of(s: &[u8], chart: Chart) -> Sets
         singles,
         dos,
         sections,
+        alone: false,
+        missing: 0,
     }
 }

@@ -11,10 +11,12 @@ use lib.Seq.{ext-getD}
 use Rattle.lists.specs.Truth.{truth}
 use Rattle.lists.specs.Tab.{tab, tab-at, tab-length}
 use Rattle.chart.specs.Region.{Region}
+use Rattle.answers.specs.Answer.{answerFor}
 use Rattle.answers.specs.Numbers.{asked}
 use Rattle.answers.specs.Sheet.{entry, row}
+use Rattle.answers.specs.declared.Size.{Size}
 use Rattle.loading.specs.Tables.{Closed}
-use Rattle.profiles.specs.Marks.{Marks}
+use Rattle.profiles.specs.Marks.{Sized, Marks}
 use Rattle.profiles.specs.declared.chains.Sets.{Sets}
 use Rattle.pairs.specs.Rules.{profileAt, answer-by}
 use Rattle.eights.specs.Eights.{covered}
@@ -32,28 +34,27 @@ module _ {R : Region} {closed : List ℕ} (C : Closed R closed) (x : ℕ) (l : x
     | inr h ↦ let one : getD closed x 0 ≡ 1 = rw (C .at x l, h) in absurd (omega arith)
   ]
 
-pub entry-closed : (R : Region) (a b : ℕ) → asked R a ≡ false → entry R a b ≡ 255
+pub entry-closed : (R : Region) (f : ℕ → ℕ → ℕ) (a b : ℕ) → asked R a ≡ false → entry R f a b ≡ 255
 unfolding entry
-entry-closed R a b h = rw h
+entry-closed R f a b h = rw h
 
 -- the row of a node that a claim may name, by masks
-pub entry-by : {R : Region} {marks : List (List ℕ)} {sets : Sets} {closed : List ℕ} → Marks R marks sets → Closed R closed
-    → (a j : ℕ) → a < R .nodes → j < R .nodes → asked R a ≡ true → rowOf closed sets marks (profileAt marks a) j ≡ entry R a j
-unfolding rowOf covered entry
-entry-by {R} M C a j la lj o = elim (truth (asked R j)) [
-  | inl h ↦ rw (C .at j lj, h, o) (sym (answer-by M a j la lj))
-  | inr h ↦ rw (C .at j lj, h, o)
-]
+module _ {R : Region} {marks : List (List ℕ)} {sets : Sets} {closed : List ℕ} (M : Marks R marks sets) (size : Size) (Z : Sized R size sets) (C : Closed R closed) where
+  entry-by : (a j : ℕ) → a < R .nodes → j < R .nodes → asked R a ≡ true → rowOf closed sets marks (profileAt marks a) j ≡ entry R (answerFor R size) a j
+  unfolding rowOf covered entry
+  entry-by a j la lj o = elim (truth (asked R j)) [
+    | inl h ↦ rw (C .at j lj, h, o) (sym (answer-by M size Z a j la lj))
+    | inr h ↦ rw (C .at j lj, h, o)
+  ]
 
--- and the scratch row, once it is that of the node
-pub kept-row : {R : Region} {marks : List (List ℕ)} {sets : Sets} {closed : List ℕ} → Marks R marks sets → Closed R closed
-    → (a j : ℕ) (r own : Profile) → a < R .nodes → j < R .nodes → (getD closed a 0 ≡ 0 → r ≡ own) → own ≡ profileAt marks a → asked R a ≡ true
-    → rowOf closed sets marks r j ≡ entry R a j
-kept-row {R} {marks} {sets} {closed} M C a j r own la lj new is o =
-    let flag : getD closed a 0 ≡ 0 = rw (C .at a la, o) in
-    ap (λ (x : Profile). rowOf closed sets marks x j) (new flag ∙ is) ∙ entry-by M C a j la lj o
+  -- and the scratch row, once it is that of the node
+  pub kept-row : (a j : ℕ) (r own : Profile) → a < R .nodes → j < R .nodes → (getD closed a 0 ≡ 0 → r ≡ own) → own ≡ profileAt marks a → asked R a ≡ true
+      → rowOf closed sets marks r j ≡ entry R (answerFor R size) a j
+  kept-row a j r own la lj new is o =
+      let flag : getD closed a 0 ≡ 0 = rw (C .at a la, o) in
+      ap (λ (x : Profile). rowOf closed sets marks x j) (new flag ∙ is) ∙ entry-by a j la lj o
 
-pub row-by : (R : Region) (a : ℕ) (l : List ℕ) → length l ≡ R .nodes → ((b : ℕ) → b < R .nodes → getD l b 0 ≡ entry R a b) → l ≡ row R a
+pub row-by : (R : Region) (f : ℕ → ℕ → ℕ) (a : ℕ) (l : List ℕ) → length l ≡ R .nodes → ((b : ℕ) → b < R .nodes → getD l b 0 ≡ entry R f a b) → l ≡ row R f a
 unfolding row
-row-by R a l e at = ext-getD 0 l (tab (R .nodes) (entry R a)) (e ∙ sym (tab-length (R .nodes) (entry R a)))
-    (λ b h. at b (omega arith) ∙ sym (tab-at (R .nodes) (entry R a) 0 b (omega arith)))
+row-by R f a l e at = ext-getD 0 l (tab (R .nodes) (entry R f a)) (e ∙ sym (tab-length (R .nodes) (entry R f a)))
+    (λ b h. at b (omega arith) ∙ sym (tab-at (R .nodes) (entry R f a) 0 b (omega arith)))

@@ -1,15 +1,17 @@
 -- The first rule of 64 nodes by sets of them.
 -- Assumes nothing.
-use mathlib.Core.Path.{_≡_, refl, ap, _∙_}
+use mathlib.Core.Path.{_≡_, refl, ap, sym, _∙_}
 use mathlib.Core.Logic.{inl, inr}
 use mathlib.Core.Bool.{Bool, true, false, _&&_, _||_, not, cond}
-use Prim.Native.Nat.{ℕ, _+_, _*_, _-_, _/_, _%_, _^_}
+use Prim.Native.Nat.{ℕ, _+_, _*_, _-_, _/_, _%_, _^_, _<_}
 use native.Mathlib.Omega.{arith}
+use native.Mathlib.Nat.{div-eq-of-lt}
 use lib.Bits.{bitAnd, bitOr, bitXor, differ, xor-step, xor-shr}
 use lib.Dec.{eqb}
+use lib.Pow.{pow-pos}
 use borrow.Author.Tests.{eqb-true, eq-eqb, eqb-false}
 use Rattle.lists.specs.Truth.{truth, same-truth, and-both, both-and, or-cases as or-either, or-left as either-left, or-right as either-right}
-use Rattle.lists.specs.Mask.{or-cases, or-left, or-right}
+use Rattle.lists.specs.Mask.{maskOf, mask-of, or-cases, or-left, or-right}
 use Rattle.lists.specs.Bits.{has}
 use Rattle.lists.specs.Common.{and-both as common-both, both-and as both-common}
 use Rattle.sheets.specs.Sheet.{byRules}
@@ -18,7 +20,7 @@ pub has-and : (a b j : ℕ) → has (bitAnd a b) j ≡ (has a j && has b j)
 has-and a b j = same-truth _ _ (λ h. let (p, q) = common-both a b j (eqb-true _ 1 h) in both-and _ _ (eq-eqb _ 1 p) (eq-eqb _ 1 q))
     (λ h. let (p, q) = and-both _ _ h in eq-eqb _ 1 (both-common a b j (eqb-true _ 1 p) (eqb-true _ 1 q)))
 
-has-or : (a b j : ℕ) → has (bitOr a b) j ≡ (has a j || has b j)
+pub has-or : (a b j : ℕ) → has (bitOr a b) j ≡ (has a j || has b j)
 has-or a b j = same-truth _ _
     (λ h. elim (or-cases a b j (eqb-true _ 1 h)) [ inl p ↦ either-left (has a j) (has b j) (eq-eqb _ 1 p) | inr p ↦ either-right (has a j) (has b j) (eq-eqb _ 1 p) ])
     (λ h. elim (or-either (has a j) (has b j) h) [ inl p ↦ eq-eqb _ 1 (or-left a b j (eqb-true _ 1 p)) | inr p ↦ eq-eqb _ 1 (or-right a b j (eqb-true _ 1 p)) ])
@@ -93,3 +95,32 @@ planes-rank both masters singles dos sections j =
 
     all-four : {b o t f b₁ o₁ t₁ f₁ : ℕ} → b ≡ b₁ → o ≡ o₁ → t ≡ t₁ → f ≡ f₁ → sum b o t f ≡ sum b₁ o₁ t₁ f₁
     all-four p q r s = cc
+
+-- the set of all 64 nodes
+all-bits : (j : ℕ) → j < 64 → 18446744073709551615 / 2 ^ j % 2 ≡ 1
+unfolding maskOf
+all-bits j l = mask-of (λ b. true) 64 .all j l refl
+
+pub alone-digit : (j : ℕ) → j < 64 → sum (18446744073709551615 / 2 ^ j % 2) (0 / 2 ^ j % 2) (18446744073709551615 / 2 ^ j % 2) (18446744073709551615 / 2 ^ j % 2) ≡ 6
+alone-digit j l = let z : 0 / 2 ^ j ≡ 0 = div-eq-of-lt (pow-pos j) in omega (arith, all-bits j l)
+
+pub lacks-digit : (j : ℕ) → j < 64 → sum (18446744073709551615 / 2 ^ j % 2) (18446744073709551615 / 2 ^ j % 2) (18446744073709551615 / 2 ^ j % 2) (18446744073709551615 / 2 ^ j % 2) ≡ 7
+lacks-digit j l = omega (arith, all-bits j l)
+
+-- a number with the nodes of a set ahead
+pub ahead-digit : (b o t f lacking j : ℕ)
+    → sum (bitOr lacking b / 2 ^ j % 2) (bitOr lacking o / 2 ^ j % 2) (bitOr lacking t / 2 ^ j % 2) (bitOr lacking f / 2 ^ j % 2)
+    ≡ cond (has lacking j) 7 (sum (b / 2 ^ j % 2) (o / 2 ^ j % 2) (t / 2 ^ j % 2) (f / 2 ^ j % 2))
+ahead-digit b o t f lacking j = rw (either-bit b, either-bit o, either-bit t, either-bit f) (go (has lacking j))
+  where
+    either-bit : (m : ℕ) → bitOr lacking m / 2 ^ j % 2 ≡ cond (has lacking j) 1 (m / 2 ^ j % 2)
+    either-bit m = bit-is (bitOr lacking m) j ∙ ap number (has-or lacking m j) ∙ of (has lacking j) (has m j) ∙ ap (λ (n : ℕ). cond (has lacking j) 1 n) (sym (bit-is m j))
+      where
+        of : (x y : Bool) → number (x || y) ≡ cond x 1 (number y)
+        of true y = refl
+        of false y = refl
+
+    go : (x : Bool) → sum (cond x 1 (b / 2 ^ j % 2)) (cond x 1 (o / 2 ^ j % 2)) (cond x 1 (t / 2 ^ j % 2)) (cond x 1 (f / 2 ^ j % 2))
+        ≡ cond x 7 (sum (b / 2 ^ j % 2) (o / 2 ^ j % 2) (t / 2 ^ j % 2) (f / 2 ^ j % 2))
+    go true = refl
+    go false = refl

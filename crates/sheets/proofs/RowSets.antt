@@ -1,16 +1,18 @@
 -- A row from sets of nodes: an entry by what of the sets have its node.
 -- Assumes nothing.
 use mathlib.Core.Path.{_≡_, refl, ap, subst, _∙_}
+use mathlib.Core.Logic.{inl, inr}
 use mathlib.Core.Bool.{Bool, true, false, _&&_, _||_, not, cond}
 use mathlib.Core.List.{List, []}
 use Prim.Native.Nat.{ℕ, _+_, _*_, _-_, _/_, _%_, _^_, _<_}
 use native.Mathlib.Omega.{arith}
 use native.Mathlib.Decide.{ℕ-discrete, decLt}
-use lib.Bits.{bitAnd}
+use lib.Bits.{bitAnd, bitOr}
 use lib.Dec.{eqb}
 use lib.ListN.{length, getD, set}
 use lib.Seq.{getD-set-same, getD-set-other}
-use Rattle.lists.specs.Truth.{same-truth}
+use Rattle.lists.specs.Truth.{same-truth, or-cases as either, or-left, or-right}
+use Rattle.lists.specs.Mask.{or-cases, or-left as in-left, or-right as in-right}
 use Rattle.lists.specs.Bits.{has}
 use Rattle.lists.specs.Common.{and-both, both-and, common}
 use Rattle.profiles.specs.Marks.{startsIn, endsIn, heldIn}
@@ -21,9 +23,9 @@ use Rattle.nodesets.specs.Gathered.{Gathered}
 use Rattle.nodesets.specs.Shared.{common-of, shared}
 use Rattle.eights.specs.Eights.{covered, digit}
 use Rattle.eights.specs.declared.Planes.{Planes}
-use Rattle.pairs.specs.Rules.{profileAt, answerBy}
+use Rattle.pairs.specs.Rules.{profileAt, ruledBy, answerBy}
 use Rattle.pairs.specs.declared.rules.Profile.{Profile}
-use Rattle.sheets.specs.Sheet.{rowOf, byRules, InSets, SharedFrom, Sharing}
+use Rattle.sheets.specs.Sheet.{rowOf, byRules, bySize, InSets, SharedFrom, Sharing}
 use Rattle.sheets.proofs.Ranks.{has-and}
 
 -- three masks have a bit in common, whichever two are met first
@@ -40,22 +42,39 @@ not-both : (a b : Bool) → not (a && b) ≡ (not a || not b)
 not-both true b = refl
 not-both false b = refl
 
+-- one of two masks meets a third
+either-meets : (x y m : ℕ) → common (bitOr x y) m ≡ (common x m || common m y)
+either-meets x y m = same-truth _ _
+    (λ h. let (b, (p, q)) = common-of (bitOr x y) m .0 h in elim (or-cases x y b p) [
+      | inl r ↦ or-left (common x m) (common m y) (common-of x m .1 (b, (r, q)))
+      | inr r ↦ or-right (common x m) (common m y) (common-of m y .1 (b, (q, r)))
+    ])
+    (λ h. elim (either (common x m) (common m y) h) [
+      | inl r ↦ (let (b, (p, q)) = common-of x m .0 r in common-of (bitOr x y) m .1 (b, (in-left x y b p, q)))
+      | inr r ↦ (let (b, (p, q)) = common-of m y .0 r in common-of (bitOr x y) m .1 (b, (in-right x y b q, p)))
+    ])
+
 -- one entry, where the sets have no node that is closed
 module _ (closed : List ℕ) (marks : List (List ℕ)) (sets : Sets) (own : Profile) (x : ℕ) where
   abbrev meet : Bool → ℕ → Bool
   meet o kind = o && common (bitAnd (own .held) kind) (profileAt marks x .held)
 
-  row-entry : {s e m k d c : Bool} → let o = eqb (getD closed x 0) 0 in
+  -- the entry by what of the sets have the node, and by what the team lacks
+  abbrev made : (s e m k d c z : Bool) → ℕ
+  made s e m k d c z = bySize (sets .alone) (common (own .held) (sets .missing) || z) (byRules (s && e) m k d c)
+
+  row-entry : {s e m k d c z : Bool} → let o = eqb (getD closed x 0) 0 in
       s ≡ (o && common (own .starts) (profileAt marks x .starts)) → e ≡ (o && common (own .ends) (profileAt marks x .ends))
       → m ≡ meet o (sets .masters) → k ≡ meet o (sets .singles) → d ≡ meet o (sets .dos) → c ≡ meet o (sets .sections)
-      → covered closed x (byRules (s && e) m k d c) ≡ rowOf closed sets marks own x
-  unfolding rowOf covered byRules answerBy
-  row-entry {s} {e} {m} {k} {d} {c} = go (eqb (getD closed x 0) 0)
+      → z ≡ (o && common (sets .missing) (profileAt marks x .held)) → covered closed x (made s e m k d c z) ≡ rowOf closed sets marks own x
+  unfolding rowOf covered byRules bySize ruledBy answerBy
+  row-entry {s} {e} {m} {k} {d} {c} {z} = go (eqb (getD closed x 0) 0)
     where
-      ruled : s ≡ common (own .starts) (profileAt marks x .starts) → e ≡ common (own .ends) (profileAt marks x .ends)
-          → m ≡ meet true (sets .masters) → k ≡ meet true (sets .singles) → d ≡ meet true (sets .dos) → c ≡ meet true (sets .sections)
-          → byRules (s && e) m k d c ≡ answerBy sets own (profileAt marks x)
-      ruled S E M K D C =
+      go : (o : Bool) → s ≡ (o && common (own .starts) (profileAt marks x .starts)) → e ≡ (o && common (own .ends) (profileAt marks x .ends))
+          → m ≡ meet o (sets .masters) → k ≡ meet o (sets .singles) → d ≡ meet o (sets .dos) → c ≡ meet o (sets .sections)
+          → z ≡ (o && common (sets .missing) (profileAt marks x .held))
+          → cond o (made s e m k d c z) 255 ≡ cond o (answerBy sets own (profileAt marks x)) 255
+      go true S E M K D C Z =
           let y = profileAt marks x .held in
           rw (
             S,
@@ -64,45 +83,51 @@ module _ (closed : List ℕ) (marks : List (List ℕ)) (sets : Sets) (own : Prof
             K ∙ meets (own .held) (sets .singles) y,
             D ∙ meets (own .held) (sets .dos) y,
             C ∙ meets (own .held) (sets .sections) y,
+            Z,
+            either-meets (own .held) y (sets .missing),
             not-both (common (own .starts) (profileAt marks x .starts)) (common (own .ends) (profileAt marks x .ends)),
           )
-
-      go : (o : Bool) → s ≡ (o && common (own .starts) (profileAt marks x .starts)) → e ≡ (o && common (own .ends) (profileAt marks x .ends))
-          → m ≡ meet o (sets .masters) → k ≡ meet o (sets .singles) → d ≡ meet o (sets .dos) → c ≡ meet o (sets .sections)
-          → cond o (byRules (s && e) m k d c) 255 ≡ cond o (answerBy sets own (profileAt marks x)) 255
-      go true S E M K D C = ruled S E M K D C
-      go false S E M K D C = refl
+      go false S E M K D C Z = refl
 
 -- 64 entries
-word-row : (closed : List ℕ) (marks : List (List ℕ)) (sets : Sets) (own : Profile) (w : ℕ) (p : Planes) (s e m k d c : ℕ)
+word-row : (closed : List ℕ) (marks : List (List ℕ)) (sets : Sets) (own : Profile) (w : ℕ) (p q : Planes) (s e m k d c z : ℕ)
     → SharedFrom closed (startsIn marks) (own .starts) (64 * w) s → SharedFrom closed (endsIn marks) (own .ends) (64 * w) e
     → SharedFrom closed (heldIn marks) (bitAnd (own .held) (sets .masters)) (64 * w) m → SharedFrom closed (heldIn marks) (bitAnd (own .held) (sets .singles)) (64 * w) k
     → SharedFrom closed (heldIn marks) (bitAnd (own .held) (sets .dos)) (64 * w) d → SharedFrom closed (heldIn marks) (bitAnd (own .held) (sets .sections)) (64 * w) c
+    → SharedFrom closed (heldIn marks) (sets .missing) (64 * w) z
     → ((j : ℕ) → digit p j ≡ byRules (has (bitAnd s e) j) (has m j) (has k j) (has d j) (has c j))
-    → (j : ℕ) → j < 64 → covered closed (64 * w + j) (digit p j) ≡ rowOf closed sets marks own (64 * w + j)
+    → ((j : ℕ) → j < 64 → digit q j ≡ bySize (sets .alone) (common (own .held) (sets .missing) || has z j) (digit p j))
+    → (j : ℕ) → j < 64 → covered closed (64 * w + j) (digit q j) ≡ rowOf closed sets marks own (64 * w + j)
 unfolding profileAt
-word-row closed marks sets own w p s e m k d c S E M K D C ranks j l =
-    ap (covered closed (64 * w + j)) (ranks j ∙ ap (λ (b : Bool). byRules b (has m j) (has k j) (has d j) (has c j)) (has-and s e j))
-    ∙ row-entry closed marks sets own (64 * w + j) (S j l) (E j l) (M j l) (K j l) (D j l) (C j l)
+word-row closed marks sets own w p q s e m k d c z S E M K D C Z ranks sized j l =
+    let x = 64 * w + j in
+    let ruled = ranks j ∙ ap (λ (b : Bool). byRules b (has m j) (has k j) (has d j) (has c j)) (has-and s e j) in
+    ap (covered closed x) (sized j l ∙ ap (bySize (sets .alone) (common (own .held) (sets .missing) || has z j)) ruled)
+    ∙ row-entry closed marks sets own x (S j l) (E j l) (M j l) (K j l) (D j l) (C j l) (Z j l)
 
-module _ (closed : List ℕ) (marks : List (List ℕ)) (sets : Sets) (own : Profile) {s e m k d c : Words}
+module _ (closed : List ℕ) (marks : List (List ℕ)) (sets : Sets) (own : Profile) {s e m k d c z : Words}
     (S : Sharing closed (startsIn marks) (own .starts) s) (E : Sharing closed (endsIn marks) (own .ends) e)
     (M : Sharing closed (heldIn marks) (bitAnd (own .held) (sets .masters)) m) (K : Sharing closed (heldIn marks) (bitAnd (own .held) (sets .singles)) k)
     (D : Sharing closed (heldIn marks) (bitAnd (own .held) (sets .dos)) d) (C : Sharing closed (heldIn marks) (bitAnd (own .held) (sets .sections)) c)
+    (Z : Sharing closed (heldIn marks) (sets .missing) z) {lacks : Bool} (L : lacks ≡ common (own .held) (sets .missing))
   where
-    pub low-row : (p : Planes) → ((j : ℕ) → digit p j ≡ byRules (has (bitAnd (s .low) (e .low)) j) (has (m .low) j) (has (k .low) j) (has (d .low) j) (has (c .low) j))
-        → (j : ℕ) → j < 64 → covered closed (64 * 0 + j) (digit p j) ≡ rowOf closed sets marks own (64 * 0 + j)
-    low-row p ranks = word-row closed marks sets own 0 p (s .low) (e .low) (m .low) (k .low) (d .low) (c .low) (S .low) (E .low) (M .low) (K .low) (D .low) (C .low) ranks
+    pub low-row : (p q : Planes) → ((j : ℕ) → digit p j ≡ byRules (has (bitAnd (s .low) (e .low)) j) (has (m .low) j) (has (k .low) j) (has (d .low) j) (has (c .low) j))
+        → ((j : ℕ) → j < 64 → digit q j ≡ bySize (sets .alone) (lacks || has (z .low) j) (digit p j))
+        → (j : ℕ) → j < 64 → covered closed (64 * 0 + j) (digit q j) ≡ rowOf closed sets marks own (64 * 0 + j)
+    low-row p q ranks sized = word-row closed marks sets own 0 p q (s .low) (e .low) (m .low) (k .low) (d .low) (c .low) (z .low)
+        (S .low) (E .low) (M .low) (K .low) (D .low) (C .low) (Z .low) ranks (rw L at sized)
 
-    pub middle-row : (p : Planes) → ((j : ℕ) → digit p j ≡ byRules (has (bitAnd (s .middle) (e .middle)) j) (has (m .middle) j) (has (k .middle) j) (has (d .middle) j) (has (c .middle) j))
-        → (j : ℕ) → j < 64 → covered closed (64 * 1 + j) (digit p j) ≡ rowOf closed sets marks own (64 * 1 + j)
-    middle-row p ranks =
-        word-row closed marks sets own 1 p (s .middle) (e .middle) (m .middle) (k .middle) (d .middle) (c .middle) (S .middle) (E .middle) (M .middle) (K .middle) (D .middle) (C .middle) ranks
+    pub middle-row : (p q : Planes) → ((j : ℕ) → digit p j ≡ byRules (has (bitAnd (s .middle) (e .middle)) j) (has (m .middle) j) (has (k .middle) j) (has (d .middle) j) (has (c .middle) j))
+        → ((j : ℕ) → j < 64 → digit q j ≡ bySize (sets .alone) (lacks || has (z .middle) j) (digit p j))
+        → (j : ℕ) → j < 64 → covered closed (64 * 1 + j) (digit q j) ≡ rowOf closed sets marks own (64 * 1 + j)
+    middle-row p q ranks sized = word-row closed marks sets own 1 p q (s .middle) (e .middle) (m .middle) (k .middle) (d .middle) (c .middle) (z .middle)
+        (S .middle) (E .middle) (M .middle) (K .middle) (D .middle) (C .middle) (Z .middle) ranks (rw L at sized)
 
-    pub high-row : (p : Planes) → ((j : ℕ) → digit p j ≡ byRules (has (bitAnd (s .high) (e .high)) j) (has (m .high) j) (has (k .high) j) (has (d .high) j) (has (c .high) j))
-        → (j : ℕ) → j < 64 → covered closed (64 * 2 + j) (digit p j) ≡ rowOf closed sets marks own (64 * 2 + j)
-    high-row p ranks =
-        word-row closed marks sets own 2 p (s .high) (e .high) (m .high) (k .high) (d .high) (c .high) (S .high) (E .high) (M .high) (K .high) (D .high) (C .high) ranks
+    pub high-row : (p q : Planes) → ((j : ℕ) → digit p j ≡ byRules (has (bitAnd (s .high) (e .high)) j) (has (m .high) j) (has (k .high) j) (has (d .high) j) (has (c .high) j))
+        → ((j : ℕ) → j < 64 → digit q j ≡ bySize (sets .alone) (lacks || has (z .high) j) (digit p j))
+        → (j : ℕ) → j < 64 → covered closed (64 * 2 + j) (digit q j) ≡ rowOf closed sets marks own (64 * 2 + j)
+    high-row p q ranks sized = word-row closed marks sets own 2 p q (s .high) (e .high) (m .high) (k .high) (d .high) (c .high) (z .high)
+        (S .high) (E .high) (M .high) (K .high) (D .high) (C .high) (Z .high) ranks (rw L at sized)
 
 -- the sets of a row of masks, joined
 pub sharing-by : (closed : List ℕ) (marks nodes : List (List ℕ)) (mask row : ℕ) (r : Words) → InSets closed marks nodes → row < 3 → mask < 2 ^ 64

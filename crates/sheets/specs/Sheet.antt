@@ -23,6 +23,10 @@ rowOf closed sets marks own j = covered closed j (answerBy sets own (profileAt m
 unfoldable pub byRules : Bool → Bool → Bool → Bool → Bool → ℕ
 byRules both master single ordered section = cond (not both) 1 (cond master 2 (cond single 3 (cond ordered 4 (cond section 5 0))))
 
+-- Ahead of it, of a known size: the team has one thread, or it lacks one that either node needs.
+unfoldable pub bySize : Bool → Bool → ℕ → ℕ
+bySize alone lacks ruled = cond alone 6 (cond lacks 7 ruled)
+
 -- The sets of all nodes that are not closed, and the covers of the others.
 pub record InSets (closed : List ℕ) (marks nodes : List (List ℕ)) : Type 0 where
   pub sets : (k : ℕ) → k < 9 → Gathered closed (getD marks (k / 3) []) (64 * (k % 3)) (getD nodes k [])

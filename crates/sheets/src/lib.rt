@@ -6,6 +6,7 @@ ghost use Prim.Native.Nat.{ℕ, _*_, _≤_, _<_};
 ghost use lib.ListN.{length, getD, drop};
 ghost use Rattle.chart.specs.Region.{Region};
 ghost use Rattle.chart.specs.Checked.{reading};
+ghost use Rattle.answers.specs.Answer.{answerFor};
 ghost use Rattle.answers.specs.Numbers.{asked};
 ghost use Rattle.answers.specs.Sheet.{entry as entryOf, row, sheet};
 ghost use Rattle.loading.specs.Tables.{Accepted, Closed};
@@ -15,6 +16,7 @@ use crate::rows::SETS;
 use crate::rows::gather_all;
 use crate::rows::keep_row;
 use crate::rows::work_row;
+use answers::Size;
 use chart::format::Chart;
 use eights::BYTES;
 use eights::WORDS;
@@ -25,6 +27,7 @@ use pairs::rules::Profile;
 use pairs::rules::profile_of;
 use profiles::chains::Sets;
 use profiles::marks::MaskTable;
+use profiles::sizes::sets_for;
 
 pub mod rows;
 
@@ -56,9 +59,9 @@ fn bar_row(out: &mut [u8])
 // Row a of the sheet fills `out`, which is the row's part of the buffer and nothing else. Where a claim may name node a, `last` is its row.
 pub fn fill_row(a: usize, closed: &[u8; Chart::NODES], last: &[u8; Chart::NODES], out: &mut [u8])
     requires { ⌜ (length (now out) ≤ 192) × (a < length (now out)) ⌝ }
-    ensures { λ _. ⌜ ((R : Region) → R .nodes ≡ length (now (out .entry)) → Closed R (now (closed .entry))
-        → (asked R a ≡ true → (j : ℕ) → j < R .nodes → getD (now (last .entry)) j 0 ≡ entryOf R a j)
-        → now (out .exit) ≡ row R a) ⌝ }
+    ensures { λ _. ⌜ ((R : Region) (f : ℕ → ℕ → ℕ) → R .nodes ≡ length (now (out .entry)) → Closed R (now (closed .entry))
+        → (asked R a ≡ true → (j : ℕ) → j < R .nodes → getD (now (last .entry)) j 0 ≡ entryOf R f a j)
+        → now (out .exit) ≡ row R f a) ⌝ }
 {
     if closed[a] != 0 {
         bar_row(out);
@@ -68,12 +71,21 @@ pub fn fill_row(a: usize, closed: &[u8; Chart::NODES], last: &[u8; Chart::NODES]
 }
 
 // The sheet fills the front of `out`: row a is the part that starts at a * n, lent on to the row's filler.
-pub fn fill_sheet(s: &[u8], chart: Chart, marks: &MaskTable, sets: Sets, out: &mut [u8])
-    requires { ⌜ Accepted (now s) chart × Marks (reading (now s) chart) (now marks) sets × (chart .nodes * chart .nodes ≤ length (now out)) ⌝ }
+pub fn fill_sheet(
+    s: &[u8],
+    chart: Chart,
+    size: Size,
+    marks: &MaskTable,
+    kinds: Sets,
+    out: &mut [u8],
+)
+    requires { ⌜ Accepted (now s) chart × Marks (reading (now s) chart) (now marks) kinds × (chart .nodes * chart .nodes ≤ length (now out)) ⌝ }
     ensures { λ _.
-        let result = sheet (reading (now (s .entry)) chart) in
+        let R = reading (now (s .entry)) chart in
+        let result = sheet R (answerFor R size) in
         ⌜ now (out .exit) ≡ result ++ drop (length result) (now (out .entry)) ⌝ }
 {
+    let sets = sets_for(s, chart, size, kinds);
     let mut closed = [0u8; Chart::NODES];
     load_closed(s, chart, &mut closed);
     let mut nodes = [[0u64; WORDS]; SETS];

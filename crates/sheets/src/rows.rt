@@ -1,11 +1,13 @@
 // The row of a node, from sets of nodes: for each bit of a mask the nodes that have it.
 ghost use mathlib.Core.Path.{_≡_};
+ghost use mathlib.Core.Bool.{_||_};
 ghost use mathlib.Core.List.{List, []};
 ghost use Prim.Native.Nat.{ℕ, _<_};
 ghost use lib.ListN.{length, getD};
 ghost use Rattle.lists.specs.Bits.{has};
 ghost use Rattle.eights.specs.Eights.{Spread, digit};
-ghost use Rattle.sheets.specs.Sheet.{byRules, rowOf, InSets, Sharing};
+ghost use Rattle.sheets.specs.Sheet.{byRules, bySize, rowOf, InSets, Sharing};
+use bits::common;
 use chart::format::Chart;
 use eights::BYTES;
 use eights::Planes;
@@ -29,6 +31,9 @@ pub type NodeSets = [[u64; WORDS]; SETS];
 pub const SETS: usize = 10;
 
 pub const FENCE: usize = 9;
+
+// A set of 64 nodes that has them all.
+const ALL: u64 = 0xffff_ffff_ffff_ffff;
 
 // Set k is of row k / 3 of the masks and of the 64 nodes from 64 * (k % 3) on.
 pub fn gather_all(marks: &MaskTable, closed: &[u8; Chart::NODES], nodes: &mut NodeSets)
@@ -61,6 +66,34 @@ fn planes(both: u64, masters: u64, singles: u64, dos: u64, sections: u64) -> Pla
     }
 }
 
+// Ahead of it, of a known size: the team has one thread; it lacks one that the row's node needs; or it lacks one that these nodes need.
+fn ahead(p: Planes, alone: bool, lacks: bool, lacking: u64) -> Planes
+    ensures { λ r. ⌜ ((j : ℕ) → j < 64 → digit r j ≡ bySize alone (lacks || has lacking j) (digit p j)) ⌝ }
+{
+    if alone {
+        return Planes {
+            both: ALL,
+            odd: 0,
+            twos: ALL,
+            fours: ALL,
+        };
+    }
+    if lacks {
+        return Planes {
+            both: ALL,
+            odd: ALL,
+            twos: ALL,
+            fours: ALL,
+        };
+    }
+    Planes {
+        both: lacking | p.both,
+        odd: lacking | p.odd,
+        twos: lacking | p.twos,
+        fours: lacking | p.fours,
+    }
+}
+
 // The nodes that are not closed and share a bit with the mask, in this row of the table of masks.
 fn sharing(mask: u64, row: usize, nodes: &NodeSets) -> Words
     requires { ⌜ row < 3 ⌝ }
@@ -87,12 +120,17 @@ pub fn work_row(
     let k = sharing(own.held & sets.singles, HELD, nodes);
     let d = sharing(own.held & sets.dos, HELD, nodes);
     let c = sharing(own.held & sets.sections, HELD, nodes);
+    let z = sharing(sets.missing, HELD, nodes);
+    let lacks = common(own.held, sets.missing);
     let low = planes(s.low & e.low, m.low, k.low, d.low, c.low);
-    put_word(low, 0, &nodes[FENCE], spread, last);
+    let first = ahead(low, sets.alone, lacks, z.low);
+    put_word(first, 0, &nodes[FENCE], spread, last);
     let middle = planes(s.middle & e.middle, m.middle, k.middle, d.middle, c.middle);
-    put_word(middle, 1, &nodes[FENCE], spread, last);
+    let second = ahead(middle, sets.alone, lacks, z.middle);
+    put_word(second, 1, &nodes[FENCE], spread, last);
     let high = planes(s.high & e.high, m.high, k.high, d.high, c.high);
-    put_word(high, 2, &nodes[FENCE], spread, last);
+    let third = ahead(high, sets.alone, lacks, z.high);
+    put_word(third, 2, &nodes[FENCE], spread, last);
 }
 
 // The scratch row is that of the masks `kept`, and becomes that of a node unless no claim may name it. Neighbours often have the same masks,

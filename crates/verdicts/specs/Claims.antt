@@ -7,7 +7,6 @@ use lib.Dec.{eqb}
 use lib.ListN.{length, getD}
 use Rattle.lists.specs.Range.{any}
 use Rattle.chart.specs.Region.{Region}
-use Rattle.answers.specs.Answer.{answer}
 use Rattle.answers.specs.Numbers.{badNumber}
 
 -- How many claims there are; and the nodes of claim k, from 0: bytes 2k and 2k + 1.
@@ -20,9 +19,9 @@ left claims k = getD claims (2 * k) 0
 unfoldable pub right : List ℕ → ℕ → ℕ
 right claims k = getD claims (2 * k + 1) 0
 
--- Claim k is false: its pair is answered 0.
-unfoldable pub isFalse : Region → List ℕ → ℕ → Bool
-isFalse R claims k = eqb (answer R (left claims k) (right claims k)) 0
+-- Claim k is false: the answer f for its pair is 0.
+unfoldable pub isFalse : (ℕ → ℕ → ℕ) → List ℕ → ℕ → Bool
+isFalse f claims k = eqb (f (left claims k) (right claims k)) 0
 
 -- Row 12: odd number of bytes.
 unfoldable pub oddBytes : List ℕ → Bool

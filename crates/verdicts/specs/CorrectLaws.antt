@@ -21,11 +21,14 @@ use Rattle.chart.specs.Refusal.{firstOf}
 use Rattle.chart.proofs.Rows.{none-applies, both-pass}
 use Rattle.paths.specs.Path.{Open}
 use Rattle.paths.specs.Admission.{regionRows}
-use Rattle.exact.specs.Answered.{chart-exact}
+use Rattle.exact.specs.Answered.{ConcurrentFor, chart-exact}
+use Rattle.answers.specs.Answer.{answerFor}
 use Rattle.answers.specs.Numbers.{badNumber, good-open, good-number}
+use Rattle.answers.specs.declared.Size.{Size}
+use Rattle.answers.specs.declared.Size.the-variants.{Any, Of}
 use Rattle.verdicts.specs.Claims.{total, left, right, badNumbers, isFalse}
-use Rattle.verdicts.specs.Judged.{claimRows, judgeRows, verdict, answered, judged, numberOf}
-use Rattle.verdicts.specs.Correct.{ConcurrentAt, Correct}
+use Rattle.verdicts.specs.Judged.{claimRows, judgeRowsFor, verdict, answered, judgedFor, judged, numberOf}
+use Rattle.verdicts.specs.Correct.{Right, Correct, CorrectIn}
 use Rattle.verdicts.specs.declared.Verdict.the-variants.{Passed, Failed}
 
 -- The number for the first of n that passes f, where f tests for P.
@@ -78,37 +81,54 @@ module _ (R : Region) (claims : List ℕ) (h : badNumbers R claims ≡ false) (j
   pub good-numbers : WellFormed R → (getD claims j 0 < R .nodes) × Open R (getD claims j 0)
   good-numbers W = good-number R (getD claims j 0) W good
 
--- in a list that is not refused, a claim is false exactly when its pair is concurrent
-pub false-concurrent : (s : List ℕ) (p : ℕ) (claims : List ℕ) → firstOf (judgeRows s p claims) ≡ none → (k : ℕ) → k < total claims
-    → (isFalse (regionOf p (decode s)) claims k ≡ true) ↔ ConcurrentAt s p claims k
-unfolding judgeRows claimRows total left right isFalse
-false-concurrent s p claims h k l =
-    let R = regionOf p (decode s) in
-    let (admitted, rest) = both-pass (regionRows s p) (claimRows R claims) h in
-    let free = open-numbers R claims (none-applies (claimRows R claims) rest .1 .0) in
-    let E = chart-exact s p admitted (free (2 * k) (omega arith)) (free (2 * k + 1) (omega arith)) in
-    ((λ e. E .0 (eqb-true _ _ e)), λ M. eq-eqb _ _ (E .1 M))
+-- Pair k of the list is concurrent, in some team or in a team of the size; and the number is right for the list.
+abbrev pub ConcurrentAt : List ℕ → ℕ → Size → List ℕ → ℕ → Type 0
+ConcurrentAt s p size claims k = ConcurrentFor (regionOf p (decode s)) size (left claims k) (right claims k)
 
--- Demand 3.
-pub judged-correct : (s : List ℕ) (p : ℕ) (claims : List ℕ) → Correct s p claims (numberOf (judged s p claims))
-unfolding judged answered verdict numberOf
-judged-correct s p claims = record {
-  refuses = λ row h. rw h;
-  passes = λ h. rw h (passes (total claims) (isFalse (regionOf p (decode s)) claims) (ConcurrentAt s p claims) (false-concurrent s p claims h));
-  fails = λ h. rw h (fails (total claims) (isFalse (regionOf p (decode s)) claims) (ConcurrentAt s p claims) (false-concurrent s p claims h));
-}
+abbrev pub CorrectFor : List ℕ → ℕ → Size → List ℕ → ℤ → Type 0
+CorrectFor s p size claims = Right (judgeRowsFor s p size claims) (total claims) (ConcurrentAt s p size claims)
 
--- No other number is correct.
-pub correct-only : (s : List ℕ) (p : ℕ) (claims : List ℕ) (number : ℤ) → Correct s p claims number → number ≡ numberOf (judged s p claims)
-unfolding judged answered verdict numberOf
-correct-only s p claims number C = go (firstOf (judgeRows s p claims)) refl
-  where
-    J : Correct s p claims (numberOf (judged s p claims))
-    J = judged-correct s p claims
+module _ (s : List ℕ) (p : ℕ) (size : Size) (claims : List ℕ) where
+  abbrev false-at : ℕ → Bool
+  false-at = isFalse (answerFor (regionOf p (decode s)) size) claims
 
-    go : (o : Option ℕ) → firstOf (judgeRows s p claims) ≡ o → number ≡ numberOf (judged s p claims)
-    go (some row) h = C .refuses row h ∙ sym (J .refuses row h)
-    go none h = elim (truth (any (total claims) (isFalse (regionOf p (decode s)) claims))) [
-      | inl g ↦ (let z : numberOf (judged s p claims) ≡ pos (first (total claims) (isFalse (regionOf p (decode s)) claims) + 1) = rw (h, g) in C .fails h _ .1 (J .fails h _ .0 z) ∙ sym z)
-      | inr g ↦ (let z : numberOf (judged s p claims) ≡ pos 0 = rw (h, g) in C .passes h .1 (J .passes h .0 z) ∙ sym z)
-    ]
+  -- in a list that is not refused, a claim is false exactly when its pair is concurrent
+  pub false-concurrent : firstOf (judgeRowsFor s p size claims) ≡ none → (k : ℕ) → k < total claims → (false-at k ≡ true) ↔ ConcurrentAt s p size claims k
+  unfolding judgeRowsFor claimRows total left right isFalse
+  false-concurrent h k l =
+      let R = regionOf p (decode s) in
+      let (admitted, rest) = both-pass (regionRows s p) (claimRows R size claims) h in
+      let free = open-numbers R claims (none-applies (claimRows R size claims) rest .1 .0) in
+      let E = chart-exact s p admitted size _ _ (free (2 * k) (omega arith)) (free (2 * k + 1) (omega arith)) in
+      ((λ e. E .0 (eqb-true _ _ e)), λ M. eq-eqb _ _ (E .1 M))
+
+  -- Demand 3, of any team and of teams of one size.
+  pub judged-correct : CorrectFor s p size claims (numberOf (judgedFor s p size claims))
+  unfolding judgedFor answered verdict numberOf
+  judged-correct = record {
+    refuses = λ row h. rw h;
+    passes = λ h. rw h (passes (total claims) false-at (ConcurrentAt s p size claims) (false-concurrent h));
+    fails = λ h. rw h (fails (total claims) false-at (ConcurrentAt s p size claims) (false-concurrent h));
+  }
+
+  -- No other number is correct.
+  pub correct-only : (number : ℤ) → CorrectFor s p size claims number → number ≡ numberOf (judgedFor s p size claims)
+  unfolding judgedFor answered verdict numberOf
+  correct-only number C = go (firstOf (judgeRowsFor s p size claims)) refl
+    where
+      J : CorrectFor s p size claims (numberOf (judgedFor s p size claims))
+      J = judged-correct
+
+      go : (o : Option ℕ) → firstOf (judgeRowsFor s p size claims) ≡ o → number ≡ numberOf (judgedFor s p size claims)
+      go (some row) h = C .refuses row h ∙ sym (J .refuses row h)
+      go none h = elim (truth (any (total claims) false-at)) [
+        | inl g ↦ (let z : numberOf (judgedFor s p size claims) ≡ pos (first (total claims) false-at + 1) = rw (h, g) in C .fails h _ .1 (J .fails h _ .0 z) ∙ sym z)
+        | inr g ↦ (let z : numberOf (judgedFor s p size claims) ≡ pos 0 = rw (h, g) in C .passes h .1 (J .passes h .0 z) ∙ sym z)
+      ]
+
+-- So Judge's number is correct, without a size and with one.
+pub correct-any : (s : List ℕ) (p : ℕ) (claims : List ℕ) → Correct s p claims (numberOf (judged s p claims))
+correct-any s p claims = judged-correct s p Any claims
+
+pub correct-in : (s : List ℕ) (p m : ℕ) (claims : List ℕ) → CorrectIn s p m claims (numberOf (judgedFor s p (Of m) claims))
+correct-in s p m claims = judged-correct s p (Of m) claims

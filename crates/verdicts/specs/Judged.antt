@@ -1,8 +1,8 @@
--- What Judge answers (01: Judge) of the region p of a chart (02, Note 12): the first of rows 1 to 10, 23, 12 and 13 that applies, or the verdict on
--- the list; and 01's number for it.
+-- What Judge answers (01: Judge) of the region p of a chart (02, Note 12), for teams of any size or of one (02, Note 10): the first of rows 1 to
+-- 10, 23, 12, 13 and, with a size, 21 that applies, or the verdict on the list; and 01's number for it.
 -- Assumes nothing.
 use mathlib.Core.Bool.{cond}
-use mathlib.Core.List.{List, [], _∷_, _++_}
+use mathlib.Core.List.{List, _∷_, _++_}
 use mathlib.Core.Option.{Option, none, some}
 use Prim.Native.Nat.{ℕ, _+_}
 use lib.IntN.{ℤ, pos, negℤ}
@@ -12,32 +12,42 @@ use Rattle.chart.specs.Region.{Region}
 use Rattle.chart.specs.Reading.{regionOf}
 use Rattle.chart.specs.Refusal.{Row, firstOf}
 use Rattle.paths.specs.Admission.{regionRows}
+use Rattle.answers.specs.Answer.{answerFor}
+use Rattle.answers.specs.Size.{sizeRows}
+use Rattle.answers.specs.declared.Size.{Size}
+use Rattle.answers.specs.declared.Size.the-variants.{Any}
 use Rattle.verdicts.specs.Claims.{total, oddBytes, badNumbers, isFalse}
 use Rattle.verdicts.specs.declared.Verdict.{Verdict}
 use Rattle.verdicts.specs.declared.Verdict.the-variants.{Passed, Failed, Refused}
 
--- Rows 12 and 13, over the list.
-unfoldable pub claimRows : Region → List ℕ → List Row
-claimRows R claims =
+-- Rows 12 and 13, over the list; then 21, of a size.
+unfoldable pub claimRows : Region → Size → List ℕ → List Row
+claimRows R size claims =
     record { number = 12; applies = oddBytes claims }
     ∷ record { number = 13; applies = badNumbers R claims }
-    ∷ []
+    ∷ sizeRows size
 
--- Rows 1 to 10, then 23, then 12, then 13.
-unfoldable pub judgeRows : List ℕ → ℕ → List ℕ → List Row
-judgeRows s p claims = regionRows s p ++ claimRows (regionOf p (decode s)) claims
+-- Rows 1 to 10, then 23, then those.
+unfoldable pub judgeRowsFor : List ℕ → ℕ → Size → List ℕ → List Row
+judgeRowsFor s p size claims = regionRows s p ++ claimRows (regionOf p (decode s)) size claims
 
--- Of a list that is not refused: it fails with the index of the first pair answered 0, and passes where there is none.
-unfoldable pub verdict : Region → List ℕ → Verdict
-verdict R claims = cond (any (total claims) (isFalse R claims)) (Failed (first (total claims) (isFalse R claims))) Passed
+abbrev pub judgeRows : List ℕ → ℕ → List ℕ → List Row
+judgeRows s p claims = judgeRowsFor s p Any claims
+
+-- Of a list that is not refused: it fails with the index of the first pair that f answers 0, and passes where there is none.
+unfoldable pub verdict : (ℕ → ℕ → ℕ) → List ℕ → Verdict
+verdict f claims = cond (any (total claims) (isFalse f claims)) (Failed (first (total claims) (isFalse f claims))) Passed
 
 unfoldable pub answered : Option ℕ → Verdict → Verdict
 answered none verdict = verdict
 answered (some number) verdict = Refused (record { number = number })
 
--- Judge, over any bytes of a chart and of claims, and any number that is to name a region.
-unfoldable pub judged : List ℕ → ℕ → List ℕ → Verdict
-judged s p claims = answered (firstOf (judgeRows s p claims)) (verdict (regionOf p (decode s)) claims)
+-- Judge, over any bytes of a chart and of claims, any number that is to name a region, and any size; and without a size.
+unfoldable pub judgedFor : List ℕ → ℕ → Size → List ℕ → Verdict
+judgedFor s p size claims = answered (firstOf (judgeRowsFor s p size claims)) (verdict (answerFor (regionOf p (decode s)) size) claims)
+
+abbrev pub judged : List ℕ → ℕ → List ℕ → Verdict
+judged s p claims = judgedFor s p Any claims
 
 -- 01's number for every case: 0 for a pass, the index plus 1 for a fail, a refusal's number negated.
 unfoldable pub numberOf : Verdict → ℤ

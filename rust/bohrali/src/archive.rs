@@ -16,10 +16,26 @@ extern "C" {
         claims: *const u8,
         claims_len: usize,
     ) -> i64;
+    pub fn bohrali_judge_sized(
+        chart: *const u8,
+        chart_len: usize,
+        region: usize,
+        size: usize,
+        claims: *const u8,
+        claims_len: usize,
+    ) -> i64;
     pub fn bohrali_pair(
         chart: *const u8,
         chart_len: usize,
         region: usize,
+        a: usize,
+        b: usize,
+    ) -> i64;
+    pub fn bohrali_pair_sized(
+        chart: *const u8,
+        chart_len: usize,
+        region: usize,
+        size: usize,
         a: usize,
         b: usize,
     ) -> i64;
@@ -34,6 +50,14 @@ extern "C" {
         chart: *const u8,
         chart_len: usize,
         region: usize,
+        out: *mut u8,
+        out_len: usize,
+    ) -> i64;
+    pub fn bohrali_sheet_sized(
+        chart: *const u8,
+        chart_len: usize,
+        region: usize,
+        size: usize,
         out: *mut u8,
         out_len: usize,
     ) -> i64;

@@ -1,7 +1,8 @@
 //! Whether two threads of one OpenMP team can be at two nodes of a parallel region together, in a run
 //! that finishes: the calls of the proved library, on slices. What a chart is and what each call does
 //! is documented in include/bohrali.h; here C's one number becomes a `Result`, C's constants are
-//! `limits`, `layout`, `Answer` and `Refusal`, by the same words, and a region's number is a `Region`.
+//! `limits`, `layout`, `Answer` and `Refusal`, by the same words, a region's number is a `Region` and a
+//! team's size a `Size`.
 
 mod answer;
 mod archive;
@@ -9,10 +10,12 @@ pub mod layout;
 pub mod limits;
 mod refusal;
 mod region;
+mod size;
 
 pub use answer::Answer;
 pub use refusal::Refusal;
 pub use region::Region;
+pub use size::Size;
 
 /// The counts of an admitted chart, barriers and phases of the outermost region.
 #[derive(Clone, Copy, Debug, PartialEq, Eq)]
@@ -69,10 +72,28 @@ pub fn judge(chart: &[u8], region: Region, claims: &[u8]) -> Result<Verdict, Ref
             claims.len(),
         )
     };
-    accepted(number).map(|after| match after.checked_sub(1) {
-        None => Verdict::Pass,
-        Some(index) => Verdict::Fail(index),
-    })
+    accepted(number).map(verdict)
+}
+
+/// The same for teams of just one size.
+pub fn judge_sized(
+    chart: &[u8],
+    region: Region,
+    size: Size,
+    claims: &[u8],
+) -> Result<Verdict, Refusal> {
+    // SAFETY: as above; the size is a number.
+    let number = unsafe {
+        archive::bohrali_judge_sized(
+            chart.as_ptr(),
+            chart.len(),
+            region.number(),
+            size.0,
+            claims.as_ptr(),
+            claims.len(),
+        )
+    };
+    accepted(number).map(verdict)
 }
 
 /// The answer for two nodes of a region, which may be equal.
@@ -80,6 +101,21 @@ pub fn pair(chart: &[u8], region: Region, a: usize, b: usize) -> Result<Answer, 
     // SAFETY: as above; a and b are numbers.
     let number =
         unsafe { archive::bohrali_pair(chart.as_ptr(), chart.len(), region.number(), a, b) };
+    accepted(number).map(|answer| Answer::ALL[answer])
+}
+
+/// The same for teams of just one size.
+pub fn pair_sized(
+    chart: &[u8],
+    region: Region,
+    size: Size,
+    a: usize,
+    b: usize,
+) -> Result<Answer, Refusal> {
+    // SAFETY: as above.
+    let number = unsafe {
+        archive::bohrali_pair_sized(chart.as_ptr(), chart.len(), region.number(), size.0, a, b)
+    };
     accepted(number).map(|answer| Answer::ALL[answer])
 }
 
@@ -111,6 +147,34 @@ pub fn sheet(chart: &[u8], region: Region, out: &mut [u8]) -> Result<usize, Refu
             out.len(),
         )
     })
+}
+
+/// The same for teams of just one size.
+pub fn sheet_sized(
+    chart: &[u8],
+    region: Region,
+    size: Size,
+    out: &mut [u8],
+) -> Result<usize, Refusal> {
+    // SAFETY: as above.
+    accepted(unsafe {
+        archive::bohrali_sheet_sized(
+            chart.as_ptr(),
+            chart.len(),
+            region.number(),
+            size.0,
+            out.as_mut_ptr(),
+            out.len(),
+        )
+    })
+}
+
+/// C's number of a list that is not refused.
+fn verdict(after: usize) -> Verdict {
+    match after.checked_sub(1) {
+        None => Verdict::Pass,
+        Some(index) => Verdict::Fail(index),
+    }
 }
 
 /// C's number: what a call gives, or a refusal's number negated.

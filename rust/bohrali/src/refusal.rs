@@ -36,13 +36,15 @@ pub enum Refusal {
     Claims = 12,
     /// A node number that no node of the region has, or that of a barrier.
     Numbers = 13,
+    /// A team size below 1 or over 1,024.
+    Size = 21,
     /// A region's number that names no parallel construct.
     Region = 23,
 }
 
 impl Refusal {
     /// All refusals, in the order of their numbers.
-    pub const ALL: [Refusal; 14] = [
+    pub const ALL: [Refusal; 15] = [
         Refusal::Short,
         Refusal::Marks,
         Refusal::Counts,
@@ -56,6 +58,7 @@ impl Refusal {
         Refusal::Room,
         Refusal::Claims,
         Refusal::Numbers,
+        Refusal::Size,
         Refusal::Region,
     ];
 
@@ -83,6 +86,7 @@ impl Refusal {
             Refusal::Room => "the buffer is shorter than the result",
             Refusal::Claims => "the claims are an odd number of bytes",
             Refusal::Numbers => "a node number is a barrier's or that of no node of the region",
+            Refusal::Size => "the team size is below 1 or over 1024",
             Refusal::Region => "the region's number names no parallel",
         }
     }

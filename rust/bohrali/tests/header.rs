@@ -6,13 +6,15 @@ use bohrali::{limits, Answer, Refusal, Region};
 use std::collections::BTreeMap;
 use std::{fs, path::PathBuf};
 
-const LIMITS: [(&str, usize); 7] = [
+const LIMITS: [(&str, usize); 9] = [
     ("LEAST_NODES", limits::LEAST_NODES),
     ("MOST_NODES", limits::MOST_NODES),
     ("LEAST_EDGES", limits::LEAST_EDGES),
     ("MOST_EDGES", limits::MOST_EDGES),
     ("MOST_CONSTRUCTS", limits::MOST_CONSTRUCTS),
     ("MOST_BARRIERS", limits::MOST_BARRIERS),
+    ("LEAST_SIZE", limits::LEAST_SIZE),
+    ("MOST_SIZE", limits::MOST_SIZE),
     ("MOST_CHART_BYTES", limits::MOST_CHART_BYTES),
 ];
 

@@ -1,5 +1,5 @@
 //! More edges only loosen (02, Note 8), of the second implementation: the known charts, and drawn ones with
-//! some edges added, for all pairs of each region.
+//! some edges added, for all pairs of each region, for teams of any size and of one.
 
 use charts::more_edges::{assert_loosened, few_edges, with_more_edges};
 use charts::random::Random;
@@ -8,6 +8,7 @@ use reference::chart::Construct;
 use reference::known::{chart_s, masters_apart};
 use reference::refusals::decode_checked;
 use reference::regions::OUTERMOST;
+use reference::sizes;
 
 const CHARTS: usize = 2_500;
 
@@ -15,6 +16,14 @@ fn sheet_of(chart: &[u8], region: u8) -> Vec<u8> {
     let nodes = (admit(chart) % 256) as usize;
     let mut out = vec![0; nodes * nodes];
     assert_eq!(sheet(chart, region.into(), &mut out), out.len() as i64);
+    out
+}
+
+fn sized_sheet_of(chart: &[u8], region: u8, size: u64) -> Vec<u8> {
+    let nodes = (admit(chart) % 256) as usize;
+    let mut out = vec![0; nodes * nodes];
+    let written = sizes::sheet(chart, region.into(), size, &mut out);
+    assert_eq!(written, out.len() as i64);
     out
 }
 
@@ -43,6 +52,9 @@ fn drawn_charts() {
             let (fewer, other) = assert_loosened(&sheets[0], &sheets[1]);
             lost += fewer;
             changed += other;
+            let size = 1 + turn as u64 % 4;
+            let sheets = [&larger, &smaller].map(|x| sized_sheet_of(x, region, size));
+            assert_loosened(&sheets[0], &sheets[1]);
             inner += usize::from(region != OUTERMOST && fewer > 0);
         }
     }

@@ -6,8 +6,9 @@ mod agreement;
 mod guarded;
 pub mod programs;
 pub mod regions;
+pub mod sizes;
 
-use bohrali::{Counts, Refusal, Region, Verdict};
+use bohrali::{Counts, Refusal, Region, Size, Verdict};
 use guarded::Guarded;
 
 /// Longer than any chart, list or result of the tests.
@@ -54,15 +55,27 @@ impl Archive {
     }
 
     pub fn judge(&mut self, chart: &[u8], region: usize, claims: &[u8]) -> i64 {
-        let Archive {
-            chart: charts,
-            claims: lists,
-            ..
-        } = self;
-        charts.with(chart, |chart| {
+        self.judge_by(chart, claims, |chart, claims| {
+            bohrali::judge(chart, region.into(), claims)
+        })
+    }
+
+    pub fn judge_sized(&mut self, chart: &[u8], region: usize, size: usize, claims: &[u8]) -> i64 {
+        self.judge_by(chart, claims, |chart, claims| {
+            bohrali::judge_sized(chart, region.into(), Size(size), claims)
+        })
+    }
+
+    fn judge_by(
+        &mut self,
+        chart: &[u8],
+        claims: &[u8],
+        call: impl Fn(&[u8], &[u8]) -> Result<Verdict, Refusal>,
+    ) -> i64 {
+        let lists = &mut self.claims;
+        self.chart.with(chart, |chart| {
             lists.with(claims, |claims| {
-                let verdict = bohrali::judge(chart, region.into(), claims);
-                number(verdict, |verdict| match verdict {
+                number(call(chart, claims), |verdict| match verdict {
                     Verdict::Pass => 0,
                     Verdict::Fail(index) => index + 1,
                 })
@@ -77,6 +90,20 @@ impl Archive {
         })
     }
 
+    pub fn pair_sized(
+        &mut self,
+        chart: &[u8],
+        region: usize,
+        size: usize,
+        a: usize,
+        b: usize,
+    ) -> i64 {
+        self.chart.with(chart, |lent| {
+            let answer = bohrali::pair_sized(lent, region.into(), Size(size), a, b);
+            number(answer, |answer| answer as usize)
+        })
+    }
+
     /// Phases, in the same way.
     pub fn phases(&mut self, chart: &[u8], region: usize, out: &mut [u8]) -> i64 {
         self.write(chart, region, out, bohrali::phases)
@@ -85,6 +112,13 @@ impl Archive {
     /// Sheet, in the same way.
     pub fn sheet(&mut self, chart: &[u8], region: usize, out: &mut [u8]) -> i64 {
         self.write(chart, region, out, bohrali::sheet)
+    }
+
+    /// Sheet for teams of a size, in the same way.
+    pub fn sheet_sized(&mut self, chart: &[u8], region: usize, size: usize, out: &mut [u8]) -> i64 {
+        self.write(chart, region, out, |chart, region, out| {
+            bohrali::sheet_sized(chart, region, Size(size), out)
+        })
     }
 
     fn write(

@@ -1,10 +1,12 @@
 //! Every call of the archive against the second implementation: results, and every lent byte, on
-//! valid, damaged and random charts, for any region, with buffers longer and shorter than the result.
+//! valid, damaged and random charts, for any region and size, with buffers longer and shorter than the
+//! result.
 
 use charts::random::Random;
 use compare::regions::{any_region, OUTERMOST};
+use compare::sizes::any_size;
 use compare::Archive;
-use reference::{calls, distances};
+use reference::{calls, distances, sizes};
 use std::io::Write;
 
 const CHARTS: usize = 100_000;
@@ -15,14 +17,12 @@ const SEED: u64 = 2_026_111_501;
 /// What a lent buffer holds before a call.
 const FILL: u8 = 0xA5;
 
-/// A call that writes, by the plain implementation.
-type Writer = fn(&[u8], u64, &mut [u8]) -> i64;
-
-/// The archive, the region that is asked about, and how often each outcome was seen, 0 for what is not
-/// refused.
+/// The archive, the region and the size that are asked about, and how often each outcome was seen, 0 for
+/// what is not refused.
 struct Comparison {
     archive: Archive,
     region: usize,
+    size: usize,
     outcomes: [usize; 24],
 }
 
@@ -31,13 +31,17 @@ impl Comparison {
         Comparison {
             archive: Archive::new(),
             region: OUTERMOST,
+            size: 2,
             outcomes: [0; 24],
         }
     }
 
     fn agree(&mut self, call: &str, chart: &[u8], ours: i64, theirs: i64) {
-        let region = self.region;
-        assert_eq!(ours, theirs, "{call}, region {region}, chart {chart:02X?}");
+        let (region, size) = (self.region, self.size);
+        assert_eq!(
+            ours, theirs,
+            "{call}, region {region}, size {size}, chart {chart:02X?}"
+        );
         self.outcomes[(-ours).max(0) as usize] += 1;
     }
 
@@ -69,7 +73,24 @@ impl Comparison {
         self.written("sheet", chart, calls::sheet, number, &ours);
     }
 
-    fn written(&mut self, call: &str, chart: &[u8], plain: Writer, number: i64, ours: &[u8]) {
+    fn sheet_sized(&mut self, chart: &[u8], room: usize) {
+        let mut ours = vec![FILL; room];
+        let (region, size) = (self.region, self.size);
+        let number = self.archive.sheet_sized(chart, region, size, &mut ours);
+        let plain = |chart: &[u8], region: u64, out: &mut [u8]| {
+            sizes::sheet(chart, region, size as u64, out)
+        };
+        self.written("sheet of a size", chart, plain, number, &ours);
+    }
+
+    fn written(
+        &mut self,
+        call: &str,
+        chart: &[u8],
+        plain: impl Fn(&[u8], u64, &mut [u8]) -> i64,
+        number: i64,
+        ours: &[u8],
+    ) {
         let mut theirs = vec![FILL; ours.len()];
         let expected = plain(chart, self.region as u64, &mut theirs);
         self.agree(call, chart, number, expected);
@@ -80,12 +101,20 @@ impl Comparison {
         let number = self.archive.pair(chart, self.region, a, b);
         let theirs = calls::pair(chart, self.region as u64, a as u64, b as u64);
         self.agree(&format!("pair {a} {b}"), chart, number, theirs);
+        let (region, size) = (self.region, self.size);
+        let number = self.archive.pair_sized(chart, region, size, a, b);
+        let theirs = sizes::pair(chart, region as u64, size as u64, a as u64, b as u64);
+        self.agree(&format!("sized pair {a} {b}"), chart, number, theirs);
     }
 
     fn judge(&mut self, chart: &[u8], claims: &[u8]) {
         let number = self.archive.judge(chart, self.region, claims);
         let theirs = calls::judge(chart, self.region as u64, claims);
         self.agree(&format!("judge {claims:?}"), chart, number, theirs);
+        let (region, size) = (self.region, self.size);
+        let number = self.archive.judge_sized(chart, region, size, claims);
+        let theirs = sizes::judge(chart, region as u64, size as u64, claims);
+        self.agree(&format!("sized judge {claims:?}"), chart, number, theirs);
     }
 }
 
@@ -109,6 +138,7 @@ fn all_calls_agree() {
         let (_, chart) = charts::draw(&mut random);
         let nodes = comparison.admit(&chart);
         comparison.region = any_region(&mut random, &chart);
+        comparison.size = any_size(&mut random);
         for room in rooms(calls::PHASE_BYTES * nodes) {
             comparison.phases(&chart, room);
         }
@@ -120,13 +150,14 @@ fn all_calls_agree() {
         if index % SHEETS == 0 {
             for room in rooms(nodes * nodes) {
                 comparison.sheet(&chart, room);
+                comparison.sheet_sized(&chart, room);
             }
         }
     }
     let outcomes = comparison.outcomes;
     let line = format!("{CHARTS} charts from seed {SEED}; outcomes 0 to 23: {outcomes:?}");
     writeln!(std::io::stderr(), "{line}").expect("standard error is open");
-    let mut rows = (0..=13).chain([23]);
+    let mut rows = (0..=13).chain([21, 23]);
     assert!(rows.all(|row| outcomes[row] > 500), "{line}");
 }
 
@@ -138,5 +169,6 @@ fn benchmark_charts_agree() {
         comparison.phases(&chart, calls::PHASE_BYTES * nodes);
         comparison.distances(&chart, nodes);
         comparison.sheet(&chart, nodes * nodes);
+        comparison.sheet_sized(&chart, nodes * nodes);
     }
 }

@@ -5,7 +5,7 @@ use bohrali::{limits, Answer, Region};
 use reference::answers::Rules;
 use reference::calls::PHASE_BYTES;
 use reference::chart::{Chart, Construct, Edge, Node, Trailer};
-use reference::{distances, masked, printing, regions};
+use reference::{distances, masked, printing, regions, sizes};
 
 #[test]
 fn limits_of_a_chart() {
@@ -18,6 +18,8 @@ fn limits_of_a_chart() {
         + layout::BYTES_CONSTRUCT_2 * limits::MOST_CONSTRUCTS
         + layout::BYTES_TRAILER;
     assert_eq!(limits::MOST_CHART_BYTES, longest);
+    let sizes = limits::LEAST_SIZE as u64..=limits::MOST_SIZE as u64;
+    assert_eq!(sizes, sizes::SIZES);
     assert_eq!(limits::MOST_CHART_BYTES, printing::MOST_BYTES);
 }
 

@@ -4,8 +4,9 @@
 use charts::damage::scattered;
 use charts::random::Random;
 use compare::regions::any_region;
+use compare::sizes::any_size;
 use compare::Archive;
-use reference::{calls, known};
+use reference::{calls, known, sizes};
 
 const STEPS: usize = 60_000;
 const SEED: u64 = 13;
@@ -51,6 +52,12 @@ fn mutated_charts_and_claims() {
             archive.pair(&chart, region, a.into(), b.into()),
             calls::pair(&chart, region as u64, a.into(), b.into()),
             "step {step}: {chart:02X?} {claims:?}"
+        );
+        let size = any_size(&mut random);
+        assert_eq!(
+            archive.judge_sized(&chart, region, size, &claims),
+            sizes::judge(&chart, region as u64, size as u64, &claims),
+            "step {step}, size {size}: {chart:02X?} {claims:?}"
         );
     }
     assert!(admitted > STEPS / 10, "{admitted} of {STEPS} admitted");

@@ -2,6 +2,7 @@
 
 use bohrali::limits::MOST_NODES;
 use bohrali::Region::{self, Outermost};
+use bohrali::Size;
 use reference::builder::ChartBuilder;
 use reference::known::{longest, one_region};
 use std::thread;
@@ -36,6 +37,10 @@ fn calls_fit_a_small_stack() {
             bohrali::phases(&chart, region, &mut out).expect(name);
             bohrali::distances(&chart, region, &mut out).expect(name);
             bohrali::sheet(&chart, region, &mut out).expect(name);
+            let size = Size(2);
+            bohrali::judge_sized(&chart, region, size, &[node as u8; 2]).expect(name);
+            bohrali::pair_sized(&chart, region, size, node, node).expect(name);
+            bohrali::sheet_sized(&chart, region, size, &mut out).expect(name);
         };
         let thread = thread::Builder::new().stack_size(STACK).spawn(calls);
         thread.expect("a thread").join().expect(name);

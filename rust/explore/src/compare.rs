@@ -1,6 +1,6 @@
 //! The comparison: for every pair of non-barrier nodes of each region of a chart, the exploration finds
-//! the pair met exactly when the answer is 0 and the team has two threads, and among them one for each
-//! node; a large enough team has all that.
+//! the pair met exactly when the answer is 0: the one for teams of just that size where the team is whole,
+//! and the one for teams of any size where the threads are some of a team that is large enough.
 
 use crate::fault::Fault;
 use crate::regions::Readings;
@@ -13,7 +13,8 @@ use reference::regions::OUTERMOST;
 /// How far an exploration goes.
 #[derive(Clone, Copy, Debug)]
 pub struct Bounds<'a> {
-    /// The numbers of the threads; a whole team has all from 0 on.
+    /// The numbers of the threads: a whole team, with all from 0 on, or those of a larger team that suffice
+    /// for every pair (`large_enough`).
     pub threads: &'a [u16],
     /// The first bound on counts; it is raised up to `most_encounters` while a pair that should be
     /// met is not.
@@ -30,9 +31,7 @@ pub struct Tally {
     /// Of those, the ones read for an inner region.
     pub inner: usize,
     /// Pairs by their answer.
-    pub answers: [usize; 6],
-    /// Of those answered 0, the pairs for which the team lacks a thread.
-    pub lacking: usize,
+    pub answers: [usize; 8],
     /// Explorations given up for their number of states.
     pub skipped: usize,
 }
@@ -73,11 +72,13 @@ fn compare_region(
     }
     for encounters in bounds.first_encounters..=bounds.most_encounters {
         let team = Team::of_numbers(&readings.run, bounds.threads, encounters).with_fault(fault);
+        let teams = fault.map_or(team.teams(), |fault| fault.asked(team.teams()));
+        let answer = |a: usize, b: usize| rules.answer_for(teams, a, b);
         let Some(met) = met(&team, bounds.most_states) else {
             tally.skipped += 1;
             return Ok(());
         };
-        let unlike = |expected: bool| first_unlike(&rules, &team, &met, expected);
+        let unlike = |expected: bool| first_unlike(&readings.run, answer, &met, expected);
         let missed = unlike(true);
         let raise = missed.is_some() && encounters < bounds.most_encounters;
         if let Some((a, b)) = unlike(false).or(missed.filter(|_| !raise)) {
@@ -85,12 +86,12 @@ fn compare_region(
                 region: readings.region,
                 a,
                 b,
-                answer: rules.answer(a, b),
+                answer: answer(a, b),
                 encounters,
             });
         }
         if !raise {
-            tally.add(&rules, &team);
+            tally.add(&readings.run, answer);
             tally.inner += usize::from(readings.region != OUTERMOST);
             break;
         }
@@ -99,11 +100,15 @@ fn compare_region(
 }
 
 /// The first pair expected and not met, or the first one not expected and met.
-fn first_unlike(rules: &Rules, team: &Team, met: &Met, expected: bool) -> Option<(usize, usize)> {
-    pairs(team.chart).find(|&(a, b)| {
+fn first_unlike(
+    chart: &Chart,
+    answer: impl Fn(usize, usize) -> u8,
+    met: &Met,
+    expected: bool,
+) -> Option<(usize, usize)> {
+    pairs(chart).find(|&(a, b)| {
         let is_met = met[a] >> b & 1 == 1;
-        let zero = rules.answer(a, b) == Rules::CONCURRENT;
-        let due = zero && team.suffices_for(a, b);
+        let due = answer(a, b) == Rules::CONCURRENT;
         due == expected && is_met != due
     })
 }
@@ -116,13 +121,10 @@ fn pairs(chart: &Chart) -> impl Iterator<Item = (usize, usize)> + '_ {
 }
 
 impl Tally {
-    fn add(&mut self, rules: &Rules, team: &Team) {
+    fn add(&mut self, chart: &Chart, answer: impl Fn(usize, usize) -> u8) {
         self.charts += 1;
-        for (a, b) in pairs(team.chart) {
-            let answer = rules.answer(a, b);
-            self.answers[usize::from(answer)] += 1;
-            let lacking = answer == Rules::CONCURRENT && !team.suffices_for(a, b);
-            self.lacking += usize::from(lacking);
+        for (a, b) in pairs(chart) {
+            self.answers[usize::from(answer(a, b))] += 1;
         }
     }
 }

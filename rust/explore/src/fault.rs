@@ -3,6 +3,7 @@
 
 use reference::answers::Rules;
 use reference::chart::Construct;
+use reference::sizes::Teams;
 
 #[derive(Clone, Copy, Debug, PartialEq, Eq)]
 pub enum Fault {
@@ -40,6 +41,10 @@ pub enum Fault {
     InnerBarrierKept,
     /// The edge from a region's end to its begin is not cut away, and its Finish opens along it.
     EndToBeginKept,
+    /// A team of one thread is asked about as one of two.
+    OneThreadForgotten,
+    /// A filter that equals the size counts as that of a thread of the team.
+    FilterAtSizePresent,
 }
 
 impl Fault {
@@ -66,6 +71,18 @@ impl Fault {
         Fault::MaskedSkipped,
         Fault::EndToBeginKept,
     ];
+
+    /// Those of sizes, which change an answer for a team of just one size.
+    pub const SIZED: [Fault; 2] = [Fault::OneThreadForgotten, Fault::FilterAtSizePresent];
+
+    /// The teams that the pair rules are asked about in place of others; faults of sizes alone change them.
+    pub fn asked(self, teams: Teams) -> Teams {
+        match (self, teams) {
+            (Fault::OneThreadForgotten, Teams::Of(1)) => Teams::Of(2),
+            (Fault::FilterAtSizePresent, Teams::Of(size @ 2..)) => Teams::Of(size + 1),
+            _ => teams,
+        }
+    }
 
     /// Puts a fault of the pair rules into what they look at; team faults change nothing here.
     pub fn plant(self, rules: &mut Rules) {

@@ -8,5 +8,6 @@ pub mod masked;
 pub mod regions;
 pub mod search;
 mod sections;
+mod sizes;
 pub mod team;
 pub mod trace;

@@ -28,18 +28,4 @@ impl Team<'_> {
         let may_skip = self.fault == Some(Fault::MaskedSkipped);
         (goes_in || any_enters, !goes_in || may_skip)
     }
-
-    /// Whether there are two threads, and for each of two nodes one that goes into the masked construct
-    /// around it.
-    pub fn suffices_for(&self, a: usize, b: usize) -> bool {
-        self.threads > 1 && self.has_thread_for(a) && self.has_thread_for(b)
-    }
-
-    fn has_thread_for(&self, node: usize) -> bool {
-        let around = self.enclosing[node].iter();
-        let mut masked = around
-            .map(|&c| self.chart.constructs[c])
-            .filter(|x| x.kind == Construct::MASTER);
-        masked.all(|x| self.numbers.contains(&x.filter))
-    }
 }

@@ -37,13 +37,12 @@ fn agree(threads: &[u16], first_seed: u64, time: Duration) -> Tally {
         charts,
         inner,
         answers,
-        lacking,
         skipped,
     } = tally;
     let pairs: usize = answers.iter().sum();
     report(&format!(
         "threads {threads:?}, seeds {first_seed} to {}: {charts} regions, {inner} of them inner, {pairs} pairs \
-         agree (answers 0 to 5: {answers:?}, a thread lacks for {lacking}); {skipped} explorations skipped",
+         agree (answers 0 to 7: {answers:?}); {skipped} explorations skipped",
         seed - 1
     ));
     tally

@@ -148,13 +148,14 @@ fn agree(
     tally
 }
 
-/// Whole teams of one thread to two past the filters: smaller ones meet what they have threads for.
+/// Whole teams of one thread to two past the filters: each size has the answers for just that size.
 #[test]
 fn teams_up_to_two_past_the_filters_agree() {
     let whole = |_: &Chart, seed: u64| Some(NUMBERS[..1 + seed as usize % 4].to_vec());
     let tally = agree(NEAR_FILTERS, Duration::from_secs(3), whole);
-    assert!(tally.charts > 100 && tally.lacking > 100, "{tally:?}");
-    assert!(tally.answers[2] > 100, "{tally:?}");
+    let [.., alone, missing] = tally.answers;
+    assert!(alone > 20 && missing > 20, "{tally:?}");
+    assert!(tally.charts > 100 && tally.answers[2] > 100, "{tally:?}");
 }
 
 /// Threads of the filters' numbers in teams of up to 65,536.
@@ -163,6 +164,6 @@ fn large_teams_agree() {
     let tally = agree(FAR_FILTERS, Duration::from_secs(3), |chart, _| {
         large_enough(chart)
     });
-    assert!(tally.charts > 100 && tally.lacking == 0, "{tally:?}");
+    assert!(tally.charts > 100, "{tally:?}");
     assert!(tally.answers[2] > 100, "{tally:?}");
 }

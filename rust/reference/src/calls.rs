@@ -5,6 +5,7 @@
 use crate::answers::Rules;
 use crate::phases::Phases;
 use crate::regions::{read, Region};
+use crate::sizes::Teams;
 use crate::Counts;
 
 /// Bytes that Phases writes for one node.
@@ -29,20 +30,20 @@ pub fn phases(chart: &[u8], region: u64, out: &mut [u8]) -> i64 {
 
 /// Pair: "1 to 10, 13, or the answer".
 pub fn pair(chart: &[u8], region: u64, a: u64, b: u64) -> i64 {
-    number(read(chart, region).and_then(|region| try_pair(&region, a, b)))
+    number(read(chart, region).and_then(|region| try_pair(&region, Teams::OfAnySize, a, b)))
 }
 
 /// Sheet: "n rows of n answers, one byte each; 255 where either node is a barrier".
 pub fn sheet(chart: &[u8], region: u64, out: &mut [u8]) -> i64 {
-    number(read(chart, region).and_then(|region| try_sheet(&region, out)))
+    number(read(chart, region).and_then(|region| try_sheet(&region, Teams::OfAnySize, out)))
 }
 
 /// Judge: 0 for a pass, or the index plus 1 of the first pair answered 0.
 pub fn judge(chart: &[u8], region: u64, claims: &[u8]) -> i64 {
-    number(read(chart, region).and_then(|region| try_judge(&region, claims)))
+    number(read(chart, region).and_then(|region| try_judge(&region, Teams::OfAnySize, claims)))
 }
 
-fn number(result: Result<i64, u8>) -> i64 {
+pub(crate) fn number(result: Result<i64, u8>) -> i64 {
     result.unwrap_or_else(|refusal| -i64::from(refusal))
 }
 
@@ -59,21 +60,24 @@ fn try_phases(region: &Region, out: &mut [u8]) -> Result<i64, u8> {
     Ok(length as i64)
 }
 
-fn try_pair(region: &Region, a: u64, b: u64) -> Result<i64, u8> {
+pub(crate) fn try_pair(region: &Region, teams: Teams, a: u64, b: u64) -> Result<i64, u8> {
     let (a, b) = (region.judged(a)?, region.judged(b)?);
-    Ok(Rules::of(region.chart.clone()).answer(a, b).into())
+    let teams = teams.checked()?;
+    let rules = Rules::of(region.chart.clone());
+    Ok(rules.answer_for(teams, a, b).into())
 }
 
 /// What no pair can name, a barrier or a node outside, is written as a barrier.
-fn try_sheet(region: &Region, out: &mut [u8]) -> Result<i64, u8> {
-    let rules = Rules::of(region.chart.clone());
+pub(crate) fn try_sheet(region: &Region, teams: Teams, out: &mut [u8]) -> Result<i64, u8> {
     let nodes = region.place.len();
     let result = result_part(out, nodes * nodes)?;
+    let teams = teams.checked()?;
+    let rules = Rules::of(region.chart.clone());
     for (a, row) in result.chunks_mut(nodes).enumerate() {
         for (b, answer) in row.iter_mut().enumerate() {
             let judged = (region.judged(a as u64), region.judged(b as u64));
             *answer = match judged {
-                (Ok(a), Ok(b)) => rules.answer(a, b),
+                (Ok(a), Ok(b)) => rules.answer_for(teams, a, b),
                 _ => Rules::BARRIER,
             };
         }
@@ -81,14 +85,16 @@ fn try_sheet(region: &Region, out: &mut [u8]) -> Result<i64, u8> {
     Ok((nodes * nodes) as i64)
 }
 
-fn try_judge(region: &Region, claims: &[u8]) -> Result<i64, u8> {
+pub(crate) fn try_judge(region: &Region, teams: Teams, claims: &[u8]) -> Result<i64, u8> {
     if !claims.len().is_multiple_of(2) {
         return Err(12);
     }
     let judged = claims.iter().map(|&node| region.judged(node.into()));
     let judged: Vec<usize> = judged.collect::<Result<_, _>>()?;
+    let teams = teams.checked()?;
     let rules = Rules::of(region.chart.clone());
-    let concurrent = |pair: &[usize]| rules.answer(pair[0], pair[1]) == Rules::CONCURRENT;
+    let answer = |pair: &[usize]| rules.answer_for(teams, pair[0], pair[1]);
+    let concurrent = |pair: &[usize]| answer(pair) == Rules::CONCURRENT;
     let failed = judged.chunks(2).position(concurrent);
     Ok(failed.map_or(0, |index| index as i64 + 1))
 }

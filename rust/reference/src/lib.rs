@@ -16,6 +16,7 @@ pub mod refusals;
 pub mod regions;
 pub mod scopes;
 pub mod sections;
+pub mod sizes;
 
 /// What Admit tells of an admitted chart: counts of the outermost region.
 #[derive(Clone, Copy, Debug, PartialEq, Eq)]

@@ -6,7 +6,7 @@ use reference::chart::Construct;
 use reference::known::{longest, one_region};
 use reference::masked::construct_bytes;
 use reference::regions::OUTERMOST;
-use reference::{admit, calls};
+use reference::{admit, calls, sizes};
 use std::fmt::Write;
 use std::{fs, path::PathBuf};
 
@@ -81,13 +81,27 @@ fn add_chart(text: &mut String, name: &str, chart: &[u8]) {
     .expect("text grows");
 }
 
-fn add_pair(text: &mut String, chart: &[u8], region: u8, pair: &[u8]) {
+/// What pairs are asked for: a region, and the size of a team where one is given.
+#[derive(Clone, Copy)]
+struct Asked {
+    region: u8,
+    size: Option<u16>,
+}
+
+fn add_pair(text: &mut String, chart: &[u8], asked: Asked, pair: &[u8]) {
     let (a, b) = (pair[0], pair[1]);
-    let within = match region {
+    let (region, u, v) = (asked.region.into(), a.into(), b.into());
+    let mut within = match asked.region {
         OUTERMOST => String::new(),
-        _ => format!(" in region {region}"),
+        named => format!(" in region {named}"),
     };
-    let number = calls::pair(chart, region.into(), a.into(), b.into());
+    let number = match asked.size {
+        None => calls::pair(chart, region, u, v),
+        Some(size) => {
+            write!(within, " in a team of {size}").expect("text grows");
+            sizes::pair(chart, region, size.into(), u, v)
+        }
+    };
     match number {
         0.. => writeln!(text, "  pair {a} {b}{within} answered {number}"),
         _ => writeln!(text, "  pair {a} {b}{within} refused {}", -number),
@@ -95,14 +109,31 @@ fn add_pair(text: &mut String, chart: &[u8], region: u8, pair: &[u8]) {
     .expect("text grows");
 }
 
-/// Pairs of the outermost region, and behind each `@` those of the region that a letter names.
+/// Pairs of the outermost region for teams of any size, behind an `@` those of the region that a letter
+/// names, and behind a `*` those for the size that two letters spell, the low byte first.
 fn add_pairs(text: &mut String, chart: &[u8], line: &str) {
-    let (first, named) = line.split_once('@').unwrap_or((line, ""));
-    let named = named.split('@').map(letters).filter(|x| !x.is_empty());
-    let regions = named.map(|spelt| (spelt[0], spelt[1..].to_vec()));
-    for (region, pairs) in [(OUTERMOST, letters(first))].into_iter().chain(regions) {
+    let mut asked = Asked {
+        region: OUTERMOST,
+        size: None,
+    };
+    for part in line.split_inclusive(['@', '*']).scan(' ', |sign, part| {
+        let spelt = part.trim_end_matches(['@', '*']);
+        let before = std::mem::replace(sign, part.chars().last().unwrap_or(' '));
+        Some((before, letters(spelt)))
+    }) {
+        let pairs = match part {
+            ('@', spelt) => {
+                asked.region = spelt[0];
+                spelt[1..].to_vec()
+            }
+            ('*', spelt) => {
+                asked.size = Some(u16::from_le_bytes([spelt[0], spelt[1]]));
+                spelt[2..].to_vec()
+            }
+            (_, spelt) => spelt,
+        };
         for pair in pairs.chunks(2) {
-            add_pair(text, chart, region, pair);
+            add_pair(text, chart, asked, pair);
         }
     }
 }

@@ -49,7 +49,7 @@ returns-2 c =
     let s = e .args .s .now in
     let h = sym (k .enter .ensures .0) ∙ m .chart .given .1 in
     let named = sym (ap (λ (chart : Chart). chart .region) (entered-counts _ _ _ h)) in
-    passed-named (regionRows s (e .args .region)) (λ (p : ℕ). distancesResult (regionOf p (decode s))) (e .args .out .now) named (entered-marked _ _ _ h)
+    passed-named (regionRows s (e .args .region)) [] (λ (p : ℕ). distancesResult (regionOf p (decode s))) (e .args .out .now) named (entered-marked _ _ _ h)
     (w .write-distances .ensures .0) (w .write-distances .ensures .1)
 
 pub distances-spec : {M : Type 1} → statement M

@@ -10,23 +10,28 @@ use Rattle.chart.specs.Checked.{reading}
 use Rattle.chart.proofs.Records.{nodes-length}
 use Rattle.sheets.specs.Sheet.{rowOf}
 use Rattle.lists.specs.Rows.{square, row-room, row-end, after, after-none, after-length, after-more, after-all, part-length}
+use Rattle.answers.specs.Answer.{answerFor}
 use Rattle.answers.specs.Sheet.{entry, row, sheet}
+use Rattle.answers.specs.declared.Size.{Size}
 use Rattle.loading.specs.Tables.{Closed}
-use Rattle.profiles.specs.Marks.{Marks}
+use Rattle.profiles.specs.Marks.{Sized, Marks}
 use Rattle.sheets.proofs.Entries.{kept-row}
 use Rattle.sheets.proofs.fill_sheet.Statement.{statement}
 use Rattle.sheets.proofs.fill_sheet.Tie as tie
 
 abbrev Inv-loop : tie.InvT-loop
-Inv-loop s marks sets out₀ closed nodes spread last₀ kept₀ n a₀ out last kept a =
+Inv-loop s marks out₀ sets closed nodes spread last₀ kept₀ n a₀ out last kept a =
     (a ≤ n) × (length last ≡ 192) × ((j : ℕ) → j < 192 → getD last j 0 ≡ rowOf closed sets marks kept j)
-    × ((R : Region) → R .nodes ≡ n → Marks R marks sets → Closed R closed → out ≡ after (entry R) (R .nodes) a out₀)
+    × ((R : Region) (size : Size) → R .nodes ≡ n → Marks R marks sets → Sized R size sets → Closed R closed → out ≡ after (entry R (answerFor R size)) (R .nodes) a out₀)
 
 abbrev μ-loop : tie.MeasureT-loop
-μ-loop s marks sets out₀ closed nodes spread last₀ kept₀ n a₀ out last kept a = n - a
+μ-loop s marks out₀ sets closed nodes spread last₀ kept₀ n a₀ out last kept a = n - a
+
+sets-for-requires : tie.Need-sets-for-requires Inv-loop μ-loop
+sets-for-requires c κs = c .before .before .pre .0
 
 load-closed-requires : tie.Need-load-closed-requires Inv-loop μ-loop
-load-closed-requires c κs = c .before .before .before .pre .0
+load-closed-requires c κs = c .before .before .before .before .pre .0
 
 gather-all-requires : tie.Need-gather-all-requires Inv-loop μ-loop
 gather-all-requires c κs = refl
@@ -41,33 +46,41 @@ work-row-requires c κs = (c .before .before .before .fill-spread .ensures, refl
 abbrev gathered : tie.After-work-row Inv-loop μ-loop → tie.After-gather-all Inv-loop μ-loop
 gathered w = w .before .before .before .before .before .before
 
+abbrev sized : tie.After-load-closed Inv-loop μ-loop → tie.After-sets-for Inv-loop μ-loop
+sized c = c .before .before
+
 abbrev start : tie.After-work-row Inv-loop μ-loop → tie.Start Inv-loop μ-loop
-start w = gathered w .before .before .before .before .before .before .before
+start w = sized (gathered w .before .before .before) .before .before .before
 
 loop-holds : tie.Need-loop-holds Inv-loop μ-loop
 loop-holds c = (
   omega arith,
   c .work-row .ensures .0,
   c .work-row .ensures .1 _ _ (gathered c .gather-all .ensures),
-  λ R q M C. after-none (entry R) (R .nodes) (start c .args .out .now),
+  λ R size q M Z C. after-none (entry R (answerFor R size)) (R .nodes) (start c .args .out .now),
 )
 
--- the region that the chart is read for
+-- the region that the chart is read for, and its answers
 abbrev read : tie.Start Inv-loop μ-loop → Region
 read e = reading (e .args .s .now) (e .args .chart)
 
+abbrev answer : tie.Start Inv-loop μ-loop → ℕ → ℕ → ℕ
+answer e = answerFor (read e) (e .args .size)
+
 -- the rows passed are those of its sheet, and so the buffer is as long as it was
-passed : (l : tie.At-loop Inv-loop μ-loop) → let e = start (l .before) in l .loop .out ≡ after (entry (read e)) (read e .nodes) (l .loop .a) (e .args .out .now)
+passed : (l : tie.At-loop Inv-loop μ-loop) → let e = start (l .before) in l .loop .out ≡ after (entry (read e) (answer e)) (read e .nodes) (l .loop .a) (e .args .out .now)
 passed l =
     let e = start (l .before) in
-    l .loop .inv .3 (read e) (nodes-length _ (e .args .chart) (e .pre .0 .laid)) (e .pre .1) (gathered (l .before) .before .before .before .load-closed .ensures)
+    let loaded = gathered (l .before) .before .before .before in
+    let (Z, M) = sized loaded .sets-for .ensures in
+    l .loop .inv .3 (read e) (e .args .size) (nodes-length _ (e .args .chart) (e .pre .0 .laid)) (M _ _ (e .pre .1)) Z (loaded .load-closed .ensures)
 
 long : (l : tie.At-loop Inv-loop μ-loop) → length (l .loop .out) ≡ length (start (l .before) .args .out .now)
 long l =
     let e = start (l .before) in
     let n = nodes-length _ (e .args .chart) (e .pre .0 .laid) in
     let most = mul-le-mul-right {m = l .loop .a} {n = e .args .chart .nodes} (e .args .chart .nodes) (l .loop .inv .0) in
-    ap length (passed l) ∙ after-length (entry (read e)) (read e .nodes) (l .loop .a) (e .args .out .now) (rw n (omega (arith, most, e .pre .2)))
+    ap length (passed l) ∙ after-length (entry (read e) (answer e)) (read e .nodes) (l .loop .a) (e .args .out .now) (rw n (omega (arith, most, e .pre .2)))
 
 few : (c : tie.In-loop Inv-loop μ-loop) → c .before .loop .a < 192
 few c = omega (arith, start (c .before .before) .pre .0 .laid .nodes-most, c .loop-test .taken)
@@ -148,12 +161,12 @@ loop-again c =
       omega arith,
       y .keep-row .ensures .0,
       next,
-      λ R n M C.
-          let filled = f .fill-row .ensures R (n ∙ sym (part-length (e .args .chart .nodes) _ _ (l .loop .out) (ends i) (room i))) C
-          (λ o j h. next j (omega (arith, n, e .pre .0 .laid .nodes-most, h)) ∙ kept-row M C (l .loop .a) j _ _ (omega (arith, n, i .loop-test .taken)) h (y .keep-row .ensures .1) (p .profile-of .ensures) o)
+      λ R size n M Z C.
+          let filled = f .fill-row .ensures R (answerFor R size) (n ∙ sym (part-length (e .args .chart .nodes) _ _ (l .loop .out) (ends i) (room i))) C
+          (λ o j h. next j (omega (arith, n, e .pre .0 .laid .nodes-most, h)) ∙ kept-row M size Z C (l .loop .a) j _ _ (omega (arith, n, i .loop-test .taken)) h (y .keep-row .ensures .1) (p .profile-of .ensures) o)
           in
-          after-more (entry R) (R .nodes) (l .loop .a) _ _ (e .args .out .now) (l .loop .out) _ (ap (λ (k : ℕ). l .loop .a * k) (sym n))
-          (ends i ∙ ap (λ (k : ℕ). l .loop .a * e .args .chart .nodes + k) (sym n)) (done R n M C) filled,
+          after-more (entry R (answerFor R size)) (R .nodes) (l .loop .a) _ _ (e .args .out .now) (l .loop .out) _ (ap (λ (k : ℕ). l .loop .a * k) (sym n))
+          (ends i ∙ ap (λ (k : ℕ). l .loop .a * e .args .chart .nodes + k) (sym n)) (done R size n M Z C) filled,
     )
 
 same-length : tie.Need-same-length Inv-loop μ-loop
@@ -165,8 +178,9 @@ returns c =
     let l = c .before in
     let e = start (l .before) in
     let R = read e in
+    let f = answer e in
     let q : l .loop .a ≡ R .nodes = omega (arith, nodes-length _ (e .args .chart) (e .pre .0 .laid)) in
-    passed l ∙ ap (λ (k : ℕ). after (entry R) (R .nodes) k (e .args .out .now)) q ∙ after-all (entry R) (R .nodes) (R .nodes) (e .args .out .now)
+    passed l ∙ ap (λ (k : ℕ). after (entry R f) (R .nodes) k (e .args .out .now)) q ∙ after-all (entry R f) (R .nodes) (R .nodes) (e .args .out .now)
 
 pub fill-sheet-spec : {M : Type 1} → statement M
 fill-sheet-spec =
@@ -174,6 +188,7 @@ fill-sheet-spec =
     (tie.spec
     Inv-loop
     μ-loop
+    sets-for-requires
     load-closed-requires
     gather-all-requires
     fill-spread-requires

@@ -1,88 +1,22 @@
 -- `bohrali::c::bohrali_judge` meets its contract.
 -- Assumes nothing.
-use mathlib.Core.Path.{_≡_, ap, sym, subst, _∙_}
-use mathlib.Core.List.{List}
-use Prim.Native.Nat.{ℕ, _<_}
-use native.Mathlib.Omega.{arith}
-use lib.IntN.{ℤ}
+use mathlib.Core.Path.{_≡_, _∙_}
 use borrow.Author.Needs.{needs}
-use Rattle.verdicts.specs.Claims.{total}
-use Rattle.verdicts.specs.Judged.{judged, numberOf}
-use Rattle.verdicts.specs.Correct.{Correct}
-use Rattle.verdicts.specs.CorrectLaws.{judged-correct}
-use Rattle.judge.proofs.Facts.{failed-below}
-use Rattle.bohrali.proofs.c.bohrali_judge.Statement.{statement}
-use mir.Val.{toZ, ofZ}
 use mir.Syntax.{w64}
+use mir.Val.{toZ, ofZ}
+use Rattle.verdicts.specs.Correct.{Correct}
+use Rattle.verdicts.specs.CorrectLaws.{correct-any}
+use Rattle.correctness.specs.OutputCorrectLaws.{told}
+use Rattle.bohrali.proofs.c.bohrali_judge.Statement.{statement}
 use Rattle.bohrali.proofs.c.bohrali_judge.Tie as tie
 
 judge-requires : tie.Need-judge-requires
 judge-requires c κs = search needs
 
-enum-told : tie.Need-enum-told
-enum-told c = search needs
-
-counted-requires : tie.Need-counted-requires
-counted-requires c κs = search needs
-
-enum-known-index : tie.Need-enum-known-index
-enum-known-index c = search needs
-
--- the index is that of a claim, and so fits
-below : (c : tie.After-index) → let j = c .before .before in c .index .given .0 .0 < total (j .before .before .before .args .claims .now)
-below c = let j = c .before .before in failed-below (j .before .before .before .args .chart .now) (j .before .before .before .args .region) _ _ (sym (j .judge .ensures) ∙ c .index .given .1)
-
-add-counted : tie.Need-add-counted
-unfolding total
-add-counted c = omega (arith, below (c .before))
-
-counted-requires-2 : tie.Need-counted-requires-2
-unfolding total
-counted-requires-2 c κs = omega (arith, below (c .before))
-
-enum-known-refusal : tie.Need-enum-known-refusal
-enum-known-refusal c = search needs
-
-negated-requires : tie.Need-negated-requires
-negated-requires c κs = search needs
-
--- a number that is the definition's is correct
-with-correct : (s : List ℕ) (p : ℕ) (claims : List ℕ) (number : ℤ) → number ≡ numberOf (judged s p claims) → (number ≡ numberOf (judged s p claims)) × Correct s p claims number
-with-correct s p claims number q = (q, subst (Correct s p claims) (sym q) (judged-correct s p claims))
-
 returns : tie.Need-returns
-unfolding numberOf
 returns c =
-    let j = c .before .before .before in
-    let e : toZ w64 (ofZ w64 (c .counted .result)) ≡ c .counted .result = search needs in
-    with-correct _ _ _ _ (e ∙ c .counted .ensures ∙ sym (ap numberOf (sym (j .judge .ensures) ∙ c .before .enum-told .given .1)))
-
-returns-2 : tie.Need-returns-2
-unfolding numberOf
-returns-2 c =
-    let j = c .before .before .before .before in
-    let e : toZ w64 (ofZ w64 (c .counted2 .result)) ≡ c .counted2 .result = search needs in
-    with-correct _ _ _ _ (e ∙ c .counted2 .ensures ∙ sym (ap numberOf (sym (j .judge .ensures) ∙ c .before .before .index .given .1)))
-
-returns-3 : tie.Need-returns-3
-unfolding numberOf
-returns-3 c =
-    let j = c .before .before .before .before in
-    let e : toZ w64 (ofZ w64 (c .negated .result)) ≡ c .negated .result = search needs in
-    with-correct _ _ _ _ (e ∙ c .negated .ensures ∙ sym (ap numberOf (sym (j .judge .ensures) ∙ c .before .before .refusal .given .1)))
+    let e : toZ w64 (ofZ w64 (c .judge .result)) ≡ c .judge .result = search needs in
+    told (Correct _ _ _) (e ∙ c .judge .ensures) (correct-any _ _ _)
 
 pub bohrali-judge-spec : {M : Type 1} → statement M
-bohrali-judge-spec =
-    tie.close
-    (tie.spec
-    judge-requires
-    enum-told
-    counted-requires
-    enum-known-index
-    add-counted
-    counted-requires-2
-    enum-known-refusal
-    negated-requires
-    returns
-    returns-2
-    returns-3)
+bohrali-judge-spec = tie.close (tie.spec judge-requires returns)

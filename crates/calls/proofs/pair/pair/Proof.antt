@@ -1,7 +1,7 @@
--- `calls::pair::pair` meets its contract: rows 1 to 10 and 23, and where none of them applies row 13 and the answer.
+-- `calls::pair::pair` meets its contract: rows 1 to 10 and 23, and where none of them applies rows 13 and 21 and the answer.
 -- Assumes nothing.
 use mathlib.Core.Path.{refl, ap, sym, _∙_}
-use mathlib.Core.List.{[], _∷_}
+use mathlib.Core.List.{_∷_}
 use borrow.Author.Needs.{needs}
 use Rattle.chart.specs.Format.{decode}
 use Rattle.chart.specs.Reading.{regionOf}
@@ -10,8 +10,9 @@ use Rattle.chart.specs.declared.format.Chart.{Chart}
 use Rattle.chart.proofs.Rows.{first-decides}
 use Rattle.refusals.proofs.Outcome.{passed-none, refused-some}
 use Rattle.paths.specs.Admission.{regionRows}
+use Rattle.answers.specs.Size.{sizeRows}
 use Rattle.survey.specs.Surveyed.{checkedOf}
-use Rattle.calls.specs.Pair.{numbersRow, pairRows, answered, pairAnswered}
+use Rattle.calls.specs.Pair.{numbersRow, pairRowsFor, answered, pairAnsweredFor}
 use Rattle.calls.proofs.Passed.{pair-passed}
 use Rattle.calls.proofs.pair.pair.Statement.{statement}
 use Rattle.calls.proofs.pair.pair.Tie as tie
@@ -32,14 +33,14 @@ answer-pair-requires c κs =
     (S .accepted, S .marked)
 
 returns : tie.Need-returns
-unfolding pairAnswered pairRows answered checkedOf
+unfolding pairAnsweredFor pairRowsFor answered checkedOf
 returns c =
     let k = c .before .before .before in
     let e = k .before .before .before in
     let s = e .args .s .now in
     let p = e .args .region in
     let n = refused-some _ (readFor (countsOf s) p) _ (sym (k .survey .ensures .0) ∙ ap checkedOf (c .before .refusal .given .1)) in
-    rw (first-decides (regionRows s p) (numbersRow (regionOf p (decode s)) (e .args .a) (e .args .b) ∷ []) _ n)
+    rw (first-decides (regionRows s p) (numbersRow (regionOf p (decode s)) (e .args .a) (e .args .b) ∷ sizeRows (e .args .size)) _ n)
 
 returns-2 : tie.Need-returns-2
 unfolding checkedOf
@@ -51,7 +52,7 @@ returns-2 c =
     let p = e .args .region in
     let n = passed-none _ (readFor (countsOf s) p) _ (sym (k .survey .ensures .0) ∙ ap checkedOf (m .chart .given .1)) in
     let named = sym (ap (λ (chart : Chart). chart .region) (n .1)) in
-    pair-passed s p _ named (n .0) (e .args .a) (e .args .b) (c .answer-pair .ensures)
+    pair-passed s p _ named (n .0) (e .args .size) (e .args .a) (e .args .b) (c .answer-pair .ensures)
 
 pub pair-spec : {M : Type 1} → statement M
 pair-spec =

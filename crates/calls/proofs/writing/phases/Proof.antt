@@ -52,7 +52,7 @@ returns-2 c =
     let q = nodes-length _ _ (E .accepted .laid) in
     let same = sym (k .enter .ensures .0) ∙ m .chart .given .1 in
     let named = sym (ap (λ (chart : Chart). chart .region) (entered-counts _ _ _ same)) in
-    output-passed s p _ named (entered-marked _ _ _ same) phasesResult (e .args .out .now) (w .write-phases .ensures .0 _ q) (w .write-phases .ensures .1 _ q (E .has-starts) (E .has-ends))
+    output-passed s p _ named (entered-marked _ _ _ same) [] phasesResult (e .args .out .now) (w .write-phases .ensures .0 _ q) (w .write-phases .ensures .1 _ q (E .has-starts) (E .has-ends))
 
 pub phases-spec : {M : Type 1} → statement M
 phases-spec =

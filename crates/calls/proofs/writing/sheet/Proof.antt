@@ -1,17 +1,17 @@
--- `calls::writing::sheet` meets its contract: rows 1 to 10 and 23, and where none of them applies row 11 and the bytes.
+-- `calls::writing::sheet` meets its contract: rows 1 to 10 and 23, and where none of them applies rows 11 and 21 and the bytes.
 -- Assumes nothing.
 use mathlib.Core.Path.{refl, ap, sym, _∙_}
-use mathlib.Core.List.{[]}
 use borrow.Author.Needs.{needs}
-use Rattle.chart.specs.Format.{decode}
-use Rattle.chart.specs.Reading.{regionOf}
 use Rattle.chart.specs.Checked.{countsOf, readFor}
 use Rattle.chart.specs.declared.format.Chart.{Chart}
 use Rattle.refusals.proofs.Outcome.{passed-none, refused-some}
 use Rattle.paths.specs.Admission.{regionRows}
+use Rattle.answers.specs.Answer.{answerFor}
+use Rattle.answers.specs.Size.{sizeRows}
 use Rattle.answers.specs.Sheet.{sheet}
 use Rattle.survey.specs.Surveyed.{checkedOf}
 use Rattle.output.proofs.Outputs.{refused-before}
+use Rattle.calls.specs.Sheet.{sheetResult}
 use Rattle.calls.proofs.Passed.{output-passed}
 use Rattle.calls.proofs.writing.sheet.Statement.{statement}
 use Rattle.calls.proofs.writing.sheet.Tie as tie
@@ -39,7 +39,7 @@ returns c =
     let s = e .args .s .now in
     let p = e .args .region in
     let n = refused-some _ (readFor (countsOf s) p) _ (sym (k .survey .ensures .0) ∙ ap checkedOf (c .before .refusal .given .1)) in
-    refused-before (regionRows s p) [] _ (sheet (regionOf p (decode s))) (e .args .out .now) _ n
+    refused-before (regionRows s p) (sizeRows (e .args .size)) _ (sheetResult s p (e .args .size)) (e .args .out .now) _ n
 
 same-length : tie.Need-same-length
 same-length c = search needs
@@ -55,7 +55,7 @@ returns-2 c =
     let p = e .args .region in
     let n = passed-none _ (readFor (countsOf s) p) _ (sym (k .survey .ensures .0) ∙ ap checkedOf (m .chart .given .1)) in
     let named = sym (ap (λ (chart : Chart). chart .region) (n .1)) in
-    output-passed s p _ named (n .0) sheet (e .args .out .now) (w .write-sheet .ensures .0) (w .write-sheet .ensures .1)
+    output-passed s p _ named (n .0) (sizeRows (e .args .size)) (λ R. sheet R (answerFor R (e .args .size))) (e .args .out .now) (w .write-sheet .ensures .0) (w .write-sheet .ensures .1)
 
 pub sheet-spec : {M : Type 1} → statement M
 sheet-spec =

@@ -37,14 +37,14 @@ pair-requires c κs =
 
 returns : tie.Need-returns
 unfolding isFalse left right
-returns c R M h =
+returns c R size M Z h =
     let e = c .before .before .before .before .before .before in
     let k = e .args .k in
     let a = c .before .before .before .wide .ensures .0 in
     let b = c .before .wide2 .ensures .0 in
     let below-a = good-numbers R _ h (2 * k) (omega arith) (M .well-formed) .0 in
     let below-b = good-numbers R _ h (2 * k + 1) (omega arith) (M .well-formed) .0 in
-    let r = c .pair .ensures R M (omega (arith, a, below-a)) (omega (arith, b, below-b)) in
+    let r = c .pair .ensures R size M Z (omega (arith, a, below-a)) (omega (arith, b, below-b)) in
     cc (r, a, b)
 
 pub is-false-spec : {M : Type 1} → statement M

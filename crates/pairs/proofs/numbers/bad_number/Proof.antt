@@ -13,7 +13,7 @@ element-copy-out-result : tie.Need-element-copy-out-result
 element-copy-out-result c = omega arith
 
 returns-2 : tie.Need-returns-2
-returns-2 c R W q C = sym (flag-bad R _ _ C (omega (arith, q)))
+returns-2 c R W q C = sym (flag-bad R _ _ (C .at _ (omega (arith, q))))
 
 pub bad-number-spec : {M : Type 1} → statement M
 bad-number-spec = tie.close (tie.spec returns element-copy-out-result returns-2)

@@ -1,0 +1,42 @@
+// The numbers of the calls that answer for teams of any size or of one.
+ghost use mathlib.Core.Path.{_≡_};
+ghost use Rattle.output.specs.Output.{numberOf as Output·numberOf};
+ghost use Rattle.calls.specs.Sheet.{sheetWrittenFor, sheetLeftFor};
+ghost use Rattle.calls.specs.Pair.{pairAnsweredFor, numberOf as Pair·numberOf};
+ghost use Rattle.verdicts.specs.Judged.{judgedFor, numberOf as Judged·numberOf};
+use answers::Size;
+use calls::pair::Answered;
+use chart::cursor::wide;
+use output::Written;
+use output::signed::counted;
+use output::signed::negated;
+use verdicts::Verdict;
+
+pub fn pair(chart: &[u8], region: usize, size: Size, a: usize, b: usize) -> i64
+    ensures { λ r. ⌜ r ≡ Pair·numberOf (pairAnsweredFor (now (chart .entry)) region size a b) ⌝ }
+{
+    match calls::pair::pair(chart, region, size, a, b) {
+        Answered::Answer(answer) => counted(wide(answer.number)),
+        Answered::Refused(refusal) => negated(refusal),
+    }
+}
+
+pub fn sheet(chart: &[u8], region: usize, size: Size, out: &mut [u8]) -> i64
+    ensures { λ r. ⌜ r ≡ Output·numberOf (sheetWrittenFor (now (chart .entry)) region size (now (out .entry))) ⌝ }
+    ensures { λ _. ⌜ now (out .exit) ≡ sheetLeftFor (now (chart .entry)) region size (now (out .entry)) ⌝ }
+{
+    match calls::writing::sheet(chart, region, size, out) {
+        Written::Bytes(count) => counted(count),
+        Written::Refused(refusal) => negated(refusal),
+    }
+}
+
+pub fn judge(chart: &[u8], region: usize, size: Size, claims: &[u8]) -> i64
+    ensures { λ r. ⌜ r ≡ Judged·numberOf (judgedFor (now (chart .entry)) region size (now (claims .entry))) ⌝ }
+{
+    match judge::judge(chart, region, size, claims) {
+        Verdict::Passed => counted(0),
+        Verdict::Failed(index) => counted(index + 1),
+        Verdict::Refused(refusal) => negated(refusal),
+    }
+}
