@@ -6,14 +6,14 @@
  * number. Any bytes may be handed over: what is not a chart is refused. The library is for x86-64
  * only.
  *
- * A pointer may be null only where its length is 0; otherwise it points to so many bytes. `chart`
- * and `claims` are only read: they may overlap, and nobody may write them during the call. `out`
- * must not overlap `chart`, and nobody else may read or write it during the call. Calls share
- * nothing, so any number of threads may make them.
+ * A pointer may be null only where its length is 0; otherwise it points to so many bytes. `chart`,
+ * `claims` and `accesses` are only read: they may overlap, and nobody may write them during the
+ * call. `out` must overlap none of them, and nobody else may read or write it during the call.
+ * Calls share nothing, so any number of threads may make them.
  *
  * The first word of a constant says what it is: LEAST and MOST are limits, BYTES sizes, TRAILER
  * fields of the trailer, NODE and CONSTRUCT kinds, REGION numbers of regions, ANSWER answers,
- * DISTANCE distances, REFUSED refusals.
+ * DISTANCE distances, ACCESS what is done to a variable, RACE races, REFUSED refusals.
  */
 #ifndef BOHRALI_H
 #define BOHRALI_H
@@ -125,16 +125,21 @@ extern "C" {
 #define BOHRALI_LEAST_SIZE 1
 #define BOHRALI_MOST_SIZE 1024
 
+/* The most records of a list of accesses, and the most bytes that bohrali_races writes. */
+#define BOHRALI_MOST_ACCESSES 1024
+#define BOHRALI_MOST_RACES 524800
+
 /* The length of the longest chart, which is one of edition 2. */
 #define BOHRALI_MOST_CHART_BYTES 3120
 
-/* Sizes of the records, CONSTRUCT_2 that of a construct in edition 2, and of what bohrali_phases
- * writes for each node. */
+/* Sizes of the records, CONSTRUCT_2 that of a construct in edition 2, of an access, and of what
+ * bohrali_phases writes for each node. */
 #define BOHRALI_BYTES_NODE 4
 #define BOHRALI_BYTES_EDGE 2
 #define BOHRALI_BYTES_CONSTRUCT 4
 #define BOHRALI_BYTES_CONSTRUCT_2 6
 #define BOHRALI_BYTES_TRAILER 16
+#define BOHRALI_BYTES_ACCESS 4
 #define BOHRALI_BYTES_PHASES 16
 
 /* Fields of the trailer. */
@@ -212,9 +217,35 @@ enum bohrali_answer {
 /* In place of a node's distance: it is a barrier or outside the region. No distance is over 190. */
 #define BOHRALI_DISTANCE_AT_BARRIER 255
 
+/* An access to a variable, BOHRALI_BYTES_ACCESS bytes:
+ *     0  node        where it is made, a node of the region that is no barrier
+ *     1  kind        BOHRALI_ACCESS_..
+ *     2  variable    2 bytes, little-endian: a number of the caller's
+ */
+enum bohrali_access {
+    BOHRALI_ACCESS_READ = 0,
+    BOHRALI_ACCESS_WRITE = 1
+};
+
+/* Races of two accesses, of which the first that applies is taken; they may be the same access,
+ * made by two threads. The nodes never meet where bohrali_pair gives them another answer than 0,
+ * which is for teams of any size and without locks.
+ *
+ * A node is inside criticals at any depth, but not inside one whose begin or end it is; unnamed
+ * criticals have one name in common, 0. Where critical constructs do lock, so that a thread goes
+ * into one only while no other is inside a critical of that name, two threads are never at the two
+ * nodes of a synchronization race together, in a run that finishes: they come one after the other.
+ * Only criticals that count for the region are looked at. */
+enum bohrali_race {
+    BOHRALI_RACE_NONE = 0,            /* the variables differ, both read, or the nodes never meet */
+    BOHRALI_RACE_SYNCHRONIZATION = 1, /* both nodes are inside criticals of a common name */
+    BOHRALI_RACE_DATA = 2             /* a possible data race: all else */
+};
+
 /* Refusals. A call returns the first that applies, negated, and then has written nothing. Each is
- * checked over the whole chart, or the whole list of claims, before the next, in the order of their
- * numbers but for one: 23 comes straight after 10, so before 11, 12, 13 and 21. */
+ * checked over the whole chart, or the whole list, before the next, in the order of their numbers
+ * but for two: 23 comes straight after 10, and 20 straight after 23, so both before 11, 12, 13 and
+ * 21. */
 enum bohrali_refusal {
     BOHRALI_REFUSED_SHORT = 1,     /* fewer than 16 bytes */
     BOHRALI_REFUSED_MARKS = 2,     /* edition neither 1 nor 2, or closing bytes differ */
@@ -235,6 +266,8 @@ enum bohrali_refusal {
     BOHRALI_REFUSED_CLAIMS = 12,   /* an odd number of bytes */
     BOHRALI_REFUSED_NUMBERS = 13,  /* a node number that no node has, or that of a barrier of the
                                       region or of a node outside it */
+    BOHRALI_REFUSED_ACCESSES = 20, /* a list not of whole records, or of over 1024 of them, a kind
+                                      of access over 1, or a node number that 13 would refuse */
     BOHRALI_REFUSED_SIZE = 21,     /* a team size below 1 or over 1024 */
     BOHRALI_REFUSED_REGION = 23    /* a number that is not BOHRALI_REGION_OUTERMOST and names no
                                       parallel */
@@ -284,6 +317,14 @@ int64_t bohrali_judge_sized(const uint8_t *chart, size_t chart_len, size_t regio
  * their values. */
 int64_t bohrali_phases(const uint8_t *chart, size_t chart_len, size_t region, uint8_t *out,
                        size_t out_len);
+
+/* Writes the races of all pairs of a list of accesses to variables in a region: for each access, in
+ * the order of the list, a byte (BOHRALI_RACE_..) for it and each access from itself on. So the
+ * first byte is that of the first access with itself, made by two threads, and for n accesses there
+ * are n * (n + 1) / 2 bytes. Returns the number of bytes written, 0 for an empty list, or a refusal
+ * 1 to 10, 23, 20 or 11, negated. Bytes past the result keep their values. */
+int64_t bohrali_races(const uint8_t *chart, size_t chart_len, size_t region,
+                      const uint8_t *accesses, size_t accesses_len, uint8_t *out, size_t out_len);
 
 /* Writes for each node a, by rising number, a row with a byte for each node b: the answer for a and
  * b in a region, or BOHRALI_ANSWER_AT_BARRIER, also where a or b is outside the region. Byte

@@ -10,6 +10,9 @@ static const uint8_t chart[46] = {
     1, 0,  5, 0,  5, 0,  0, 0,  46, 0,  26, 0,  16, 0,  0x4F, 0x43,
 };
 
+/* A write at node 1. */
+static const uint8_t access_1[BOHRALI_BYTES_ACCESS] = {1, BOHRALI_ACCESS_WRITE, 0, 0};
+
 #define REGION BOHRALI_REGION_OUTERMOST
 
 static int failures;
@@ -34,11 +37,17 @@ int main(void)
     expect("pair of nothing, sized", bohrali_pair_sized(NULL, 0, REGION, 2, 0, 0),
            -BOHRALI_REFUSED_SHORT);
     expect("phases of nothing", bohrali_phases(NULL, 0, REGION, NULL, 0), -BOHRALI_REFUSED_SHORT);
+    expect("races of nothing", bohrali_races(NULL, 0, REGION, NULL, 0, NULL, 0),
+           -BOHRALI_REFUSED_SHORT);
     expect("sheet of nothing", bohrali_sheet(NULL, 0, REGION, NULL, 0), -BOHRALI_REFUSED_SHORT);
     expect("sheet of nothing, sized", bohrali_sheet_sized(NULL, 0, REGION, 2, NULL, 0),
            -BOHRALI_REFUSED_SHORT);
     expect("no claims", bohrali_judge(chart, sizeof chart, REGION, NULL, 0), 0);
     expect("no claims, sized", bohrali_judge_sized(chart, sizeof chart, REGION, 1, NULL, 0), 0);
+    expect("no accesses", bohrali_races(chart, sizeof chart, REGION, NULL, 0, NULL, 0), 0);
+    expect("no room for races",
+           bohrali_races(chart, sizeof chart, REGION, access_1, sizeof access_1, NULL, 0),
+           -BOHRALI_REFUSED_ROOM);
     expect("no claims and no size", bohrali_judge_sized(chart, sizeof chart, REGION, 0, NULL, 0),
            -BOHRALI_REFUSED_SIZE);
     expect("no room for distances", bohrali_distances(chart, sizeof chart, REGION, NULL, 0),

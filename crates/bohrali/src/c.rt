@@ -6,6 +6,7 @@ ghost use mathlib.Core.Path.{_≡_};
 ghost use Rattle.admission.specs.Admission.{admitted, numberOf as Admission·numberOf};
 ghost use Rattle.output.specs.Output.{numberOf as Output·numberOf};
 ghost use Rattle.distances.specs.Distances.{distancesWritten, distancesLeft};
+ghost use Rattle.accesses.specs.Races.{racesWritten, racesLeft};
 ghost use Rattle.calls.specs.Phases.{phasesWritten, phasesLeft};
 ghost use Rattle.calls.specs.Sheet.{sheetWritten, sheetLeft, sheetWrittenFor, sheetLeftFor};
 ghost use Rattle.calls.specs.Pair.{pairAnswered, pairAnsweredFor, numberOf as Pair·numberOf};
@@ -15,6 +16,7 @@ ghost use Rattle.verdicts.specs.Correct.{Correct, CorrectIn};
 ghost use Rattle.correctness.specs.PhasesCorrect.{PhasesCorrect, AdmitCorrect};
 ghost use Rattle.correctness.specs.DistancesCorrect.{DistancesCorrect};
 ghost use Rattle.correctness.specs.AnswersCorrect.{PairCorrect, PairCorrectIn, SheetCorrect, SheetCorrectIn};
+ghost use Rattle.correctness.specs.RacesCorrect.{RacesCorrect};
 ghost use Rattle.bohrali.specs.Bounds.{SmallCounts};
 ghost use Prim.Native.Nat.{_+_, _*_, _^_, _<_};
 use crate::sized::judge;
@@ -134,4 +136,16 @@ pub extern "C" fn bohrali_judge_sized(
     ensures { λ r. ⌜ CorrectIn (now (chart .entry)) region size (now (claims .entry)) r ⌝ }
 {
     judge(chart, region, Size::Of(size), claims)
+}
+
+#[no_mangle]
+pub extern "C" fn bohrali_races(chart: &[u8], region: usize, accesses: &[u8], out: &mut [u8]) -> i64
+    ensures { λ r. ⌜ r ≡ Output·numberOf (racesWritten (now (chart .entry)) region (now (accesses .entry)) (now (out .entry))) ⌝ }
+    ensures { λ _. ⌜ now (out .exit) ≡ racesLeft (now (chart .entry)) region (now (accesses .entry)) (now (out .entry)) ⌝ }
+    ensures { λ r. ⌜ RacesCorrect (now (chart .entry)) region (now (accesses .entry)) (now (out .entry)) r (now (out .exit)) ⌝ }
+{
+    match races::races(chart, region, accesses, out) {
+        Written::Bytes(count) => counted(count),
+        Written::Refused(refusal) => negated(refusal),
+    }
 }

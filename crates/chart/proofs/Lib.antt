@@ -14,3 +14,4 @@ pub mod Laws
 pub mod Sections
 pub mod Accepted
 pub mod Kept
+pub mod Around

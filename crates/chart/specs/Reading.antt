@@ -38,6 +38,7 @@ regionOf p D = record {
   kind = λ c. kindOf (constructAt (D .constructs) c .kind);
   parent = parentOf (D .constructs);
   thread = λ c. constructAt (D .constructs) c .filter;
+  name = λ c. constructAt (D .constructs) c .name;
   begin = frameOf (D .nodes) beginNode;
   end = frameOf (D .nodes) endNode;
   start = cond (eqb p outside) 0 (frameOf (D .nodes) beginNode p);

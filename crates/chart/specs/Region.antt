@@ -40,6 +40,8 @@ pub record Region : Type 0 where
   pub parent : ℕ → ℕ
   -- the number of the one thread that goes into a master
   pub thread : ℕ → ℕ
+  -- the name of a critical
+  pub name : ℕ → ℕ
   pub begin : ℕ → ℕ
   pub end : ℕ → ℕ
   -- 01: Start and Finish, the barriers at which the team begins and ends

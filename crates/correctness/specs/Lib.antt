@@ -8,3 +8,5 @@ pub mod AnswersCorrectLaws
 pub mod MoreEdges
 pub mod DistancesCorrect
 pub mod DistancesCorrectLaws
+pub mod RacesCorrect
+pub mod RacesCorrectLaws

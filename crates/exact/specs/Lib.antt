@@ -14,3 +14,4 @@ pub mod Legs
 pub mod Complete
 pub mod Exact
 pub mod Answered
+pub mod Synchronized

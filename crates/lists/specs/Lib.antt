@@ -10,6 +10,7 @@ pub mod Select
 pub mod Store
 pub mod Tab
 pub mod Rows
+pub mod Triangle
 pub mod Least
 pub mod Digits
 pub mod Front

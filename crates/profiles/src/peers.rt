@@ -41,7 +41,7 @@ fn alike(a: Construct, b: Construct) -> bool
 }
 
 // The constructs like this one.
-fn peers(s: &[u8], chart: Chart, construct: Construct) -> u64
+pub fn peers(s: &[u8], chart: Chart, construct: Construct) -> u64
     requires { ⌜ Laid (now s) chart ⌝ }
     ensures { λ r. ⌜ r ≡ maskOf (isLike (decode (now (s .entry)) .constructs) (construct .kind) (construct .name) (construct .filter)) (chart .constructs) ⌝ }
 {

@@ -3,3 +3,4 @@ pub mod Step
 pub mod Run
 pub mod Laws
 pub mod SectionLaws
+pub mod Locks

@@ -81,4 +81,5 @@ pub const BEFORE: Calls = Calls {
             claims.len(),
         )
     },
+    races: None,
 };

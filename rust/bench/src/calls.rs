@@ -1,5 +1,5 @@
-//! What is measured: the six calls of one implementation, for the outermost region, each by C's one
-//! number.
+//! What is measured: the calls of one implementation, for the outermost region and teams of any size, each
+//! by C's one number.
 
 use bohrali::Region::Outermost;
 use bohrali::{Counts, Refusal, Verdict};
@@ -15,6 +15,8 @@ pub struct Calls {
     pub pair: fn(&[u8], usize, usize) -> i64,
     pub sheet: fn(&[u8], &mut [u8]) -> i64,
     pub judge: fn(&[u8], &[u8]) -> i64,
+    /// Where the implementation has it.
+    pub races: Option<fn(&[u8], &[u8], &mut [u8]) -> i64>,
 }
 
 /// The archive of this tree.
@@ -40,6 +42,11 @@ pub const LIBRARY: Calls = Calls {
             },
         )
     },
+    races: Some(|chart, accesses, out| {
+        number(bohrali::races(chart, Outermost, accesses, out), |bytes| {
+            bytes
+        })
+    }),
 };
 
 fn number<T>(result: Result<T, Refusal>, value: impl Fn(T) -> usize) -> i64 {
@@ -63,5 +70,6 @@ const fn tuned<const LEVELS: bool>() -> Calls {
         pair: tuned::pair::<LEVELS>,
         sheet: tuned::sheet::<LEVELS>,
         judge: tuned::judge::<LEVELS>,
+        races: Some(tuned::races::<LEVELS>),
     }
 }

@@ -2,14 +2,20 @@
 
 use crate::calls::Calls;
 use crate::timing::least;
-use bohrali::layout::BYTES_PHASES;
+use bohrali::layout::{BYTES_ACCESS, BYTES_PHASES};
+use bohrali::limits::MOST_ACCESSES;
+use charts::races::accesses;
+use charts::random::Random;
 use reference::answers::Rules;
 use reference::regions::read_outermost;
 use std::hint::black_box;
 
 const CLAIMS: usize = 1_024;
+/// Accesses to each of the charts in turn, and the variables of all lists.
+const FEW_ACCESSES: usize = 64;
+const VARIABLES: usize = 32;
 
-/// One of the six calls.
+/// One of the calls.
 #[derive(Clone, Copy)]
 pub enum Call {
     Admit,
@@ -18,21 +24,27 @@ pub enum Call {
     Pair,
     Sheet,
     Judge,
+    Races,
 }
 
 impl Call {
     /// Whether an implementation has it.
     pub fn is_in(self, calls: &Calls) -> bool {
-        !matches!(self, Call::Distances) || calls.distances.is_some()
+        match self {
+            Call::Distances => calls.distances.is_some(),
+            Call::Races => calls.races.is_some(),
+            _ => true,
+        }
     }
 
-    pub const ALL: [Call; 6] = [
+    pub const ALL: [Call; 7] = [
         Call::Admit,
         Call::Phases,
         Call::Distances,
         Call::Pair,
         Call::Sheet,
         Call::Judge,
+        Call::Races,
     ];
 }
 
@@ -44,6 +56,7 @@ struct Asked {
     node: usize,
     /// Claims that all hold; none where no pair of the chart is excluded.
     claims: Vec<u8>,
+    accesses: Vec<u8>,
 }
 
 /// What a chart that is refused is asked with; nothing is written for it.
@@ -53,11 +66,12 @@ fn refused(chart: Vec<u8>) -> Asked {
         nodes: 0,
         node: 1,
         claims: Vec::new(),
+        accesses: Vec::new(),
     }
 }
 
 impl Asked {
-    fn new(chart: Vec<u8>) -> Asked {
+    fn new(chart: Vec<u8>, count: usize) -> Asked {
         let Ok(outermost) = read_outermost(&chart) else {
             return refused(chart);
         };
@@ -67,11 +81,13 @@ impl Asked {
         let pairs = open.iter().flat_map(|&a| open.iter().map(move |&b| (a, b)));
         let held = pairs.filter(|&(a, b)| rules.answer(a, b) != Rules::CONCURRENT);
         let held: Vec<u8> = held.flat_map(|(a, b)| [a as u8, b as u8]).collect();
+        let named: Vec<u8> = open.iter().map(|&x| x as u8).collect();
         Asked {
             chart,
             nodes,
             node: open[open.len() / 2],
             claims: held.into_iter().cycle().take(2 * CLAIMS).collect(),
+            accesses: accesses(&mut Random::new(9), &named, count, VARIABLES),
         }
     }
 
@@ -87,7 +103,16 @@ impl Asked {
             Call::Pair => (by.pair)(chart, self.node, self.node),
             Call::Sheet => (by.sheet)(chart, &mut out[..self.nodes * self.nodes]),
             Call::Judge => (by.judge)(chart, &self.claims),
+            Call::Races => by.races.map_or(0, |races| {
+                races(chart, &self.accesses, &mut out[..self.pairs()])
+            }),
         }
+    }
+
+    /// The pairs of accesses.
+    fn pairs(&self) -> usize {
+        let count = self.accesses.len() / BYTES_ACCESS;
+        count * (count + 1) / 2
     }
 }
 
@@ -95,14 +120,16 @@ impl Asked {
 pub struct Subject {
     pub name: &'static str,
     charts: Vec<Asked>,
-    /// The longest result of a chart, Phases' or Sheet's.
+    /// The longest result of a chart, Phases', Sheet's or Races'.
     room: usize,
 }
 
 impl Subject {
-    fn new(name: &'static str, charts: impl IntoIterator<Item = Vec<u8>>) -> Subject {
-        let charts: Vec<Asked> = charts.into_iter().map(Asked::new).collect();
-        let result = |x: &Asked| x.nodes * x.nodes.max(BYTES_PHASES);
+    /// Charts, each with so many accesses.
+    fn new(name: &'static str, charts: impl IntoIterator<Item = Vec<u8>>, count: usize) -> Subject {
+        let charts = charts.into_iter().map(|chart| Asked::new(chart, count));
+        let charts: Vec<Asked> = charts.collect();
+        let result = |x: &Asked| (x.nodes * x.nodes.max(BYTES_PHASES)).max(x.pairs());
         let room = charts.iter().map(result).max().unwrap_or(0);
         Subject { name, charts, room }
     }
@@ -111,13 +138,17 @@ impl Subject {
     pub fn each() -> Vec<Subject> {
         let charts = charts::benchmark::all().into_iter();
         charts
-            .map(|(name, chart)| Subject::new(name, [chart]))
+            .map(|(name, chart)| Subject::new(name, [chart], MOST_ACCESSES))
             .collect()
     }
 
     /// The charts that are asked in turn.
     pub fn in_turn() -> Subject {
-        Subject::new("64 charts in turn", charts::benchmark::in_turn())
+        Subject::new(
+            "64 charts in turn",
+            charts::benchmark::in_turn(),
+            FEW_ACCESSES,
+        )
     }
 
     /// Nanoseconds of one call on one chart by each implementation. The first one, which has all calls,
@@ -134,7 +165,7 @@ impl Subject {
         all.map(|time| time / self.charts.len() as f64)
     }
 
-    /// The call's name; Judge's with the number of claims where there is one list.
+    /// The call's name; with the number of claims or accesses where there is one list.
     pub fn name_of(&self, call: Call) -> String {
         match (call, &self.charts[..]) {
             (Call::Admit, _) => "admit".into(),
@@ -144,6 +175,8 @@ impl Subject {
             (Call::Sheet, _) => "sheet".into(),
             (Call::Judge, [one]) => format!("judge {}", one.claims.len() / 2),
             (Call::Judge, _) => "judge".into(),
+            (Call::Races, [one]) => format!("races {}", one.accesses.len() / BYTES_ACCESS),
+            (Call::Races, _) => "races".into(),
         }
     }
 }

@@ -46,6 +46,15 @@ extern "C" {
         out: *mut u8,
         out_len: usize,
     ) -> i64;
+    pub fn bohrali_races(
+        chart: *const u8,
+        chart_len: usize,
+        region: usize,
+        accesses: *const u8,
+        accesses_len: usize,
+        out: *mut u8,
+        out_len: usize,
+    ) -> i64;
     pub fn bohrali_sheet(
         chart: *const u8,
         chart_len: usize,

@@ -45,6 +45,9 @@ pub const BYTES_CONSTRUCT: usize = 4;
 pub const BYTES_CONSTRUCT_2: usize = 6;
 pub const BYTES_TRAILER: usize = 16;
 
+/// One of a list of accesses.
+pub const BYTES_ACCESS: usize = 4;
+
 /// What `phases` writes for each node.
 pub const BYTES_PHASES: usize = 16;
 

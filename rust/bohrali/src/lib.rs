@@ -1,9 +1,10 @@
 //! Whether two threads of one OpenMP team can be at two nodes of a parallel region together, in a run
 //! that finishes: the calls of the proved library, on slices. What a chart is and what each call does
 //! is documented in include/bohrali.h; here C's one number becomes a `Result`, C's constants are
-//! `limits`, `layout`, `Answer` and `Refusal`, by the same words, a region's number is a `Region` and a
-//! team's size a `Size`.
+//! `limits`, `layout`, `Answer`, `Race` and `Refusal`, by the same words, a region's number is a `Region`, a
+//! team's size a `Size` and an access an `Access`.
 
+mod access;
 mod answer;
 mod archive;
 pub mod layout;
@@ -12,6 +13,7 @@ mod refusal;
 mod region;
 mod size;
 
+pub use access::{Access, AccessKind, Race};
 pub use answer::Answer;
 pub use refusal::Refusal;
 pub use region::Region;
@@ -128,6 +130,29 @@ pub fn phases(chart: &[u8], region: Region, out: &mut [u8]) -> Result<usize, Ref
             chart.as_ptr(),
             chart.len(),
             region.number(),
+            out.as_mut_ptr(),
+            out.len(),
+        )
+    })
+}
+
+/// Writes the races of all pairs of a list of accesses in a region, a byte each: those of the first access
+/// with itself and all behind it, then those of the second, and so on. Gives the number of bytes written.
+/// `Access::bytes` makes the list, and each byte written is the number of a `Race`.
+pub fn races(
+    chart: &[u8],
+    region: Region,
+    accesses: &[u8],
+    out: &mut [u8],
+) -> Result<usize, Refusal> {
+    // SAFETY: as above; `out` overlaps neither slice.
+    accepted(unsafe {
+        archive::bohrali_races(
+            chart.as_ptr(),
+            chart.len(),
+            region.number(),
+            accesses.as_ptr(),
+            accesses.len(),
             out.as_mut_ptr(),
             out.len(),
         )

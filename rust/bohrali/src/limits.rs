@@ -1,4 +1,5 @@
-//! The limits of a chart, and of a team's size where one is named: a count outside them is refused.
+//! The limits of a chart, of a list of accesses, and of a team's size where one is named: a count outside
+//! them is refused.
 //! Constructs may be none. Barriers are counted in each region by itself, and are never fewer than two, its
 //! Start and its Finish.
 
@@ -10,6 +11,10 @@ pub const MOST_CONSTRUCTS: usize = 48;
 pub const MOST_BARRIERS: usize = 64;
 pub const LEAST_SIZE: usize = 1;
 pub const MOST_SIZE: usize = 1024;
+pub const MOST_ACCESSES: usize = 1024;
+
+/// The most bytes that `races` writes.
+pub const MOST_RACES: usize = 524_800;
 
 /// The length of the longest chart, which is one of edition 2.
 pub const MOST_CHART_BYTES: usize = 3120;

@@ -4,7 +4,7 @@ use std::error::Error;
 use std::fmt;
 
 /// Why a call was refused: the first of its rows that applies, in the order of these numbers, but that
-/// `Region` comes straight after `Paths`.
+/// `Region` comes straight after `Paths`, and `Accesses` straight after `Region`.
 #[derive(Clone, Copy, Debug, PartialEq, Eq, Hash)]
 #[non_exhaustive]
 #[repr(u8)]
@@ -36,6 +36,9 @@ pub enum Refusal {
     Claims = 12,
     /// A node number that no node of the region has, or that of a barrier.
     Numbers = 13,
+    /// A list of accesses not of whole records or of over 1,024, a kind of access over 1, or a node number
+    /// that `Numbers` would refuse.
+    Accesses = 20,
     /// A team size below 1 or over 1,024.
     Size = 21,
     /// A region's number that names no parallel construct.
@@ -44,7 +47,7 @@ pub enum Refusal {
 
 impl Refusal {
     /// All refusals, in the order of their numbers.
-    pub const ALL: [Refusal; 15] = [
+    pub const ALL: [Refusal; 16] = [
         Refusal::Short,
         Refusal::Marks,
         Refusal::Counts,
@@ -58,6 +61,7 @@ impl Refusal {
         Refusal::Room,
         Refusal::Claims,
         Refusal::Numbers,
+        Refusal::Accesses,
         Refusal::Size,
         Refusal::Region,
     ];
@@ -86,6 +90,9 @@ impl Refusal {
             Refusal::Room => "the buffer is shorter than the result",
             Refusal::Claims => "the claims are an odd number of bytes",
             Refusal::Numbers => "a node number is a barrier's or that of no node of the region",
+            Refusal::Accesses => {
+                "the accesses are no whole records, too many, or one has a wrong kind or node"
+            }
             Refusal::Size => "the team size is below 1 or over 1024",
             Refusal::Region => "the region's number names no parallel",
         }

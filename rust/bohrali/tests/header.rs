@@ -2,11 +2,11 @@
 //! with the same numbers.
 
 use bohrali::layout::{self, ConstructKind, NodeKind};
-use bohrali::{limits, Answer, Refusal, Region};
+use bohrali::{limits, Access, AccessKind, Answer, Race, Refusal, Region};
 use std::collections::BTreeMap;
 use std::{fs, path::PathBuf};
 
-const LIMITS: [(&str, usize); 9] = [
+const LIMITS: [(&str, usize); 11] = [
     ("LEAST_NODES", limits::LEAST_NODES),
     ("MOST_NODES", limits::MOST_NODES),
     ("LEAST_EDGES", limits::LEAST_EDGES),
@@ -15,15 +15,18 @@ const LIMITS: [(&str, usize); 9] = [
     ("MOST_BARRIERS", limits::MOST_BARRIERS),
     ("LEAST_SIZE", limits::LEAST_SIZE),
     ("MOST_SIZE", limits::MOST_SIZE),
+    ("MOST_ACCESSES", limits::MOST_ACCESSES),
+    ("MOST_RACES", limits::MOST_RACES),
     ("MOST_CHART_BYTES", limits::MOST_CHART_BYTES),
 ];
 
-const LAYOUT: [(&str, usize); 23] = [
+const LAYOUT: [(&str, usize); 26] = [
     ("BYTES_NODE", layout::BYTES_NODE),
     ("BYTES_EDGE", layout::BYTES_EDGE),
     ("BYTES_CONSTRUCT", layout::BYTES_CONSTRUCT),
     ("BYTES_CONSTRUCT_2", layout::BYTES_CONSTRUCT_2),
     ("BYTES_TRAILER", layout::BYTES_TRAILER),
+    ("BYTES_ACCESS", layout::BYTES_ACCESS),
     ("BYTES_PHASES", layout::BYTES_PHASES),
     ("DISTANCE_AT_BARRIER", layout::DISTANCE_AT_BARRIER as usize),
     ("TRAILER_EDITION", layout::TRAILER_EDITION as usize),
@@ -42,6 +45,8 @@ const LAYOUT: [(&str, usize); 23] = [
     ("CONSTRUCT_SECTION", ConstructKind::Section as usize),
     ("CONSTRUCT_PARALLEL", ConstructKind::Parallel as usize),
     ("CONSTRUCT_NONE", layout::CONSTRUCT_NONE as usize),
+    ("ACCESS_READ", AccessKind::Read as usize),
+    ("ACCESS_WRITE", AccessKind::Write as usize),
 ];
 
 const AT_BARRIER: (&str, usize) = ("ANSWER_AT_BARRIER", Answer::AT_BARRIER as usize);
@@ -72,7 +77,10 @@ fn ours() -> BTreeMap<String, usize> {
     let refusals = Refusal::ALL
         .iter()
         .map(|&x| (format!("REFUSED_{}", spelt(&format!("{x:?}"))), x as usize));
-    named.chain(answers).chain(refusals).collect()
+    let races = Race::ALL
+        .iter()
+        .map(|&x| (format!("RACE_{}", spelt(&format!("{x:?}"))), x as usize));
+    named.chain(answers).chain(refusals).chain(races).collect()
 }
 
 /// The number of a C constant.
@@ -114,8 +122,21 @@ fn all_lists_are_in_the_order_of_the_numbers() {
     for (place, answer) in Answer::ALL.into_iter().enumerate() {
         assert_eq!(answer as usize, place);
     }
+    for (place, race) in Race::ALL.into_iter().enumerate() {
+        assert_eq!(race as usize, place);
+    }
     let refusals = Refusal::ALL.map(|refusal| refusal.number());
     assert!(refusals.is_sorted_by(|one, next| one < next));
+}
+
+#[test]
+fn accesses_have_the_bytes_of_c() {
+    let list = [Access::write(7, 258), Access::read(255, 65_535)];
+    assert_eq!(Access::bytes(&list), [7, 1, 2, 1, 255, 0, 255, 255]);
+    assert_eq!(list.map(Access::variable), [258, 65_535]);
+    assert_eq!(Access::bytes(&[]), []);
+    let most = limits::MOST_ACCESSES;
+    assert_eq!(limits::MOST_RACES, most * (most + 1) / 2);
 }
 
 #[test]

@@ -4,6 +4,7 @@
 pub mod benchmark;
 pub mod damage;
 pub mod more_edges;
+pub mod races;
 pub mod random;
 pub mod regions;
 pub mod valid;

@@ -12,9 +12,9 @@ use bohrali::{Counts, Refusal, Region, Size, Verdict};
 use guarded::Guarded;
 
 /// Longer than any chart, list or result of the tests.
-const ROOM: usize = 80_000;
+const ROOM: usize = 600_000;
 
-/// The calls, with the bytes to be lent to them.
+/// The calls, with the bytes to be lent to them; `claims` for lists of either kind.
 pub struct Archive {
     chart: Guarded,
     claims: Guarded,
@@ -107,6 +107,24 @@ impl Archive {
     /// Phases, in the same way.
     pub fn phases(&mut self, chart: &[u8], region: usize, out: &mut [u8]) -> i64 {
         self.write(chart, region, out, bohrali::phases)
+    }
+
+    /// Races of a list of accesses, in the same way.
+    pub fn races(&mut self, chart: &[u8], region: usize, list: &[u8], out: &mut [u8]) -> i64 {
+        let Archive {
+            chart: charts,
+            claims: lists,
+            out: outs,
+        } = self;
+        charts.with(chart, |chart| {
+            lists.with(list, |list| {
+                outs.with_mut(out, |out| {
+                    number(bohrali::races(chart, region.into(), list, out), |bytes| {
+                        bytes
+                    })
+                })
+            })
+        })
     }
 
     /// Sheet, in the same way.

@@ -2,11 +2,12 @@
 //! valid, damaged and random charts, for any region and size, with buffers longer and shorter than the
 //! result.
 
+use charts::races::{accesses, wrong_accesses};
 use charts::random::Random;
 use compare::regions::{any_region, OUTERMOST};
 use compare::sizes::any_size;
 use compare::Archive;
-use reference::{calls, distances, sizes};
+use reference::{calls, distances, races, sizes};
 use std::io::Write;
 
 const CHARTS: usize = 100_000;
@@ -83,6 +84,14 @@ impl Comparison {
         self.written("sheet of a size", chart, plain, number, &ours);
     }
 
+    fn races(&mut self, chart: &[u8], list: &[u8], room: usize) {
+        let mut ours = vec![FILL; room];
+        let number = self.archive.races(chart, self.region, list, &mut ours);
+        let plain =
+            |chart: &[u8], region: u64, out: &mut [u8]| races::write(chart, region, list, out);
+        self.written(&format!("races {list:?}"), chart, plain, number, &ours);
+    }
+
     fn written(
         &mut self,
         call: &str,
@@ -130,6 +139,18 @@ fn claims(random: &mut Random, nodes: usize) -> Vec<u8> {
     (0..length).map(|_| random.below(bound) as u8).collect()
 }
 
+/// A short list of accesses to any nodes, one in five of them wrong in some way.
+fn any_accesses(random: &mut Random, nodes: usize) -> Vec<u8> {
+    let all: Vec<u8> = (1..nodes as u8 - 1).collect();
+    let named = if all.is_empty() { &[0][..] } else { &all };
+    let count = random.between(1, 5);
+    let list = accesses(random, named, count, 3);
+    match random.percent(20) {
+        true => wrong_accesses(random, list),
+        false => list,
+    }
+}
+
 #[test]
 fn all_calls_agree() {
     let mut random = Random::new(SEED);
@@ -147,6 +168,10 @@ fn all_calls_agree() {
         }
         comparison.pair(&chart, random.below(nodes), random.below(nodes));
         comparison.judge(&chart, &claims(&mut random, nodes));
+        let list = any_accesses(&mut random, nodes);
+        let count = list.len() / races::ACCESS_BYTES;
+        let room = random.pick(&rooms(count * (count + 1) / 2));
+        comparison.races(&chart, &list, room);
         if index % SHEETS == 0 {
             for room in rooms(nodes * nodes) {
                 comparison.sheet(&chart, room);
@@ -157,7 +182,7 @@ fn all_calls_agree() {
     let outcomes = comparison.outcomes;
     let line = format!("{CHARTS} charts from seed {SEED}; outcomes 0 to 23: {outcomes:?}");
     writeln!(std::io::stderr(), "{line}").expect("standard error is open");
-    let mut rows = (0..=13).chain([21, 23]);
+    let mut rows = (0..=13).chain([20, 21, 23]);
     assert!(rows.all(|row| outcomes[row] > 500), "{line}");
 }
 

@@ -1,11 +1,11 @@
 //! The constants of the wrapper, which are those of the header, are the second implementation's.
 
 use bohrali::layout::{self, ConstructKind, NodeKind};
-use bohrali::{limits, Answer, Region};
+use bohrali::{limits, AccessKind, Answer, Race, Region};
 use reference::answers::Rules;
 use reference::calls::PHASE_BYTES;
 use reference::chart::{Chart, Construct, Edge, Node, Trailer};
-use reference::{distances, masked, printing, regions, sizes};
+use reference::{distances, masked, printing, races, regions, sizes};
 
 #[test]
 fn limits_of_a_chart() {
@@ -20,6 +20,7 @@ fn limits_of_a_chart() {
     assert_eq!(limits::MOST_CHART_BYTES, longest);
     let sizes = limits::LEAST_SIZE as u64..=limits::MOST_SIZE as u64;
     assert_eq!(sizes, sizes::SIZES);
+    assert_eq!(limits::MOST_ACCESSES, races::MOST_ACCESSES);
     assert_eq!(limits::MOST_CHART_BYTES, printing::MOST_BYTES);
 }
 
@@ -31,6 +32,7 @@ fn records() {
     assert_eq!(layout::BYTES_CONSTRUCT_2, masked::CONSTRUCT_BYTES);
     assert_eq!(layout::BYTES_TRAILER, Trailer::BYTES);
     assert_eq!(layout::BYTES_PHASES, PHASE_BYTES);
+    assert_eq!(layout::BYTES_ACCESS, races::ACCESS_BYTES);
     assert_eq!(layout::DISTANCE_AT_BARRIER, distances::AT_BARRIER);
     assert_eq!(layout::TRAILER_EDITION, Trailer::EDITION);
     assert_eq!(layout::TRAILER_EDITION_2, masked::EDITION);
@@ -55,4 +57,8 @@ fn kinds() {
     assert_eq!(Region::OUTERMOST, usize::from(regions::OUTERMOST));
     assert_eq!(Answer::Concurrent as u8, Rules::CONCURRENT);
     assert_eq!(Answer::AT_BARRIER, Rules::BARRIER);
+    assert_eq!([AccessKind::Read as u8, AccessKind::Write as u8], [0, 1]);
+    assert_eq!(Race::None as u8, races::NO_RACE);
+    assert_eq!(Race::Synchronization as u8, races::SYNCHRONIZATION_RACE);
+    assert_eq!(Race::Data as u8, races::DATA_RACE);
 }

@@ -1,4 +1,4 @@
-//! A long walk over charts and claims that change by a few bytes each time, from the known charts on:
+//! A long walk over charts, claims and accesses that change by a few bytes each time, from the known charts on:
 //! the archive and the plain implementation agree at each step.
 
 use charts::damage::scattered;
@@ -6,9 +6,11 @@ use charts::random::Random;
 use compare::regions::any_region;
 use compare::sizes::any_size;
 use compare::Archive;
-use reference::{calls, known, sizes};
+use reference::{calls, known, races, sizes};
 
 const STEPS: usize = 60_000;
+/// Accesses at nodes 1 and 3 to one variable.
+const LIST: [u8; 12] = [1, 1, 0, 0, 3, 0, 0, 0, 3, 1, 0, 0];
 const SEED: u64 = 13;
 
 #[test]
@@ -29,6 +31,7 @@ fn mutated_charts_and_claims() {
     let mut admitted = 0;
     let mut chart = from[0].clone();
     let mut claims = vec![1, 3, 3, 3];
+    let mut list = LIST.to_vec();
     for step in 0..STEPS {
         chart = match random.below(6) {
             0 => from[random.below(from.len())].clone(),
@@ -59,6 +62,17 @@ fn mutated_charts_and_claims() {
             sizes::judge(&chart, region as u64, size as u64, &claims),
             "step {step}, size {size}: {chart:02X?} {claims:?}"
         );
+        list = match random.below(4) {
+            0 => LIST.to_vec(),
+            _ => scattered(&mut random, list),
+        };
+        let (mut ours, mut theirs) = ([0; 7], [0; 7]);
+        assert_eq!(
+            archive.races(&chart, region, &list, &mut ours),
+            races::write(&chart, region as u64, &list, &mut theirs),
+            "step {step}: {chart:02X?} {list:?}"
+        );
+        assert_eq!(ours, theirs, "step {step}: {chart:02X?} {list:?}");
     }
     assert!(admitted > STEPS / 10, "{admitted} of {STEPS} admitted");
 }

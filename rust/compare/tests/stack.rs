@@ -1,8 +1,8 @@
 //! Every call, on the costliest charts, in a thread with a stack of 64 KiB.
 
-use bohrali::limits::MOST_NODES;
+use bohrali::limits::{MOST_ACCESSES, MOST_RACES};
 use bohrali::Region::{self, Outermost};
-use bohrali::Size;
+use bohrali::{Access, Size};
 use reference::builder::ChartBuilder;
 use reference::known::{longest, one_region};
 use std::thread;
@@ -27,7 +27,7 @@ fn calls_fit_a_small_stack() {
         ("an inner region", inner(), Region::Parallel(0)),
     ];
     for (name, chart, region) in outermost.into_iter().chain(others) {
-        let mut out = vec![0; MOST_NODES * MOST_NODES];
+        let mut out = vec![0; MOST_RACES];
         let calls = move || {
             bohrali::admit(&chart).expect(name);
             let node = if region == Outermost { 1 } else { 2 };
@@ -41,6 +41,8 @@ fn calls_fit_a_small_stack() {
             bohrali::judge_sized(&chart, region, size, &[node as u8; 2]).expect(name);
             bohrali::pair_sized(&chart, region, size, node, node).expect(name);
             bohrali::sheet_sized(&chart, region, size, &mut out).expect(name);
+            let list = vec![Access::write(node as u8, 0); MOST_ACCESSES];
+            bohrali::races(&chart, region, Access::bytes(&list), &mut out).expect(name);
         };
         let thread = thread::Builder::new().stack_size(STACK).spawn(calls);
         thread.expect("a thread").join().expect(name);

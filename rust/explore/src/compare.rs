@@ -114,7 +114,7 @@ fn first_unlike(
 }
 
 /// The pairs a ≤ b of non-barrier nodes.
-fn pairs(chart: &Chart) -> impl Iterator<Item = (usize, usize)> + '_ {
+pub(crate) fn pairs(chart: &Chart) -> impl Iterator<Item = (usize, usize)> + '_ {
     let judged = |&x: &usize| !chart.is_barrier(x);
     let nodes = move || (0..chart.nodes.len()).filter(judged);
     nodes().flat_map(move |a| nodes().filter(move |&b| a <= b).map(move |b| (a, b)))

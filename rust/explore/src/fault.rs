@@ -45,6 +45,12 @@ pub enum Fault {
     OneThreadForgotten,
     /// A filter that equals the size counts as that of a thread of the team.
     FilterAtSizePresent,
+    /// With locks: a critical's begin may be left all the same.
+    LockDropped,
+    /// With locks: another critical of that name does not count.
+    LockOfConstruct,
+    /// With locks: a critical does not count where it is not the innermost construct.
+    LockInnermost,
 }
 
 impl Fault {
@@ -74,6 +80,13 @@ impl Fault {
 
     /// Those of sizes, which change an answer for a team of just one size.
     pub const SIZED: [Fault; 2] = [Fault::OneThreadForgotten, Fault::FilterAtSizePresent];
+
+    /// Those of the rule with locks, under which a synchronization pair is met.
+    pub const LOCKS: [Fault; 3] = [
+        Fault::LockDropped,
+        Fault::LockOfConstruct,
+        Fault::LockInnermost,
+    ];
 
     /// The teams that the pair rules are asked about in place of others; faults of sizes alone change them.
     pub fn asked(self, teams: Teams) -> Teams {

@@ -4,6 +4,7 @@
 
 pub mod compare;
 pub mod fault;
+pub mod locks;
 pub mod masked;
 pub mod regions;
 pub mod search;

@@ -1,6 +1,6 @@
 //! The team rules of 01 and 02 and nothing else: the states of a team and the steps from each; those
-//! of sections are in `sections`, those of masked constructs in `masked`. No phase, mask or answer is
-//! known here.
+//! of sections are in `sections`, those of masked constructs in `masked`, that of locks in `locks`. No
+//! phase, mask or answer is known here.
 
 use crate::fault::Fault;
 use reference::chart::{Chart, Construct, Node};
@@ -56,6 +56,8 @@ pub struct Team<'a> {
     /// By thread its number.
     pub(crate) numbers: Vec<u16>,
     most_encounters: u8,
+    /// Whether the rules are those with locks added.
+    pub(crate) locks: bool,
     pub(crate) fault: Option<Fault>,
 }
 
@@ -87,6 +89,7 @@ impl<'a> Team<'a> {
             threads,
             numbers: numbers.to_vec(),
             most_encounters,
+            locks: false,
             fault: None,
         }
     }
@@ -178,7 +181,7 @@ impl<'a> Team<'a> {
         next.extend(targets.map(|&to| state.moved(thread, to)));
     }
 
-    /// The five rules for begins; any other begin is left by an edge.
+    /// The rules for begins; any other begin is left by an edge.
     fn begin_steps(&self, state: &State, thread: usize, construct: usize, next: &mut Vec<State>) {
         let (by_edge, straight) = match self.kind(construct) {
             Construct::SECTIONS => {
@@ -192,6 +195,7 @@ impl<'a> Team<'a> {
             // "The thread takes an edge or goes straight to the end."
             Construct::DO => (true, true),
             Construct::ORDERED => (!self.is_held(state, thread, construct), false),
+            Construct::CRITICAL => (self.is_free(state, thread, construct), false),
             _ => (true, false),
         };
         let Some(left) = self.counted(state, thread, construct) else {

@@ -12,6 +12,7 @@ pub mod known;
 pub mod masked;
 pub mod phases;
 pub mod printing;
+pub mod races;
 pub mod refusals;
 pub mod regions;
 pub mod scopes;

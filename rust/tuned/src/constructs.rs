@@ -5,7 +5,7 @@ use crate::tables::{Filtered, Record, Records, MOST_CONSTRUCTS, NONE};
 
 const SINGLE: u8 = 1;
 const MASTER: u8 = 2;
-const CRITICAL: u8 = 3;
+pub const CRITICAL: u8 = 3;
 const DO: u8 = 4;
 const ORDERED: u8 = 5;
 const SECTIONS: u8 = 6;

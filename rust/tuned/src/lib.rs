@@ -24,6 +24,7 @@ mod levels;
 mod loops;
 mod marks;
 mod nodes;
+mod races;
 mod sheet;
 mod sweeps;
 mod tables;
@@ -69,6 +70,12 @@ pub fn judge<const LEVELS: bool>(chart: &[u8], claims: &[u8]) -> i64 {
 #[inline(never)]
 pub fn distances(chart: &[u8], out: &mut [u8]) -> i64 {
     with_marks::<false, true>(chart, |marked| marked.write_levels(out))
+}
+
+/// Races: a byte for each pair of accesses.
+#[inline(never)]
+pub fn races<const LEVELS: bool>(chart: &[u8], accesses: &[u8], out: &mut [u8]) -> i64 {
+    with_marks::<true, LEVELS>(chart, |marked| marked.write_races(accesses, out))
 }
 
 /// Rows 1 to 10, then what is to be done with the marks; C's number.

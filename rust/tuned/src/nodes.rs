@@ -87,6 +87,20 @@ impl Nodes {
         })
     }
 
+    /// The construct that each of some nodes lies in.
+    #[inline(always)]
+    pub fn lying<'s>(
+        &'s self,
+        nodes: Range<usize>,
+        constructs: &'s Constructs,
+    ) -> impl Iterator<Item = u8> + 's {
+        let records = self.kind[nodes.clone()].iter().zip(&self.number[nodes]);
+        records.map(|(&kind, &number)| match kind >= BEGIN {
+            true => constructs.parent[at(number)],
+            false => number,
+        })
+    }
+
     /// Kinds and numbers, as the outermost region has them; false if row 5 applies.
     #[inline(always)]
     fn take_apart(&mut self, t: &Tables, constructs: usize) -> bool {

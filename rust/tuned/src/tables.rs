@@ -21,13 +21,17 @@ pub enum Records<'a> {
 }
 
 impl Records<'_> {
+    /// Kind, parent and name of a construct, if there is one of this number.
+    pub fn record(&self, number: usize) -> Option<Record> {
+        match self {
+            Records::First(table) => table.get(number).copied(),
+            Records::Second(table) => table.get(number).map(|&[a, b, c, d, ..]| [a, b, c, d]),
+        }
+    }
+
     /// The kind byte of a construct, if there is one of this number.
     pub fn kind_of(&self, number: u8) -> Option<u8> {
-        let number = usize::from(number);
-        match self {
-            Records::First(table) => table.get(number).map(|record| record[0]),
-            Records::Second(table) => table.get(number).map(|record| record[0]),
-        }
+        self.record(number.into()).map(|[kind, ..]| kind)
     }
 }
 

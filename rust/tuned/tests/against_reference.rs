@@ -2,18 +2,25 @@
 //! bytes that must stay, and the levels themselves, on random charts of all kinds and on those of the
 //! benchmark.
 
+use charts::races::{accesses, wrong_accesses};
 use charts::random::Random;
 use charts::{benchmark, draw};
-use reference::calls;
 use reference::known::*;
 use reference::regions::{outermost, read_outermost};
+use reference::{calls, races};
 
 const FILL: u8 = 0xAA;
 
 /// A call that writes: chart and buffer in, a number out.
 type Writer = fn(&[u8], &mut [u8]) -> i64;
 
-fn assert_writes_alike(chart: &[u8], length: usize, tuned: Writer, reference: Writer, seed: u64) {
+fn assert_writes_alike(
+    chart: &[u8],
+    length: usize,
+    tuned: impl Fn(&[u8], &mut [u8]) -> i64,
+    reference: impl Fn(&[u8], &mut [u8]) -> i64,
+    seed: u64,
+) {
     let (mut one, mut other) = (vec![FILL; length], vec![FILL; length]);
     assert_eq!(
         tuned(chart, &mut one),
@@ -80,6 +87,31 @@ fn assert_judged<const LEVELS: bool>(chart: &[u8], nodes: usize, seed: u64) {
     }
 }
 
+/// Lists of accesses, whole and damaged, short and of the greatest length.
+fn assert_races<const LEVELS: bool>(chart: &[u8], seed: u64) {
+    let mut random = Random::new(seed);
+    let chart_read = read_outermost(chart);
+    let open: Vec<u8> = chart_read.map_or(vec![1], |chart| {
+        let nodes = 0..chart.nodes.len();
+        let open = nodes.filter(|&x| !chart.is_barrier(x));
+        open.map(|x| x as u8).collect()
+    });
+    let nodes = if open.is_empty() { vec![1] } else { open };
+    let most = if seed.is_multiple_of(100) { 1_025 } else { 20 };
+    let variables = random.between(1, 400);
+    let whole = accesses(&mut random, &nodes, most - seed as usize % 2, variables);
+    let wrong = wrong_accesses(&mut random, whole.clone());
+    for list in [&[][..], &whole, &wrong] {
+        let count = list.len() / 4;
+        let length = count * (count + 1) / 2;
+        for room in [length.saturating_sub(1), length, length + 9] {
+            let tuned = |chart: &[u8], out: &mut [u8]| tuned::races::<LEVELS>(chart, list, out);
+            let plain = |chart: &[u8], out: &mut [u8]| races::write(chart, 255, list, out);
+            assert_writes_alike(chart, room, tuned, plain, seed);
+        }
+    }
+}
+
 fn assert_alike<const LEVELS: bool>(chart: &[u8], seed: u64) {
     let number = calls::admit(chart);
     assert_eq!(tuned::admit::<LEVELS>(chart), number, "seed {seed}");
@@ -89,6 +121,7 @@ fn assert_alike<const LEVELS: bool>(chart: &[u8], seed: u64) {
     };
     assert_written::<LEVELS>(chart, nodes, seed);
     assert_judged::<LEVELS>(chart, nodes, seed);
+    assert_races::<LEVELS>(chart, seed);
 }
 
 #[test]
@@ -141,6 +174,18 @@ fn masked_charts() {
     for (seed, chart) in each.chain([longest()]).enumerate() {
         assert_alike::<true>(&chart, seed as u64);
         assert_alike::<false>(&chart, seed as u64);
+    }
+}
+
+/// Charts with many criticals.
+#[test]
+fn charts_with_criticals() {
+    for seed in 0..1_500 {
+        let mut random = Random::new(seed);
+        let shape = charts::valid::Shape::locked(&mut random);
+        let chart = charts::valid::valid(&mut random, &shape).bytes();
+        assert_alike::<true>(&chart, seed);
+        assert_alike::<false>(&chart, seed);
     }
 }
 

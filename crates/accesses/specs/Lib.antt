@@ -1,0 +1,4 @@
+pub mod Access
+pub mod Races
+pub mod Race
+pub mod RaceLaws

@@ -1,0 +1,75 @@
+-- `bohrali::c::bohrali_races` meets its contract.
+-- Assumes nothing.
+use mathlib.Core.Path.{_≡_, ap, sym, _∙_}
+use mathlib.Core.List.{[]}
+use native.Mathlib.Omega.{arith}
+use lib.ListN.{length}
+use borrow.Author.Needs.{needs}
+use mir.Syntax.{w64}
+use mir.Val.{toZ, ofZ}
+use Rattle.accesses.specs.Races.{races, listRows}
+use Rattle.chart.specs.Format.{decode}
+use Rattle.chart.specs.Reading.{regionOf}
+use Rattle.output.specs.Output.{numberOf}
+use Rattle.output.proofs.Outputs.{had-room}
+use Rattle.correctness.specs.RacesCorrect.{RacesCorrect}
+use Rattle.correctness.specs.OutputCorrectLaws.{carried}
+use Rattle.correctness.specs.RacesCorrectLaws.{races-correct}
+use Rattle.bohrali.proofs.c.bohrali_races.Statement.{statement}
+use Rattle.bohrali.proofs.c.bohrali_races.Tie as tie
+
+races-requires : tie.Need-races-requires
+races-requires c κs = search needs
+
+enum-known-count : tie.Need-enum-known-count
+enum-known-count c = search needs
+
+counted-requires : tie.Need-counted-requires
+counted-requires c κs =
+    let p = c .before .before .before .before .before in
+    let e = p .before .before .before .before .before in
+    let s = e .args .chart .now in
+    let region = e .args .region in
+    let list = e .args .accesses .now in
+    let r = had-room (listRows s region list) [] (length (e .args .out .now)) (length (races (regionOf region (decode s)) list)) (sym (p .races .ensures .0) ∙ c .before .count .given .1) in
+    omega (arith, r .0, r .1)
+
+enum-known-refusal : tie.Need-enum-known-refusal
+enum-known-refusal c = search needs
+
+negated-requires : tie.Need-negated-requires
+negated-requires c κs = search needs
+
+same-length : tie.Need-same-length
+same-length c = search needs
+
+returns : tie.Need-returns
+unfolding numberOf
+returns c =
+    let p = c .before .before .before .before .before .before in
+    let e : toZ w64 (ofZ w64 (c .counted .result)) ≡ c .counted .result = search needs in
+    carried (RacesCorrect _ _ _ _) (e ∙ c .counted .ensures ∙ sym (ap numberOf (sym (p .races .ensures .0) ∙ c .before .before .count .given .1))) (p .races .ensures .1) (races-correct _ _ _ _)
+
+same-length-2 : tie.Need-same-length-2
+same-length-2 c = search needs
+
+returns-2 : tie.Need-returns-2
+unfolding numberOf
+returns-2 c =
+    let p = c .before .before .before .before .before .before in
+    let e : toZ w64 (ofZ w64 (c .negated .result)) ≡ c .negated .result = search needs in
+    carried (RacesCorrect _ _ _ _) (e ∙ c .negated .ensures ∙ sym (ap numberOf (sym (p .races .ensures .0) ∙ c .before .before .refusal .given .1))) (p .races .ensures .1) (races-correct _ _ _ _)
+
+pub bohrali-races-spec : {M : Type 1} → statement M
+bohrali-races-spec =
+    tie.close
+    (tie.spec
+    races-requires
+    enum-known-count
+    counted-requires
+    enum-known-refusal
+    negated-requires
+    same-length
+    returns
+    same-length-2
+    returns-2)

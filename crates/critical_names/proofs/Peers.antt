@@ -1,0 +1,125 @@
+-- The names around a node: the criticals like one of the region's around it.
+-- Assumes nothing.
+use mathlib.Core.Path.{_≡_, sym, _∙_, subst}
+use mathlib.Core.Logic.{_≢_}
+use mathlib.Core.Bool.{Bool, true, false}
+use mathlib.Core.List.{List}
+use Prim.Native.Nat.{ℕ, _+_, _<_}
+use native.Mathlib.Omega.{arith}
+use native.Mathlib.Decide.{ℕ-discrete}
+use lib.Bits.{bitOr}
+use lib.Dec.{eqb}
+use lib.ListN.{set, length-set}
+use borrow.Author.Tests.{eqb-true, eq-eqb, ne-eqb}
+use Rattle.lists.specs.Truth.{and-both, both-and}
+use Rattle.lists.specs.Mask.{Mask, maskOf, mask-of, mask-carry}
+use Rattle.lists.specs.Bits.{has, has-of}
+use Rattle.lists.specs.Store.{stored}
+use Rattle.chart.specs.Format.{Construct, decode, constructAt, nodeAt}
+use Rattle.chart.specs.Region.{critical, Region}
+use Rattle.chart.specs.Scope.{criticalByte, kindOf, scope, liesIn, liesAt, scopeAt}
+use Rattle.chart.specs.Nested.{countsIn}
+use Rattle.chart.specs.Refusal.{badNodes}
+use Rattle.chart.specs.Checked.{reading}
+use Rattle.chart.specs.declared.format.Chart.{Chart}
+use Rattle.chart.proofs.Records.{constructs-length}
+use Rattle.chart.proofs.Facts.{fit-nodes}
+use Rattle.chart.proofs.Tree.{Below}
+use Rattle.chart.proofs.Tables.{lies, lies-below}
+use Rattle.chart.proofs.RegionFacts.{Counts}
+use Rattle.chart.proofs.Around.{Around, around-next, around-at}
+use Rattle.answers.specs.Unexcluded.{In}
+use Rattle.loading.specs.Tables.{Accepted}
+use Rattle.loading.proofs.Accepted.{tables}
+use Rattle.profiles.specs.Chains.{maskAt, isLike}
+use Rattle.profiles.proofs.Facts.{few, is-read}
+use Rattle.profiles.proofs.Constructs.{no-bit, parent-lower, kind-byte}
+use Rattle.critical_names.specs.Names.{GivesName, NameChains, NamesAt}
+
+module _ (s : List ℕ) (chart : Chart) (A : Accepted s chart) where
+  abbrev R : Region
+  R = reading s chart
+
+  -- a construct of the region
+  abbrev Member : ℕ → Type 0
+  Member = Counts (decode s) (chart .region)
+
+  abbrev at : ℕ → Construct
+  at d = constructAt (decode s .constructs) d
+
+  pub good-nodes : badNodes (decode s) ≡ false
+  good-nodes = fit-nodes (decode s) (tables s chart A .nodes)
+
+  -- a bit of the mask of the region's constructs
+  pub member-of : (members c : ℕ) → members ≡ maskOf (countsIn (decode s .constructs) (chart .region)) (chart .constructs) → c < chart .constructs
+      → has members c ≡ countsIn (decode s .constructs) (chart .region) c
+  member-of members c q l = rw q (has-of (countsIn (decode s .constructs) (chart .region)) (chart .constructs) c l)
+
+  critical-byte : (d : ℕ) → d < R .constructs → R .kind d ≡ critical → at d .kind ≡ criticalByte
+  unfolding kindOf
+  critical-byte d l k = kind-byte s chart A criticalByte d (omega arith) (omega arith) l k
+
+  -- what gives no names: a construct that is not the region's, or no critical
+  pub gives-none : (c : ℕ) → (Member c → ⊥) → Mask (GivesName R Member c) (R .constructs) 0
+  gives-none c n = no-bit (λ d l g. n (g .0))
+
+  pub other-kind : (c : ℕ) → c < R .constructs → at c .kind ≢ criticalByte → Mask (GivesName R Member c) (R .constructs) 0
+  other-kind c l n = no-bit (λ d m g. n (critical-byte c l (g .1 .0)))
+
+  -- and a critical the criticals of its name
+  module _ (c : ℕ) (n : Member c) (q : at c .kind ≡ criticalByte) where
+    abbrev like : ℕ → Bool
+    like = isLike (decode s .constructs) (at c .kind) (at c .name) (at c .filter)
+
+    unfiltered : (d : ℕ) → d < R .constructs → at d .kind ≡ criticalByte → at d .filter ≡ 0
+    unfiltered d l k = tables s chart A .constructs .alone d l .unfiltered (λ z. omega (arith, z, k))
+
+    pub gives-peers : Mask (GivesName R Member c) (R .constructs) (maskOf like (chart .constructs))
+    unfolding isLike kindOf
+    gives-peers = rw (← constructs-length s chart (A .laid)) (mask-carry to from (mask-of like (R .constructs)))
+      where
+        to : (d : ℕ) → d < R .constructs → like d ≡ true → GivesName R Member c d
+        to d m h =
+            let k = and-both (eqb (at d .kind) (at c .kind)) _ h in
+            let f = and-both (eqb (at d .name) (at c .name)) _ (k .1) in
+            (n, (rw q, (rw (eqb-true (at d .kind) (at c .kind) (k .0), q), sym (eqb-true (at d .name) (at c .name) (f .0)))))
+
+        from : (d : ℕ) → d < R .constructs → GivesName R Member c d → like d ≡ true
+        from d m (i, (k, (j, e))) =
+            let b = critical-byte d m j in
+            both-and (eqb (at d .kind) (at c .kind)) _ (eq-eqb _ _ (b ∙ sym q))
+            (both-and (eqb (at d .name) (at c .name)) _ (eq-eqb _ _ (sym e)) (eq-eqb _ _ (unfiltered d m b ∙ sym (unfiltered c (n .0) q))))
+
+  -- one construct more
+  pub chains-next : (c : ℕ) → c < R .constructs → {chains : List ℕ} {own : ℕ} → NameChains R Member c chains → Mask (GivesName R Member c) (R .constructs) own
+      → NameChains R Member (c + 1) (set chains c (bitOr (maskAt chains (R .parent c)) own))
+  unfolding maskAt
+  chains-next c l {chains} {own} K G =
+      let f = few s chart A in
+      record {
+        long = length-set chains c _ ∙ K .long;
+        named = stored (λ d m. Mask (Around (R .parent) (GivesName R Member) d) (R .constructs) m) chains c _ (omega (arith, K .long))
+            (around-next c (λ q. omega arith) (around-at chains (K .named) (omega arith) (R .parent c) (parent-lower s chart A c l)) G) (K .named);
+      }
+
+  -- a node lies where its scope is, if it has no own
+  pub plain-scope : (x : ℕ) → scopeAt 0 (decode s .nodes) (decode s .constructs) x ≡ lies (decode s) x
+  unfolding scopeAt liesAt scope liesIn
+  plain-scope x = go (ℕ-discrete (nodeAt (decode s .nodes) x .kind) 0)
+    where
+      go : Dec (nodeAt (decode s .nodes) x .kind ≡ 0) → scopeAt 0 (decode s .nodes) (decode s .constructs) x ≡ lies (decode s) x
+      go (yes q) = rw q
+      go (no d) = rw (ne-eqb _ 0 d)
+
+  pub place-below : (x : ℕ) → Below (chart .constructs) (lies (decode s) x)
+  place-below x = subst (λ (n : ℕ). Below n (lies (decode s) x)) (constructs-length s chart (A .laid)) (lies-below (decode s) (tables s chart A) x)
+
+  pub names-at : {chains : List ℕ} → NameChains R Member (chart .constructs) chains → (x : ℕ) → NamesAt R x (maskAt chains (lies (decode s) x))
+  unfolding maskAt
+  names-at {chains} K x = mask-carry to from (around-at chains (K .named) (A .laid .constructs-most) (lies (decode s) x) (place-below x))
+    where
+      to : (d : ℕ) → d < R .constructs → Around (R .parent) (GivesName R Member) (lies (decode s) x) d → (R .kind d ≡ critical) × ((c : ℕ) × (In R critical x c × (R .name c ≡ R .name d)))
+      to d l (c, (e, (n, (k, (j, q))))) = (j, (c, ((k, is-read s chart A .enclosed-inside e n), q)))
+
+      from : (d : ℕ) → d < R .constructs → (R .kind d ≡ critical) × ((c : ℕ) × (In R critical x c × (R .name c ≡ R .name d))) → Around (R .parent) (GivesName R Member) (lies (decode s) x) d
+      from d l (j, (c, ((k, i), q))) = (c, (is-read s chart A .inside-enclosed i, (is-read s chart A .inside-counts i, (k, (j, q)))))

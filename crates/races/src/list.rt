@@ -1,0 +1,63 @@
+// A list of accesses: row 20 of the refusals, and the fields of one.
+ghost use mathlib.Core.Path.{_≡_};
+ghost use Prim.Native.Nat.{_+_, _*_, _≤_, _<_};
+ghost use lib.ListN.{length};
+ghost use Rattle.chart.specs.Region.{Region};
+ghost use Rattle.chart.specs.WellFormed.{WellFormed};
+ghost use Rattle.chart.specs.Checked.{reading};
+ghost use Rattle.loading.specs.Tables.{Accepted, Closed};
+ghost use Rattle.accesses.specs.Access.{accessAt, badAccess, badAccesses};
+use chart::cursor::wide;
+use chart::format::Chart;
+use loading::closed::load_closed;
+use pairs::numbers::bad_number;
+
+// Bytes of an access.
+pub const BYTES: usize = 4;
+
+// How many a list may have.
+const MOST: usize = 1024;
+
+// The variable of access i.
+pub fn variable_at(accesses: &[u8], i: usize) -> usize
+    requires { ⌜ 4 * i + 3 < length (now accesses) ⌝ }
+    ensures { λ r. ⌜ r ≡ accessAt (now (accesses .entry)) i .variable ⌝ }
+{
+    let at = BYTES * i;
+    wide(accesses[at + 2]) + 256 * wide(accesses[at + 3])
+}
+
+// Row 20, of access i by itself.
+fn bad_access(accesses: &[u8], i: usize, n: usize, closed: &[u8; Chart::NODES]) -> bool
+    requires { ⌜ (4 * i + 3 < length (now accesses)) × (n ≤ 192) ⌝ }
+    ensures { λ r. ⌜ ((R : Region) → WellFormed R → R .nodes ≡ n → Closed R (now (closed .entry)) → r ≡ badAccess R (accessAt (now (accesses .entry)) i)) ⌝ }
+{
+    if accesses[BYTES * i + 1] > 1 {
+        return true;
+    }
+    bad_number(wide(accesses[BYTES * i]), n, closed)
+}
+
+// Row 20.
+pub fn bad_accesses(s: &[u8], chart: Chart, accesses: &[u8]) -> bool
+    requires { ⌜ Accepted (now s) chart × WellFormed (reading (now s) chart) ⌝ }
+    ensures { λ r. ⌜ r ≡ badAccesses (reading (now (s .entry)) chart) (now (accesses .entry)) ⌝ }
+{
+    if accesses.len() % BYTES != 0 {
+        return true;
+    }
+    let n = accesses.len() / BYTES;
+    if n > MOST {
+        return true;
+    }
+    let mut closed = [0u8; Chart::NODES];
+    load_closed(s, chart, &mut closed);
+    let mut i = 0;
+    while i < n {
+        if bad_access(accesses, i, chart.nodes, &closed) {
+            return true;
+        }
+        i += 1;
+    }
+    false
+}

@@ -1,0 +1,192 @@
+//! Races. Most pairs of accesses have different variables: a row is zeros, put there at once, and then only
+//! the accesses of its own variable are looked at, which are brought together before. What two writes at two
+//! nodes make is one look-up.
+
+use crate::answers::Marked;
+use crate::bits::{members, Masks, Nodes};
+use crate::constructs::{at, CRITICAL, PARALLEL};
+use crate::tables::{MOST_CONSTRUCTS, MOST_NODES};
+use std::mem::take;
+
+const MOST: usize = 1024;
+/// Slots for the variables of a list, twice as many.
+const SLOTS: usize = 2 * MOST;
+
+const SYNCHRONIZATION: u8 = 1;
+const DATA: u8 = 2;
+
+/// Places of accesses, each below `MOST`.
+type Places = [u16; MOST];
+
+/// An access beside others of its variable.
+#[derive(Clone, Copy)]
+struct Beside {
+    /// Its place in the list.
+    index: u16,
+    node: u8,
+    /// 255 for a write.
+    write: u8,
+}
+
+/// The accesses, those of one variable side by side, in the order of the list.
+struct Together {
+    all: [Beside; MOST],
+    /// By place in the list, where the access stands here, and where those of its variable end.
+    place: Places,
+    end: Places,
+}
+
+impl Marked<'_> {
+    #[inline(always)]
+    pub fn write_races(&self, accesses: &[u8], out: &mut [u8]) -> Result<i64, u8> {
+        let (records, part) = accesses.as_chunks::<4>();
+        let count = records.len();
+        if !part.is_empty() || count > MOST {
+            return Err(20);
+        }
+        let mut wrong = false;
+        let mut named: Nodes = [0; 3];
+        for &[node, write, ..] in records {
+            let node = usize::from(node);
+            wrong |= (write > 1) | (self.marks.starts[node] == 0);
+            named[(node / 64).min(2)] |= 1 << (node % 64);
+        }
+        if wrong {
+            return Err(20);
+        }
+        let length = count * (count + 1) / 2;
+        let mut rest = out.get_mut(..length).ok_or(11u8)?;
+        let races = self.races_of_writes(&named)?;
+        let together = Together::of(records);
+        for (i, (place, end)) in together
+            .place
+            .iter()
+            .zip(&together.end)
+            .enumerate()
+            .take(count)
+        {
+            let (row, later) = take(&mut rest).split_at_mut(count - i);
+            rest = later;
+            row.fill(0);
+            let own = &together.all[usize::from(*place)..usize::from(*end)];
+            let &[first, ..] = own else { continue };
+            let from = usize::from(first.node) * self.size();
+            let races = &races[from..from + self.size()];
+            for other in own {
+                let race = races[usize::from(other.node)] & (first.write | other.write);
+                row[usize::from(other.index) - i] = race;
+            }
+        }
+        Ok(length as i64)
+    }
+
+    /// The sheet with the race of two writes in place of each answer, in the rows of some nodes.
+    #[inline(always)]
+    fn races_of_writes(&self, nodes: &Nodes) -> Result<[u8; MOST_NODES * MOST_NODES], u8> {
+        let n = self.size();
+        let mut sheet = [0; MOST_NODES * MOST_NODES];
+        self.write_sheet(&mut sheet[..n * n])?;
+        let names = self.names();
+        for node in members(nodes) {
+            let own = names[node];
+            for (entry, names) in sheet[node * n..(node + 1) * n].iter_mut().zip(&names) {
+                let shared = names & own != 0;
+                let race = if shared { SYNCHRONIZATION } else { DATA };
+                *entry = if *entry == 0 { race } else { 0 };
+            }
+        }
+        Ok(sheet)
+    }
+
+    /// The names of the criticals around each node, by the first construct that has the name. Constructs of
+    /// inner regions count for nothing: what lies there has the names of the parallel around it.
+    #[inline(always)]
+    fn names(&self) -> Masks {
+        let (table, constructs) = (&self.read.tables.constructs, self.read.constructs);
+        let mut records = [[0; 4]; MOST_CONSTRUCTS];
+        let (mut around, mut inner) = ([0u64; 64], 0u64);
+        for number in 0..constructs.count.min(MOST_CONSTRUCTS) {
+            let record = table.record(number).unwrap_or_default();
+            records[number] = record;
+            let [kind, parent, name @ ..] = record;
+            let deeper = kind == PARALLEL || inner >> at(parent) & 1 == 1;
+            inner |= u64::from(deeper) << number;
+            let same = |x: &[u8; 4]| x[0] == CRITICAL && x[2..] == name;
+            let own = match kind {
+                CRITICAL if !deeper => records.iter().position(same).map_or(0, |x| 1 << x),
+                _ => 0,
+            };
+            around[number] = around[at(parent)] | own;
+        }
+        let mut names = [0; 256];
+        let lying = self.read.nodes.lying(0..self.size(), constructs);
+        for (entry, construct) in names.iter_mut().zip(lying) {
+            *entry = around[at(construct)];
+        }
+        names
+    }
+}
+
+impl Together {
+    #[inline(always)]
+    fn of(records: &[[u8; 4]]) -> Together {
+        // By slot a variable's number, by the first access to it, and one more; by variable its accesses.
+        let mut slots = [0u16; SLOTS];
+        let (mut variable, mut counts) = ([0u16; MOST], [0u16; MOST]);
+        let mut variables = 0;
+        for (i, &[_, _, low, high]) in records.iter().enumerate() {
+            let key = u16::from_le_bytes([low, high]);
+            let mut slot = usize::from(key.wrapping_mul(0x9E37) >> 5);
+            let own = loop {
+                match usize::from(slots[slot % SLOTS]).checked_sub(1) {
+                    None => {
+                        slots[slot % SLOTS] = i as u16 + 1;
+                        variable[i] = variables;
+                        variables += 1;
+                        break i;
+                    }
+                    Some(first) if records[first][2..] == [low, high] => break first,
+                    Some(_) => slot += 1,
+                }
+            };
+            variable[i] = variable[own];
+            counts[usize::from(variable[i])] += 1;
+        }
+        Together::sorted(records, &variable, &counts)
+    }
+
+    /// Accesses by the numbers of their variables, of which each has so many.
+    #[inline(always)]
+    fn sorted(records: &[[u8; 4]], variable: &Places, counts: &Places) -> Together {
+        let mut next = [0u16; MOST];
+        let mut sum = 0;
+        for (next, count) in next.iter_mut().zip(counts) {
+            *next = sum;
+            sum += count;
+        }
+        let first = next;
+        let beside = Beside {
+            index: 0,
+            node: 0,
+            write: 0,
+        };
+        let mut together = Together {
+            all: [beside; MOST],
+            place: [0; MOST],
+            end: [0; MOST],
+        };
+        for (i, &[node, write, ..]) in records.iter().enumerate() {
+            let own = usize::from(variable[i]);
+            let place = next[own];
+            next[own] += 1;
+            together.place[i] = place;
+            together.end[i] = first[own] + counts[own];
+            together.all[usize::from(place) % MOST] = Beside {
+                index: i as u16,
+                node,
+                write: write.wrapping_neg(),
+            };
+        }
+        together
+    }
+}
