@@ -7,10 +7,10 @@ ghost use Rattle.verdicts.specs.Judged.{judgedFor, numberOf as Judged·numberOf
 use answers::Size;
 use calls::pair::Answered;
 use chart::cursor::wide;
+use judge::number::number_of;
 use output::Written;
 use output::signed::counted;
 use output::signed::negated;
-use verdicts::Verdict;
 
 pub fn pair(chart: &[u8], region: usize, size: Size, a: usize, b: usize) -> i64
     ensures { λ r. ⌜ r ≡ Pair·numberOf (pairAnsweredFor (now (chart .entry)) region size a b) ⌝ }
@@ -34,9 +34,5 @@ pub fn sheet(chart: &[u8], region: usize, size: Size, out: &mut [u8]) -> i64
 pub fn judge(chart: &[u8], region: usize, size: Size, claims: &[u8]) -> i64
     ensures { λ r. ⌜ r ≡ Judged·numberOf (judgedFor (now (chart .entry)) region size (now (claims .entry))) ⌝ }
 {
-    match judge::judge(chart, region, size, claims) {
-        Verdict::Passed => counted(0),
-        Verdict::Failed(index) => counted(index + 1),
-        Verdict::Refused(refusal) => negated(refusal),
-    }
+    number_of(judge::judge(chart, region, size, claims))
 }

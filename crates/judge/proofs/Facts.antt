@@ -1,4 +1,4 @@
--- The table of the bad numbers, what row 13 says of a list's numbers, and where a list fails.
+-- The table of the bad numbers, what row 13 says of a list's numbers, what decides a list's verdict, and where a list fails.
 -- Assumes nothing.
 use mathlib.Core.Path.{_≡_, sym, _∙_}
 use mathlib.Core.Logic.{_⊎_, inl, inr}
@@ -17,14 +17,18 @@ use Rattle.chart.specs.Region.{Region}
 use Rattle.chart.specs.Reading.{regionOf}
 use Rattle.chart.specs.Refusal.{firstOf}
 use Rattle.chart.specs.WellFormed.{WellFormed}
+use Rattle.chart.specs.declared.format.Refusal.{Refusal}
+use Rattle.chart.proofs.Rows.{first-decides, second-decides}
+use Rattle.paths.specs.Admission.{regionRows}
 use Rattle.answers.specs.Answer.{answerFor}
 use Rattle.answers.specs.Numbers.{badNumber}
 use Rattle.answers.specs.declared.Size.{Size}
 use Rattle.pairs.proofs.BadNumbers.{past-bad}
 use Rattle.verdicts.specs.Claims.{total, badNumbers, isFalse}
 use Rattle.verdicts.specs.CorrectLaws.{good-numbers}
-use Rattle.verdicts.specs.Judged.{judgeRowsFor, verdict, answered, judgedFor}
-use Rattle.verdicts.specs.declared.Verdict.the-variants.{Passed, Failed}
+use Rattle.verdicts.specs.Judged.{claimRows, judgeRowsFor, verdict, answered, judgedFor}
+use Rattle.verdicts.specs.declared.Verdict.{Verdict}
+use Rattle.verdicts.specs.declared.Verdict.the-variants.{Passed, Failed, Refused}
 
 -- a table of the bad numbers, when those below k are looked at; the others are taken for bad
 pub record Marked (R : Region) (k : ℕ) (bad : List Bool) : Type 0 where
@@ -59,6 +63,19 @@ numbers-fit R claims W few h j = go (decLt j (length claims))
     go : Dec (j < length claims) → getD claims j 0 < 192
     go (yes l) = omega (arith, good-numbers R claims h j l W .0)
     go (no l) = let past : length claims ≤ j = omega arith in omega (arith, List·getD-eq-default claims 0 past)
+
+-- a chart that is refused decides every list's verdict, and on another its own rows and claims do
+module _ (s : List ℕ) (p : ℕ) (size : Size) (claims : List ℕ) where
+  abbrev R : Region
+  R = regionOf p (decode s)
+
+  pub refused-judged : (refusal : Refusal) → firstOf (regionRows s p) ≡ some (refusal .number) → Refused refusal ≡ judgedFor s p size claims
+  unfolding judgedFor judgeRowsFor answered
+  refused-judged refusal h = rw (first-decides (regionRows s p) (claimRows R size claims) _ h)
+
+  pub listed-judged : (v : Verdict) → firstOf (regionRows s p) ≡ none → v ≡ answered (firstOf (claimRows R size claims)) (verdict (answerFor R size) claims) → v ≡ judgedFor s p size claims
+  unfolding judgedFor judgeRowsFor
+  listed-judged v h q = rw (second-decides (regionRows s p) (claimRows R size claims) h) q
 
 -- a list fails at one of its claims
 pub failed-below : (s : List ℕ) (p : ℕ) (size : Size) (claims : List ℕ) (index : ℕ) → judgedFor s p size claims ≡ Failed index → index < total claims

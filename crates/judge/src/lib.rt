@@ -11,6 +11,7 @@ use survey::survey;
 use verdicts::Verdict;
 
 pub mod claims;
+pub mod number;
 
 // The first of rows 1 to 10, 23, 12, 13 and 21 that applies, or the verdict for teams of this size.
 pub fn judge(s: &[u8], region: usize, size: Size, claims: &[u8]) -> Verdict

@@ -18,6 +18,7 @@ pub mod regions;
 pub mod scopes;
 pub mod sections;
 pub mod sizes;
+pub mod two_lists;
 
 /// What Admit tells of an admitted chart: counts of the outermost region.
 #[derive(Clone, Copy, Debug, PartialEq, Eq)]

@@ -2,15 +2,11 @@
 -- Assumes nothing.
 use mathlib.Core.Path.{refl, ap, sym, _∙_}
 use borrow.Author.Needs.{needs}
-use Rattle.chart.specs.Format.{decode}
-use Rattle.chart.specs.Reading.{regionOf}
 use Rattle.chart.specs.Checked.{countsOf, readFor}
 use Rattle.chart.specs.declared.format.Chart.{Chart}
-use Rattle.chart.proofs.Rows.{first-decides, second-decides}
 use Rattle.refusals.proofs.Outcome.{passed-none, refused-some}
-use Rattle.paths.specs.Admission.{regionRows}
 use Rattle.survey.specs.Surveyed.{checkedOf}
-use Rattle.verdicts.specs.Judged.{claimRows, judgeRowsFor, answered, judgedFor}
+use Rattle.judge.proofs.Facts.{refused-judged, listed-judged}
 use Rattle.judge.proofs.judge.Statement.{statement}
 use Rattle.judge.proofs.judge.Tie as tie
 
@@ -30,17 +26,17 @@ judge-claims-requires c κs =
     (S .accepted, S .marked)
 
 returns : tie.Need-returns
-unfolding judgedFor judgeRowsFor answered checkedOf
+unfolding checkedOf
 returns c =
     let k = c .before .before .before in
     let e = k .before .before .before .before in
     let s = e .args .s .now in
     let p = e .args .region in
     let n = refused-some _ (readFor (countsOf s) p) _ (sym (k .survey .ensures .0) ∙ ap checkedOf (c .before .refusal .given .1)) in
-    rw (first-decides (regionRows s p) (claimRows (regionOf p (decode s)) (e .args .size) (e .args .claims .now)) _ n)
+    refused-judged s p (e .args .size) (e .args .claims .now) _ n
 
 returns-2 : tie.Need-returns-2
-unfolding judgedFor judgeRowsFor checkedOf
+unfolding checkedOf
 returns-2 c =
     let m = c .before .before .before in
     let k = m .before .before in
@@ -49,7 +45,7 @@ returns-2 c =
     let p = e .args .region in
     let n = passed-none _ (readFor (countsOf s) p) _ (sym (k .survey .ensures .0) ∙ ap checkedOf (m .chart .given .1)) in
     let named = sym (ap (λ (chart : Chart). chart .region) (n .1)) in
-    rw (second-decides (regionRows s p) (claimRows (regionOf p (decode s)) (e .args .size) (e .args .claims .now)) (n .0)) (rw named at (c .judge-claims .ensures))
+    listed-judged s p (e .args .size) (e .args .claims .now) _ (n .0) (rw named at (c .judge-claims .ensures))
 
 pub judge-spec : {M : Type 1} → statement M
 judge-spec =
