@@ -8,8 +8,9 @@
  *
  * A pointer may be null only where its length is 0; otherwise it points to so many bytes. `chart`,
  * `claims` and `accesses` are only read: they may overlap, and nobody may write them during the
- * call. `out` must overlap none of them, and nobody else may read or write it during the call.
- * Calls share nothing, so any number of threads may make them.
+ * call. `out` must overlap none of them, and nobody else may read or write it during the call, nor
+ * `buffer`, in which a chart is changed. Calls share nothing, so any number of threads may make
+ * them.
  *
  * The first word of a constant says what it is: LEAST and MOST are limits, BYTES sizes, TRAILER
  * fields of the trailer, NODE and CONSTRUCT kinds, REGION numbers of regions, ANSWER answers,
@@ -74,7 +75,8 @@ extern "C" {
  *
  * Regions. The whole chart is the outermost region, BOHRALI_REGION_OUTERMOST. Each parallel
  * construct is a region inside it, or inside another one, with a team of its own; its number is the
- * construct's. Every call but bohrali_admit is about one region and reads the chart for it:
+ * construct's. Every call but bohrali_admit and bohrali_insert_edge is about one region and reads
+ * the chart for it:
  *     nodes       those inside the parallel, with its begin and its end, which are the region's
  *                 Start and Finish; all others are outside. Nothing is outside the outermost one.
  *     barriers    the barriers that name the region, and its Start and Finish. Barriers of deeper
@@ -245,7 +247,7 @@ enum bohrali_race {
 /* Refusals. A call returns the first that applies, negated, and then has written nothing. Each is
  * checked over the whole chart, or the whole list, before the next, in the order of their numbers
  * but for two: 23 comes straight after 10, and 20 straight after 23, so both before 11, 12, 13 and
- * 21. */
+ * 21. bohrali_insert_edge checks a length and two charts, in the order that is said there. */
 enum bohrali_refusal {
     BOHRALI_REFUSED_SHORT = 1,     /* fewer than 16 bytes */
     BOHRALI_REFUSED_MARKS = 2,     /* edition neither 1 nor 2, or closing bytes differ */
@@ -266,6 +268,8 @@ enum bohrali_refusal {
     BOHRALI_REFUSED_CLAIMS = 12,   /* an odd number of bytes */
     BOHRALI_REFUSED_NUMBERS = 13,  /* a node number that no node has, or that of a barrier of the
                                       region or of a node outside it */
+    BOHRALI_REFUSED_RECEIPT = 17,  /* a receipt's length or place that asking would not give now */
+    BOHRALI_REFUSED_SPACE = 18,    /* fewer than two bytes past the chart */
     BOHRALI_REFUSED_ACCESSES = 20, /* a list not of whole records, or of over 1024 of them, a kind
                                       of access over 1, or a node number that 13 would refuse */
     BOHRALI_REFUSED_SIZE = 21,     /* a team size below 1 or over 1024 */
@@ -277,6 +281,23 @@ enum bohrali_refusal {
  * phases those of the outermost region, or a refusal 1 to 10, negated. A phase is a pair (start,
  * end) that some node has; equal pairs count once. */
 int64_t bohrali_admit(const uint8_t *chart, size_t chart_len);
+
+/* Puts the edge (from, to) into the chart that the first chart_len bytes of a buffer are, where the
+ * chart with that edge is admitted too. That chart has the edge's record in its place among the
+ * edges, which rise by (from, to), and a trailer that counts it; so it is two bytes longer.
+ *
+ * An edge is tried before it is put in. Asking writes nothing and gives a refusal or a receipt, two
+ * numbers: chart_len, and the place of the new record among the edges, from 0, which is the number
+ * of present edges below (from, to). The program try_edge asks; C has no call for it. This call
+ * asks again, and puts the edge in only if the receipt is the one that asking gives now. A receipt
+ * holds no edge: that of another edge with the same place serves as well.
+ *
+ * Returns the longer chart's length, chart_len + 2, or the first of these refusals that applies,
+ * negated: 4 if chart_len is beyond buffer_len, whatever the bytes are; 1 to 10 of the present
+ * chart; 1 to 10 of the chart with the edge, so 9 for an edge that is there already and 3 where
+ * there are 1024; 17; 18. Bytes past the longer chart keep their values. */
+int64_t bohrali_insert_edge(uint8_t *buffer, size_t buffer_len, size_t chart_len,
+                            size_t receipt_length, size_t receipt_place, uint8_t from, uint8_t to);
 
 /* The answer for nodes a and b of a region: 0 to 5, or a refusal 1 to 10, 23 or 13, negated. Any
  * numbers may be handed over; the order of the two nodes does not matter. */

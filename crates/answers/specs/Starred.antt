@@ -24,7 +24,7 @@ use Rattle.answers.specs.declared.Size.{Size}
 use Rattle.answers.specs.declared.Size.the-variants.{Any, Of}
 
 -- The bytes of records: the four kinds of nodes, an edge, a construct. Tags and names are 0.
-abbrev barrier : List ℕ
+abbrev pub barrier : List ℕ
 barrier = 1 ∷ 255 ∷ 0 ∷ 0 ∷ []
 
 abbrev plain : ℕ → List ℕ
@@ -36,7 +36,7 @@ begin number = 2 ∷ number ∷ 0 ∷ 0 ∷ []
 abbrev end : ℕ → List ℕ
 end number = 3 ∷ number ∷ 0 ∷ 0 ∷ []
 
-abbrev edge : ℕ → ℕ → List ℕ
+abbrev pub edge : ℕ → ℕ → List ℕ
 edge from to = from ∷ to ∷ []
 
 abbrev construct : ℕ → ℕ → List ℕ
@@ -58,7 +58,7 @@ abbrev chartOf : ℕ → List (List ℕ) → List (List ℕ) → List (List ℕ)
 chartOf edition nodes edges constructs =
     joined nodes ++ (joined edges ++ (joined constructs ++ trailer edition (length nodes) (length edges) (length constructs) (length (joined constructs))))
 
-abbrev chart : List (List ℕ) → List (List ℕ) → List (List ℕ) → List ℕ
+abbrev pub chart : List (List ℕ) → List (List ℕ) → List (List ℕ) → List ℕ
 chart nodes edges constructs = chartOf 1 nodes edges constructs
 
 -- 01's charts. K.
@@ -66,13 +66,13 @@ abbrev chartK : List ℕ
 chartK = chart (barrier ∷ plain outside ∷ barrier ∷ plain outside ∷ barrier ∷ []) (edge 0 1 ∷ edge 1 2 ∷ edge 2 3 ∷ edge 3 1 ∷ edge 3 4 ∷ []) []
 
 -- S of a kind of construct, with its edges in a row or with 3-1 added.
-abbrev chartS : ℕ → List (List ℕ) → List ℕ
+abbrev pub chartS : ℕ → List (List ℕ) → List ℕ
 chartS kind edges = chart (barrier ∷ begin 0 ∷ plain 0 ∷ end 0 ∷ barrier ∷ []) edges (construct kind outside ∷ [])
 
-abbrev inRow : List (List ℕ)
+abbrev pub inRow : List (List ℕ)
 inRow = edge 0 1 ∷ edge 1 2 ∷ edge 2 3 ∷ edge 3 4 ∷ []
 
-abbrev andBack : List (List ℕ)
+abbrev pub andBack : List (List ℕ)
 andBack = edge 0 1 ∷ edge 1 2 ∷ edge 2 3 ∷ edge 3 1 ∷ edge 3 4 ∷ []
 
 -- S with node 4 made a barrier.
@@ -101,7 +101,7 @@ abbrev inner : ℕ → List ℕ
 inner number = 1 ∷ number ∷ 0 ∷ 0 ∷ []
 
 -- Z: a single and a barrier in a parallel. W: a parallel whose begin is not its lowest barrier.
-abbrev chartZ : List ℕ
+abbrev pub chartZ : List ℕ
 chartZ = chart (barrier ∷ begin 0 ∷ begin 1 ∷ plain 1 ∷ end 1 ∷ inner 0 ∷ end 0 ∷ barrier ∷ [])
     (edge 0 1 ∷ edge 1 2 ∷ edge 2 3 ∷ edge 3 4 ∷ edge 4 5 ∷ edge 5 6 ∷ edge 6 7 ∷ []) (construct parallelByte outside ∷ construct singleByte 0 ∷ [])
 

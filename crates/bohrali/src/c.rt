@@ -1,5 +1,5 @@
-// The calls in C. A slice is a pointer and a length there; each call returns one signed number. Each but Admit names a region of the chart, by the
-// number of a parallel or by 255 for the outermost one; any other number is refused. Those that end in `_sized` are for teams of
+// The calls in C. A slice is a pointer and a length there; each call returns one signed number. Each but Admit and those that write a
+// chart names a region of the chart, by the number of a parallel or by 255 for the outermost one; any other number is refused. Those that end in `_sized` are for teams of
 // just so many threads (02, Note 10), from 1 to 1,024. The last part of each contract is demand 2, of
 // Judge's demand 3: what the number and the lent bytes say in paths, barriers and constructs, and about finished runs.
 ghost use mathlib.Core.Path.{_≡_};
@@ -17,6 +17,9 @@ ghost use Rattle.correctness.specs.PhasesCorrect.{PhasesCorrect, AdmitCorrect};
 ghost use Rattle.correctness.specs.DistancesCorrect.{DistancesCorrect};
 ghost use Rattle.correctness.specs.AnswersCorrect.{PairCorrect, PairCorrectIn, SheetCorrect, SheetCorrectIn};
 ghost use Rattle.correctness.specs.RacesCorrect.{RacesCorrect};
+ghost use Rattle.correctness.specs.InsertCorrect.{InsertCorrect};
+ghost use Rattle.edits.specs.Edits.{insertWritten, insertLeft};
+ghost use Rattle.edits.specs.declared.Receipt.{Receipt};
 ghost use Rattle.bohrali.specs.Bounds.{SmallCounts};
 ghost use Prim.Native.Nat.{_+_, _*_, _^_, _<_};
 use crate::sized::judge;
@@ -25,6 +28,8 @@ use crate::sized::sheet;
 use admission::admit::Admission;
 use admission::admit::Counts;
 use answers::Size;
+use editing::inserting::insert_edge;
+use edits::Receipt;
 use output::Written;
 use output::signed::counted;
 use output::signed::negated;
@@ -145,6 +150,36 @@ pub extern "C" fn bohrali_races(chart: &[u8], region: usize, accesses: &[u8], ou
     ensures { λ r. ⌜ RacesCorrect (now (chart .entry)) region (now (accesses .entry)) (now (out .entry)) r (now (out .exit)) ⌝ }
 {
     match races::races(chart, region, accesses, out) {
+        Written::Bytes(count) => counted(count),
+        Written::Refused(refusal) => negated(refusal),
+    }
+}
+
+// The chart is the first `chart_len` bytes of the buffer; the receipt's two numbers are those that asking gave.
+#[no_mangle]
+pub extern "C" fn bohrali_insert_edge(
+    buffer: &mut [u8],
+    chart_len: usize,
+    receipt_length: usize,
+    receipt_place: usize,
+    from: u8,
+    to: u8,
+) -> i64
+    ensures { λ r.
+        let receipt : Receipt = record { length = «receipt_length»; place = «receipt_place» } in
+        ⌜ r ≡ Output·numberOf (insertWritten (now (buffer .entry)) «chart_len» receipt from to) ⌝ }
+    ensures { λ _.
+        let receipt : Receipt = record { length = «receipt_length»; place = «receipt_place» } in
+        ⌜ now (buffer .exit) ≡ insertLeft (now (buffer .entry)) «chart_len» receipt from to ⌝ }
+    ensures { λ r.
+        let receipt : Receipt = record { length = «receipt_length»; place = «receipt_place» } in
+        ⌜ InsertCorrect (now (buffer .entry)) «chart_len» receipt from to r (now (buffer .exit)) ⌝ }
+{
+    let receipt = Receipt {
+        length: receipt_length,
+        place: receipt_place,
+    };
+    match insert_edge(buffer, chart_len, receipt, from, to) {
         Written::Bytes(count) => counted(count),
         Written::Refused(refusal) => negated(refusal),
     }

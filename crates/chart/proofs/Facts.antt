@@ -254,14 +254,14 @@ fit-edge nodes constructs from to F =
     (neither-or _ _ (ne-eqb to 0 (F .not-into-start))
     (neither-or _ _ (ne-eqb from (length nodes - 1) (F .not-out-of-finish)) (eq-not-eqb _ _ (F .scopes))))
 
-rise-fits : (before after : Edge) → rises (before .from) (before .to) (after .from) (after .to) ≡ true → Rises before after
+pub rise-fits : (before after : Edge) → rises (before .from) (before .to) (after .from) (after .to) ≡ true → Rises before after
 unfolding rises
 rise-fits before after h = elim (or-cases (ltb (before .from) (after .from)) _ h) [
   | inl l ↦ inl (ltb-true _ _ l)
   | inr l ↦ (let a = and-both (eqb (before .from) (after .from)) (ltb (before .to) (after .to)) l in inr (eqb-true _ _ (a .0), ltb-true _ _ (a .1)))
 ]
 
-fit-rise : (before after : Edge) → Rises before after → rises (before .from) (before .to) (after .from) (after .to) ≡ true
+pub fit-rise : (before after : Edge) → Rises before after → rises (before .from) (before .to) (after .from) (after .to) ≡ true
 unfolding rises
 fit-rise before after (inl l) = or-left _ _ (lt-ltb (before .from) (after .from) l)
 fit-rise before after (inr l) =

@@ -43,7 +43,7 @@ unfolding field
 field-drop s at k = let q : at + (k + 1) ≡ at + k + 1 = omega arith in rw (getD-drop at s k 0, getD-drop at s (k + 1) 0, q)
 
 -- Records of one width stand one after the other.
-bytes-width : (edition c : ℕ) → constructBytes edition c ≡ constructWidth edition * c
+pub bytes-width : (edition c : ℕ) → constructBytes edition c ≡ constructWidth edition * c
 unfolding constructBytes constructWidth
 bytes-width edition c = go (eqb edition 2)
   where

@@ -10,3 +10,5 @@ pub mod DistancesCorrect
 pub mod DistancesCorrectLaws
 pub mod RacesCorrect
 pub mod RacesCorrectLaws
+pub mod InsertCorrect
+pub mod InsertCorrectLaws

@@ -71,7 +71,7 @@ fn key(edge: Edge) -> usize
 }
 
 // Whether b comes after a by (from, to).
-fn rising(a: Edge, b: Edge) -> bool
+pub fn rising(a: Edge, b: Edge) -> bool
     ensures { λ r. ⌜ r ≡ rises (a .from) (a .to) (b .from) (b .to) ⌝ }
 {
     key(a) < key(b)

@@ -9,6 +9,15 @@ extern "C" {
         out: *mut u8,
         out_len: usize,
     ) -> i64;
+    pub fn bohrali_insert_edge(
+        buffer: *mut u8,
+        buffer_len: usize,
+        chart_len: usize,
+        receipt_length: usize,
+        receipt_place: usize,
+        from: u8,
+        to: u8,
+    ) -> i64;
     pub fn bohrali_judge(
         chart: *const u8,
         chart_len: usize,

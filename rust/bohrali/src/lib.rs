@@ -7,6 +7,7 @@
 mod access;
 mod answer;
 mod archive;
+mod edits;
 pub mod layout;
 pub mod limits;
 mod refusal;
@@ -15,6 +16,7 @@ mod size;
 
 pub use access::{Access, AccessKind, Race};
 pub use answer::Answer;
+pub use edits::{insert_edge, Receipt};
 pub use refusal::Refusal;
 pub use region::Region;
 pub use size::Size;

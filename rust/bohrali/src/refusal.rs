@@ -4,7 +4,8 @@ use std::error::Error;
 use std::fmt;
 
 /// Why a call was refused: the first of its rows that applies, in the order of these numbers, but that
-/// `Region` comes straight after `Paths`, and `Accesses` straight after `Region`.
+/// `Region` comes straight after `Paths`, and `Accesses` straight after `Region`; `insert_edge` checks two
+/// charts and a length before them, in the order that include/bohrali.h has.
 #[derive(Clone, Copy, Debug, PartialEq, Eq, Hash)]
 #[non_exhaustive]
 #[repr(u8)]
@@ -36,6 +37,10 @@ pub enum Refusal {
     Claims = 12,
     /// A node number that no node of the region has, or that of a barrier.
     Numbers = 13,
+    /// A receipt's length or place that asking would not give now.
+    Receipt = 17,
+    /// Fewer than two bytes past the chart.
+    Space = 18,
     /// A list of accesses not of whole records or of over 1,024, a kind of access over 1, or a node number
     /// that `Numbers` would refuse.
     Accesses = 20,
@@ -47,7 +52,7 @@ pub enum Refusal {
 
 impl Refusal {
     /// All refusals, in the order of their numbers.
-    pub const ALL: [Refusal; 16] = [
+    pub const ALL: [Refusal; 18] = [
         Refusal::Short,
         Refusal::Marks,
         Refusal::Counts,
@@ -61,6 +66,8 @@ impl Refusal {
         Refusal::Room,
         Refusal::Claims,
         Refusal::Numbers,
+        Refusal::Receipt,
+        Refusal::Space,
         Refusal::Accesses,
         Refusal::Size,
         Refusal::Region,
@@ -90,6 +97,8 @@ impl Refusal {
             Refusal::Room => "the buffer is shorter than the result",
             Refusal::Claims => "the claims are an odd number of bytes",
             Refusal::Numbers => "a node number is a barrier's or that of no node of the region",
+            Refusal::Receipt => "the receipt's length or place no longer agrees",
+            Refusal::Space => "there are fewer than two bytes past the chart",
             Refusal::Accesses => {
                 "the accesses are no whole records, too many, or one has a wrong kind or node"
             }

@@ -3,6 +3,7 @@
 //! run as they are.
 
 mod agreement;
+pub mod edits;
 mod guarded;
 pub mod programs;
 pub mod regions;

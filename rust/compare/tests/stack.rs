@@ -3,6 +3,7 @@
 use bohrali::limits::{MOST_ACCESSES, MOST_RACES};
 use bohrali::Region::{self, Outermost};
 use bohrali::{Access, Size};
+use compare::edits::{right_receipt, without_spare_edge};
 use reference::builder::ChartBuilder;
 use reference::known::{longest, one_region};
 use std::thread;
@@ -43,6 +44,28 @@ fn calls_fit_a_small_stack() {
             bohrali::sheet_sized(&chart, region, size, &mut out).expect(name);
             let list = vec![Access::write(node as u8, 0); MOST_ACCESSES];
             bohrali::races(&chart, region, Access::bytes(&list), &mut out).expect(name);
+        };
+        let thread = thread::Builder::new().stack_size(STACK).spawn(calls);
+        thread.expect("a thread").join().expect(name);
+    }
+}
+
+/// A chart without an edge that it can spare, which is then put in.
+#[test]
+fn edits_fit_a_small_stack() {
+    let others = [
+        ("the longest chart", longest()),
+        ("an inner region", inner()),
+    ];
+    for (name, chart) in charts::benchmark::all().into_iter().chain(others) {
+        let (mut buffer, edge) = without_spare_edge(&chart);
+        let length = buffer.len();
+        let place = right_receipt(&buffer, edge).place;
+        buffer.resize(length + 2, 0);
+        let calls = move || {
+            let receipt = bohrali::Receipt { length, place };
+            let longer = bohrali::insert_edge(&mut buffer, length, receipt, edge.from, edge.to);
+            assert_eq!(longer, Ok(length + 2), "{name}");
         };
         let thread = thread::Builder::new().stack_size(STACK).spawn(calls);
         thread.expect("a thread").join().expect(name);

@@ -7,6 +7,7 @@ pub mod builder;
 pub mod calls;
 pub mod chart;
 pub mod distances;
+pub mod edits;
 pub mod first_edges;
 pub mod known;
 pub mod masked;

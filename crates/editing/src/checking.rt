@@ -1,0 +1,21 @@
+// Rows 1 to 10 of the refusals over any bytes, with no counts but those of the trailer.
+ghost use mathlib.Core.Path.{_≡_};
+ghost use Rattle.chart.specs.Refusal.{firstOf};
+ghost use Rattle.chart.specs.Checked.{countsOf, answer};
+ghost use Rattle.paths.specs.Admission.{admitRows};
+use chart::format::Chart;
+use chart::format::Checked;
+use entrance::Entered;
+use entrance::enter;
+
+pub fn check_all(s: &[u8]) -> Checked
+    ensures { λ r. ⌜ r ≡ answer (firstOf (admitRows (now (s .entry)))) (countsOf (now (s .entry))) ⌝ }
+{
+    let mut starts = [0u64; Chart::NODES];
+    let mut ends = [0u64; Chart::NODES];
+    let mut levels = [0u8; Chart::NODES];
+    match enter(s, Chart::OUTERMOST, &mut starts, &mut ends, &mut levels) {
+        Entered::Refused(refusal) => Checked::Refused(refusal),
+        Entered::Marked(chart, _) => Checked::Passed(chart),
+    }
+}

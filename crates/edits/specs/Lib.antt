@@ -1,0 +1,9 @@
+pub mod Splice
+pub mod Edits
+pub mod Cut
+pub mod PlaceLaws
+pub mod SpliceLaws
+pub mod AskingLaws
+pub mod Loosening
+pub mod EditLaws
+pub mod Known

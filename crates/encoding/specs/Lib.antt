@@ -1,0 +1,4 @@
+pub mod Bytes
+pub mod BytesLaws
+pub mod Tables
+pub mod Trailer

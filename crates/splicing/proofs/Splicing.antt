@@ -1,0 +1,96 @@
+-- The parts of a chart with one edge more, put together.
+-- Assumes nothing.
+use mathlib.Core.Path.{_≡_, refl, ap, sym, _∙_}
+use mathlib.Core.Bool.{Bool, true, false, cond}
+use mathlib.Core.List.{List, [], _∷_, _++_}
+use mathlib.Core.Option.{none}
+use Prim.Native.Nat.{ℕ, _+_, _*_, _≤_}
+use native.Mathlib.Omega.{arith}
+use lib.Dec.{eqb}
+use lib.ListN.{length, take}
+use Rattle.lists.specs.Range.{count, count-most, count-more}
+use Rattle.chart.specs.Format.{Edge, decode, edgeAt, constructBytes}
+use Rattle.chart.specs.Refusal.{rises, firstOf, trailerRows}
+use Rattle.chart.specs.Checked.{Laid, countsOf}
+use Rattle.chart.specs.declared.format.Chart.{Chart}
+use Rattle.chart.proofs.Accepted.{laid}
+use Rattle.chart.proofs.Records.{edges-length}
+use Rattle.encoding.specs.Bytes.{trailerBytes}
+use Rattle.encoding.specs.BytesLaws.{same-trailer}
+use Rattle.encoding.specs.Trailer.{trailerFor, small-edition, trailer-is}
+use Rattle.scratch.proofs.Putting.{chained}
+use Rattle.edits.specs.Splice.{place, longer, recordAt, recordsFrom, inserted}
+
+-- the place, counted edge by edge
+pub place-more : (edges : List Edge) (x y i : ℕ) {sum r : ℕ} → sum ≡ count i (λ k. rises (edgeAt edges k .from) (edgeAt edges k .to) x y)
+    → r ≡ cond (rises (edgeAt edges i .from) (edgeAt edges i .to) x y) 1 0
+    → sum + r ≡ count (i + 1) (λ k. rises (edgeAt edges k .from) (edgeAt edges k .to) x y)
+place-more edges x y i e f = rw (e, f) (sym (count-more i (λ k. rises (edgeAt edges k .from) (edgeAt edges k .to) x y)))
+
+pub place-most : (s : List ℕ) (chart : Chart) → Laid s chart → (x y : ℕ) → place (decode s .edges) x y ≤ chart .edges
+unfolding place
+place-most s chart L x y =
+    let most = count-most (length (decode s .edges)) (λ i. rises (edgeAt (decode s .edges) i .from) (edgeAt (decode s .edges) i .to) x y) in
+    omega (arith, most, edges-length s chart L)
+
+bytes-most : (edition c : ℕ) → constructBytes edition c ≤ 6 * c
+unfolding constructBytes
+bytes-most edition c = go (eqb edition 2)
+  where
+    go : (b : Bool) → cond b (6 * c) (4 * c) ≤ 6 * c
+    go true = omega arith
+    go false = omega arith
+
+-- a chart that rows 1 to 4 let pass: its counts, and where a record among its edges may stand
+pub record Room (s : List ℕ) (chart : Chart) (at : ℕ) : Type 0 where
+  pub edition : chart .edition ≤ 2
+  pub nodes : chart .nodes ≤ 192
+  pub edges : chart .edges ≤ 1024
+  pub constructs : chart .constructs ≤ 48
+  pub whole : at + 16 ≤ length s
+  pub most : length s ≤ 3120
+
+module _ (s : List ℕ) (passes : firstOf (trailerRows s) ≡ none) where
+  abbrev counts : Chart
+  counts = countsOf s
+
+  pub room : (place : ℕ) → place ≤ counts .edges → Room s counts (4 * counts .nodes + 2 * place)
+  unfolding countsOf
+  room place l =
+      let L = laid s passes in
+      let c = bytes-most (counts .edition) (counts .constructs) in
+      record {
+        edition = small-edition s passes;
+        nodes = L .nodes-most;
+        edges = L .edges-most;
+        constructs = L .constructs-most;
+        whole = omega (arith, L .whole);
+        most = omega (arith, L .whole, c, L .nodes-most, L .edges-most, L .constructs-most);
+      }
+
+  -- the trailer of the longer chart, by its counts
+  longer-for : (edition n e c : ℕ) → longer (trailerFor edition n e c) ≡ trailerFor edition n (e + 1) c
+  unfolding longer trailerFor
+  longer-for edition n e c =
+      let all : 4 * n + 2 * e + constructBytes edition c + 16 + 2 ≡ 4 * n + 2 * (e + 1) + constructBytes edition c + 16 = omega arith in
+      let some : 2 * e + constructBytes edition c + 16 + 2 ≡ 2 * (e + 1) + constructBytes edition c + 16 = omega arith in
+      same-trailer refl refl refl refl all some refl refl
+
+  longer-is : longer (decode s .trailer) ≡ trailerFor (counts .edition) (counts .nodes) (counts .edges + 1) (counts .constructs)
+  unfolding countsOf
+  longer-is = ap longer (trailer-is s passes) ∙ longer-for (counts .edition) (counts .nodes) (counts .edges) (counts .constructs)
+
+  -- where a record stands, by the counts
+  pub stands : (chart : Chart) → chart ≡ countsOf s → (x y : ℕ) {n : ℕ} → n ≡ place (decode s .edges) x y → 4 * chart .nodes + 2 * n ≡ recordAt s x y
+  unfolding recordAt countsOf
+  stands chart e x y q = rw (e, q)
+
+  -- the parts, one after the other
+  pub longer-put : (chart : Chart) → chart ≡ countsOf s → (x y at : ℕ) → at ≡ recordAt s x y → {l₁ l₂ l₃ l₄ : List ℕ} → l₁ ≡ take at s → l₂ ≡ l₁ ++ (x ∷ [])
+      → l₃ ≡ l₂ ++ (y ∷ []) → l₄ ≡ l₃ ++ (recordsFrom s at ++ trailerBytes (trailerFor (chart .edition) (chart .nodes) (chart .edges + 1) (chart .constructs)))
+      → l₄ ≡ inserted s x y
+  unfolding inserted
+  longer-put chart e x y at h p q r t =
+      let first = q ∙ ap (λ (l : List ℕ). l ++ (x ∷ [])) p in
+      let both = chained (take at s) (x ∷ []) (y ∷ []) first r in
+      rw (← h, longer-is) (rw e at (chained (take at s) (x ∷ y ∷ []) _ both t))
