@@ -75,8 +75,8 @@ extern "C" {
  *
  * Regions. The whole chart is the outermost region, BOHRALI_REGION_OUTERMOST. Each parallel
  * construct is a region inside it, or inside another one, with a team of its own; its number is the
- * construct's. Every call but bohrali_admit and bohrali_insert_edge is about one region and reads
- * the chart for it:
+ * construct's. Every call but bohrali_admit, bohrali_insert_edge and bohrali_remove_edge is about
+ * one region and reads the chart for it:
  *     nodes       those inside the parallel, with its begin and its end, which are the region's
  *                 Start and Finish; all others are outside. Nothing is outside the outermost one.
  *     barriers    the barriers that name the region, and its Start and Finish. Barriers of deeper
@@ -247,7 +247,8 @@ enum bohrali_race {
 /* Refusals. A call returns the first that applies, negated, and then has written nothing. Each is
  * checked over the whole chart, or the whole list, before the next, in the order of their numbers
  * but for two: 23 comes straight after 10, and 20 straight after 23, so both before 11, 12, 13 and
- * 21. bohrali_insert_edge checks a length and two charts, in the order that is said there. */
+ * 21. bohrali_insert_edge and bohrali_remove_edge check a length and two charts, in the order that
+ * is said there. */
 enum bohrali_refusal {
     BOHRALI_REFUSED_SHORT = 1,     /* fewer than 16 bytes */
     BOHRALI_REFUSED_MARKS = 2,     /* edition neither 1 nor 2, or closing bytes differ */
@@ -270,6 +271,7 @@ enum bohrali_refusal {
                                       region or of a node outside it */
     BOHRALI_REFUSED_RECEIPT = 17,  /* a receipt's length or place that asking would not give now */
     BOHRALI_REFUSED_SPACE = 18,    /* fewer than two bytes past the chart */
+    BOHRALI_REFUSED_NO_EDGE = 19,  /* the chart has no such edge */
     BOHRALI_REFUSED_ACCESSES = 20, /* a list not of whole records, or of over 1024 of them, a kind
                                       of access over 1, or a node number that 13 would refuse */
     BOHRALI_REFUSED_SIZE = 21,     /* a team size below 1 or over 1024 */
@@ -298,6 +300,19 @@ int64_t bohrali_admit(const uint8_t *chart, size_t chart_len);
  * there are 1024; 17; 18. Bytes past the longer chart keep their values. */
 int64_t bohrali_insert_edge(uint8_t *buffer, size_t buffer_len, size_t chart_len,
                             size_t receipt_length, size_t receipt_place, uint8_t from, uint8_t to);
+
+/* Takes the edge (from, to) out of the chart that the first chart_len bytes of a buffer are, where
+ * the chart without that edge is admitted too: closes the gap, rewrites the trailer, and sets the
+ * two bytes that are freed, at chart_len - 2 and chart_len - 1, to 0. Bytes from chart_len on keep
+ * their values. It takes out what bohrali_insert_edge has put in: every byte of the chart is then
+ * what it was before.
+ *
+ * Returns the shorter chart's length, chart_len - 2, or the first of these refusals that applies,
+ * negated: 4 if chart_len is beyond buffer_len, whatever the bytes are; 1 to 10 of the present
+ * chart; 19; 1 to 10 of the chart without the edge, so 3 for its only edge and 10 for one without
+ * which some node is not reached from Start, or does not reach Finish. */
+int64_t bohrali_remove_edge(uint8_t *buffer, size_t buffer_len, size_t chart_len, uint8_t from,
+                            uint8_t to);
 
 /* The answer for nodes a and b of a region: 0 to 5, or a refusal 1 to 10, 23 or 13, negated. Any
  * numbers may be handed over; the order of the two nodes does not matter. */

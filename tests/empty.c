@@ -34,6 +34,10 @@ int main(void)
            -BOHRALI_REFUSED_SHORT);
     expect("an edge beyond nothing", bohrali_insert_edge(NULL, 0, 1, 0, 0, 0, 1),
            -BOHRALI_REFUSED_LENGTHS);
+    expect("no edge out of nothing", bohrali_remove_edge(NULL, 0, 0, 0, 1),
+           -BOHRALI_REFUSED_SHORT);
+    expect("no edge from beyond nothing", bohrali_remove_edge(NULL, 0, 1, 0, 1),
+           -BOHRALI_REFUSED_LENGTHS);
     expect("judge nothing", bohrali_judge(NULL, 0, REGION, NULL, 0), -BOHRALI_REFUSED_SHORT);
     expect("judge nothing, sized", bohrali_judge_sized(NULL, 0, REGION, 2, NULL, 0),
            -BOHRALI_REFUSED_SHORT);

@@ -18,7 +18,8 @@ ghost use Rattle.correctness.specs.DistancesCorrect.{DistancesCorrect};
 ghost use Rattle.correctness.specs.AnswersCorrect.{PairCorrect, PairCorrectIn, SheetCorrect, SheetCorrectIn};
 ghost use Rattle.correctness.specs.RacesCorrect.{RacesCorrect};
 ghost use Rattle.correctness.specs.InsertCorrect.{InsertCorrect};
-ghost use Rattle.edits.specs.Edits.{insertWritten, insertLeft};
+ghost use Rattle.correctness.specs.RemoveCorrect.{RemoveCorrect};
+ghost use Rattle.edits.specs.Edits.{insertWritten, insertLeft, removeWritten, removeLeft};
 ghost use Rattle.edits.specs.declared.Receipt.{Receipt};
 ghost use Rattle.bohrali.specs.Bounds.{SmallCounts};
 ghost use Prim.Native.Nat.{_+_, _*_, _^_, _<_};
@@ -29,6 +30,7 @@ use admission::admit::Admission;
 use admission::admit::Counts;
 use answers::Size;
 use editing::inserting::insert_edge;
+use editing::removing::remove_edge;
 use edits::Receipt;
 use output::Written;
 use output::signed::counted;
@@ -180,6 +182,19 @@ pub extern "C" fn bohrali_insert_edge(
         place: receipt_place,
     };
     match insert_edge(buffer, chart_len, receipt, from, to) {
+        Written::Bytes(count) => counted(count),
+        Written::Refused(refusal) => negated(refusal),
+    }
+}
+
+// The chart is the first `chart_len` bytes of the buffer.
+#[no_mangle]
+pub extern "C" fn bohrali_remove_edge(buffer: &mut [u8], chart_len: usize, from: u8, to: u8) -> i64
+    ensures { λ r. ⌜ r ≡ Output·numberOf (removeWritten (now (buffer .entry)) «chart_len» from to) ⌝ }
+    ensures { λ _. ⌜ now (buffer .exit) ≡ removeLeft (now (buffer .entry)) «chart_len» from to ⌝ }
+    ensures { λ r. ⌜ RemoveCorrect (now (buffer .entry)) «chart_len» from to r (now (buffer .exit)) ⌝ }
+{
+    match remove_edge(buffer, chart_len, from, to) {
         Written::Bytes(count) => counted(count),
         Written::Refused(refusal) => negated(refusal),
     }

@@ -12,3 +12,5 @@ pub mod RacesCorrect
 pub mod RacesCorrectLaws
 pub mod InsertCorrect
 pub mod InsertCorrectLaws
+pub mod RemoveCorrect
+pub mod RemoveCorrectLaws

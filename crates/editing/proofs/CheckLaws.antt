@@ -35,5 +35,8 @@ module _ (s : List ℕ) (admits : firstOf (admitRows s) ≡ none) where
   unfolding admitRows chartRows
   trailer-passes = both-pass (trailerRows s) _ (both-pass (chartRows s) _ admits .0) .0
 
+  pub chart-least : 16 ≤ length s
+  chart-least = omega (arith, room s trailer-passes 0 (omega arith) .whole)
+
   pub chart-most : length s ≤ 3120
   chart-most = room s trailer-passes 0 (omega arith) .most

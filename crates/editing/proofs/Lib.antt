@@ -1,3 +1,4 @@
 pub mod CheckLaws
 pub mod AskLaws
 pub mod CommitLaws
+pub mod RemoveLaws

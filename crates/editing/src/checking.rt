@@ -1,4 +1,4 @@
-// Rows 1 to 10 of the refusals over any bytes, with no counts but those of the trailer.
+// Rows 1 to 10 of the refusals over any bytes, and the counts of the trailer where none of them applies.
 ghost use mathlib.Core.Path.{_≡_};
 ghost use Rattle.chart.specs.Refusal.{firstOf};
 ghost use Rattle.chart.specs.Checked.{countsOf, answer};

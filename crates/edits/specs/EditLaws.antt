@@ -34,9 +34,14 @@ use Rattle.edits.specs.Loosening.{edge-in, more-edges}
 use Rattle.edits.specs.declared.Receipt.{Receipt}
 
 -- an admitted chart is laid out
-admitted-laid : (s : List ℕ) → Admitted s → Laid s (countsOf s)
+pub admitted-laid : (s : List ℕ) → Admitted s → Laid s (countsOf s)
 unfolding admitRows chartRows
 admitted-laid s h = laid s (both-pass (trailerRows s) _ (both-pass (chartRows s) _ h .0) .0)
+
+-- and its edges rise
+pub admitted-rising : (s : List ℕ) → Admitted s → Rising (decode s .edges)
+unfolding admitRows
+admitted-rising s h = fits s (both-pass (chartRows s) _ h .0) .1 .edges .rising
 
 -- bytes stay bytes in the first so many of them
 take-bytes : (len : ℕ) (buffer : List ℕ) → len ≤ length buffer → AllBytes buffer → AllBytes (take len buffer)
@@ -173,8 +178,7 @@ module _ (buffer : List ℕ) (len : ℕ) (x y : ℕ) {count : ℕ} (h : removeWr
   present-length = length-take-le len buffer fits-in
 
   rising : Rising (decode present .edges)
-  unfolding admitRows
-  rising = fits present (both-pass (chartRows present) _ was-admitted .0) .1 .edges .rising
+  rising = admitted-rising present was-admitted
 
   pub short-length : length short + 2 ≡ len
   short-length = removed-length present (admitted-laid present was-admitted) x y rising was-there ∙ present-length

@@ -1,15 +1,19 @@
--- The parts of a chart with one edge more, put together.
+-- The parts of a chart with one edge more, or one less, put together; and how an edge is found.
 -- Assumes nothing.
 use mathlib.Core.Path.{_≡_, refl, ap, sym, _∙_}
-use mathlib.Core.Bool.{Bool, true, false, cond}
+use mathlib.Core.Logic.{_≢_}
+use mathlib.Core.Bool.{Bool, true, false, not, cond}
 use mathlib.Core.List.{List, [], _∷_, _++_}
 use mathlib.Core.Option.{none}
-use Prim.Native.Nat.{ℕ, _+_, _*_, _≤_}
+use Prim.Native.Nat.{ℕ, _+_, _*_, _-_, _≤_, _<_}
 use native.Mathlib.Omega.{arith}
 use lib.Dec.{eqb}
 use lib.ListN.{length, take}
-use Rattle.lists.specs.Range.{count, count-most, count-more}
+use borrow.Author.Tests.{eq-eqb}
+use Rattle.lists.specs.Truth.{false-if, same-truth}
+use Rattle.lists.specs.Range.{count, at-any, count-most, count-more}
 use Rattle.chart.specs.Format.{Edge, decode, edgeAt, constructBytes}
+use Rattle.chart.specs.Reading.{edgeIn}
 use Rattle.chart.specs.Refusal.{rises, firstOf, trailerRows}
 use Rattle.chart.specs.Checked.{Laid, countsOf}
 use Rattle.chart.specs.declared.format.Chart.{Chart}
@@ -19,7 +23,8 @@ use Rattle.encoding.specs.Bytes.{trailerBytes}
 use Rattle.encoding.specs.BytesLaws.{same-trailer}
 use Rattle.encoding.specs.Trailer.{trailerFor, small-edition, trailer-is}
 use Rattle.scratch.proofs.Putting.{chained}
-use Rattle.edits.specs.Splice.{place, longer, recordAt, recordsFrom, inserted}
+use Rattle.edits.specs.Splice.{place, longer, shorter, recordAt, recordsFrom, inserted, removed}
+use Rattle.edits.specs.PlaceLaws.{Rising, at-place}
 
 -- the place, counted edge by edge
 pub place-more : (edges : List Edge) (x y i : ℕ) {sum r : ℕ} → sum ≡ count i (λ k. rises (edgeAt edges k .from) (edgeAt edges k .to) x y)
@@ -94,3 +99,53 @@ module _ (s : List ℕ) (passes : firstOf (trailerRows s) ≡ none) where
       let first = q ∙ ap (λ (l : List ℕ). l ++ (x ∷ [])) p in
       let both = chained (take at s) (x ∷ []) (y ∷ []) first r in
       rw (← h, longer-is) (rw e at (chained (take at s) (x ∷ y ∷ []) _ both t))
+
+  -- for one edge less
+  shorter-for : (edition n e c : ℕ) → 1 ≤ e → shorter (trailerFor edition n e c) ≡ trailerFor edition n (e - 1) c
+  unfolding shorter trailerFor
+  shorter-for edition n e c h =
+      let all : 4 * n + 2 * e + constructBytes edition c + 16 - 2 ≡ 4 * n + 2 * (e - 1) + constructBytes edition c + 16 = omega arith in
+      let some : 2 * e + constructBytes edition c + 16 - 2 ≡ 2 * (e - 1) + constructBytes edition c + 16 = omega arith in
+      same-trailer refl refl refl refl all some refl refl
+
+  shorter-is : shorter (decode s .trailer) ≡ trailerFor (counts .edition) (counts .nodes) (counts .edges - 1) (counts .constructs)
+  unfolding countsOf
+  shorter-is = ap shorter (trailer-is s passes) ∙ shorter-for (counts .edition) (counts .nodes) (counts .edges) (counts .constructs) (laid s passes .one-edge)
+
+  module _ (chart : Chart) (e : chart ≡ countsOf s) (x y at : ℕ) (h : at ≡ recordAt s x y) where
+    abbrev rest : List ℕ
+    rest = recordsFrom s (at + 2) ++ trailerBytes (trailerFor (chart .edition) (chart .nodes) (chart .edges - 1) (chart .constructs))
+
+    whole : take at s ++ rest ≡ removed s x y
+    unfolding removed
+    whole = rw (← h, shorter-is, ← e)
+
+    pub shorter-put : {l₁ l₂ l₃ l₄ : List ℕ} → l₁ ≡ take at s → l₂ ≡ l₁ ++ rest → l₃ ≡ l₂ ++ (0 ∷ []) → l₄ ≡ l₃ ++ (0 ∷ [])
+        → l₄ ≡ removed s x y ++ (0 ∷ 0 ∷ [])
+    shorter-put p q r t =
+        let all = q ∙ ap (λ (l : List ℕ). l ++ rest) p ∙ whole in
+        chained (removed s x y) (0 ∷ []) (0 ∷ []) (r ∙ ap (λ (l : List ℕ). l ++ (0 ∷ [])) all) t
+
+-- an edge is where its place says, or nowhere
+module _ (edges : List Edge) (rising : Rising edges) (x y : ℕ) where
+  abbrev here : Edge
+  here = edgeAt edges (place edges x y)
+
+  pub past-edges : length edges ≤ place edges x y → true ≡ not (edgeIn edges x y)
+  past-edges l = rw (false-if {b = edgeIn edges x y} (λ h. past (at-place edges rising x y h .0)))
+    where
+      past : place edges x y < length edges → ⊥
+      past h = omega arith
+
+  pub other-from : here .from ≢ x → true ≡ not (edgeIn edges x y)
+  other-from n = rw (false-if {b = edgeIn edges x y} (λ h. n (ap (λ (e : Edge). e .from) (at-place edges rising x y h .1))))
+
+  pub same-from : place edges x y < length edges → here .from ≡ x → not (eqb (here .to) y) ≡ not (edgeIn edges x y)
+  unfolding edgeIn
+  same-from l e = ap not (same-truth _ _ there back)
+    where
+      there : eqb (here .to) y ≡ true → edgeIn edges x y ≡ true
+      there h = at-any (length edges) _ (place edges x y) l (rw (eq-eqb _ _ e) h)
+
+      back : edgeIn edges x y ≡ true → eqb (here .to) y ≡ true
+      back h = eq-eqb _ _ (ap (λ (e : Edge). e .to) (at-place edges rising x y h .1))

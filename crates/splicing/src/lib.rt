@@ -1,17 +1,19 @@
-// A chart with one edge more, put together in scratch memory (02, Note 6).
+// A chart with one edge more, and with one less, put together in scratch memory (02, Notes 6 and 7).
 ghost use mathlib.Core.Path.{_≡_};
-ghost use mathlib.Core.Bool.{cond};
-ghost use mathlib.Core.List.{_++_};
+ghost use mathlib.Core.Bool.{not, cond};
+ghost use mathlib.Core.List.{[], _∷_, _++_};
 ghost use mathlib.Core.Option.{none};
-ghost use Prim.Native.Nat.{_+_, _-_, _≤_, _<_};
+ghost use Prim.Native.Nat.{ℕ, _+_, _-_, _≤_, _<_};
 ghost use lib.ListN.{length, take};
 ghost use Rattle.chart.specs.Format.{decode, edgeAt};
+ghost use Rattle.chart.specs.Reading.{edgeIn};
 ghost use Rattle.chart.specs.Refusal.{rises, firstOf, trailerRows};
 ghost use Rattle.chart.specs.Checked.{Laid, countsOf};
 ghost use Rattle.encoding.specs.Bytes.{trailerBytes};
 ghost use Rattle.encoding.specs.Trailer.{trailerFor};
 ghost use Rattle.scratch.specs.Trailer.{Small};
-ghost use Rattle.edits.specs.Splice.{place as placeOf, recordsFrom, inserted};
+ghost use Rattle.edits.specs.Splice.{place as placeOf, recordsFrom, inserted, removed};
+ghost use Rattle.edits.specs.PlaceLaws.{Rising};
 ghost use Rattle.splicing.specs.Splicing.{withEdges};
 use chart::format::Chart;
 use chart::format::Edge;
@@ -49,6 +51,21 @@ pub fn place_of(s: &[u8], chart: Chart, edge: Edge) -> usize
     sum
 }
 
+// Whether a chart lacks this edge: edges that rise have it at its place, or nowhere.
+pub fn lacks_edge(s: &[u8], chart: Chart, edge: Edge, place: usize) -> bool
+    requires { ⌜ Laid (now s) chart × Rising (decode (now s) .edges) × (place ≡ placeOf (decode (now s) .edges) (edge .from) (edge .to)) ⌝ }
+    ensures { λ r. ⌜ r ≡ not (edgeIn (decode (now (s .entry)) .edges) (edge .from) (edge .to)) ⌝ }
+{
+    if chart.edges <= place {
+        return true;
+    }
+    let here = Edge::read(s, chart, place);
+    if here.from != edge.from {
+        return true;
+    }
+    here.to != edge.to
+}
+
 fn with_edges(chart: Chart, edges: usize) -> Chart
     ensures { λ r. ⌜ r ≡ withEdges chart edges ⌝ }
 {
@@ -83,4 +100,23 @@ pub fn put_longer(s: &[u8], chart: Chart, edge: Edge, place: usize, out: &mut [u
     put_byte(out, at, edge.from);
     put_byte(out, at + 1, edge.to);
     put_rest(out, at + 2, s, at, with_edges(chart, chart.edges + 1));
+}
+
+// The chart without the edge at this place among the edges, and 0 for each of the two bytes that are freed.
+pub fn put_shorter(s: &[u8], chart: Chart, place: usize, out: &mut [u8])
+    requires { ⌜ (firstOf (trailerRows (now s)) ≡ none) × (chart ≡ countsOf (now s)) × (place < chart .edges) × (length (now s) ≤ length (now out)) ⌝ }
+    ensures { λ _. ⌜ ((x y : ℕ) → place ≡ placeOf (decode (now (s .entry)) .edges) x y → take (length (now (s .entry))) (now (out .exit)) ≡ removed (now (s .entry)) x y ++ (0 ∷ 0 ∷ [])) ⌝ }
+{
+    let at = Node::BYTES * chart.nodes + Edge::BYTES * place;
+    let size = s.len() - Edge::BYTES;
+    put_part(out, 0, &s[..at]);
+    put_rest(
+        out,
+        at,
+        s,
+        at + Edge::BYTES,
+        with_edges(chart, chart.edges - 1),
+    );
+    put_byte(out, size, 0);
+    put_byte(out, size + 1, 0);
 }

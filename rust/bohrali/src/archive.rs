@@ -64,6 +64,13 @@ extern "C" {
         out: *mut u8,
         out_len: usize,
     ) -> i64;
+    pub fn bohrali_remove_edge(
+        buffer: *mut u8,
+        buffer_len: usize,
+        chart_len: usize,
+        from: u8,
+        to: u8,
+    ) -> i64;
     pub fn bohrali_sheet(
         chart: *const u8,
         chart_len: usize,

@@ -35,3 +35,18 @@ pub fn insert_edge(
         )
     })
 }
+
+/// Takes the edge (from, to) out of the chart that the first `chart_len` bytes of a buffer are, where the
+/// shorter chart is admitted, and gives its length. The two bytes that are freed become 0; bytes past them
+/// keep their values.
+pub fn remove_edge(
+    buffer: &mut [u8],
+    chart_len: usize,
+    from: u8,
+    to: u8,
+) -> Result<usize, Refusal> {
+    // SAFETY: as above.
+    accepted(unsafe {
+        archive::bohrali_remove_edge(buffer.as_mut_ptr(), buffer.len(), chart_len, from, to)
+    })
+}

@@ -16,7 +16,7 @@ mod size;
 
 pub use access::{Access, AccessKind, Race};
 pub use answer::Answer;
-pub use edits::{insert_edge, Receipt};
+pub use edits::{insert_edge, remove_edge, Receipt};
 pub use refusal::Refusal;
 pub use region::Region;
 pub use size::Size;

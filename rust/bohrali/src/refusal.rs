@@ -4,8 +4,8 @@ use std::error::Error;
 use std::fmt;
 
 /// Why a call was refused: the first of its rows that applies, in the order of these numbers, but that
-/// `Region` comes straight after `Paths`, and `Accesses` straight after `Region`; `insert_edge` checks two
-/// charts and a length before them, in the order that include/bohrali.h has.
+/// `Region` comes straight after `Paths`, and `Accesses` straight after `Region`; `insert_edge` and
+/// `remove_edge` check two charts and a length before them, in the order that include/bohrali.h has.
 #[derive(Clone, Copy, Debug, PartialEq, Eq, Hash)]
 #[non_exhaustive]
 #[repr(u8)]
@@ -41,6 +41,8 @@ pub enum Refusal {
     Receipt = 17,
     /// Fewer than two bytes past the chart.
     Space = 18,
+    /// The chart has no such edge.
+    NoEdge = 19,
     /// A list of accesses not of whole records or of over 1,024, a kind of access over 1, or a node number
     /// that `Numbers` would refuse.
     Accesses = 20,
@@ -52,7 +54,7 @@ pub enum Refusal {
 
 impl Refusal {
     /// All refusals, in the order of their numbers.
-    pub const ALL: [Refusal; 18] = [
+    pub const ALL: [Refusal; 19] = [
         Refusal::Short,
         Refusal::Marks,
         Refusal::Counts,
@@ -68,6 +70,7 @@ impl Refusal {
         Refusal::Numbers,
         Refusal::Receipt,
         Refusal::Space,
+        Refusal::NoEdge,
         Refusal::Accesses,
         Refusal::Size,
         Refusal::Region,
@@ -99,6 +102,7 @@ impl Refusal {
             Refusal::Numbers => "a node number is a barrier's or that of no node of the region",
             Refusal::Receipt => "the receipt's length or place no longer agrees",
             Refusal::Space => "there are fewer than two bytes past the chart",
+            Refusal::NoEdge => "the chart has no such edge",
             Refusal::Accesses => {
                 "the accesses are no whole records, too many, or one has a wrong kind or node"
             }

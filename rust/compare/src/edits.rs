@@ -47,6 +47,26 @@ impl Archive {
         assert_eq!(buffer, theirs, "{}", asked());
         number
     }
+
+    /// Takes an edge out of the chart in a buffer, in the same way.
+    pub fn remove_edge(&mut self, buffer: &mut [u8], length: usize, edge: Edge) -> i64 {
+        self.out.with_mut(buffer, |lent| {
+            let removed = bohrali::remove_edge(lent, length, edge.from, edge.to);
+            number(removed, |length| length)
+        })
+    }
+
+    /// The same: number and every byte of the buffer agree with the second implementation.
+    pub fn agree_removed(&mut self, buffer: &mut [u8], length: usize, edge: Edge) -> i64 {
+        let before = buffer.to_vec();
+        let mut theirs = before.clone();
+        let number = self.remove_edge(buffer, length, edge);
+        let expected = edits::remove(&mut theirs, length, edge);
+        let asked = || format!("{edge:?}, length {length}, {before:02X?}");
+        assert_eq!(number, expected, "{}", asked());
+        assert_eq!(buffer, theirs, "{}", asked());
+        number
+    }
 }
 
 /// A chart in a buffer that has so many bytes more.

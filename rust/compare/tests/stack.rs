@@ -50,7 +50,7 @@ fn calls_fit_a_small_stack() {
     }
 }
 
-/// A chart without an edge that it can spare, which is then put in.
+/// A chart without an edge that it can spare, which is then put in and taken out again.
 #[test]
 fn edits_fit_a_small_stack() {
     let others = [
@@ -66,6 +66,8 @@ fn edits_fit_a_small_stack() {
             let receipt = bohrali::Receipt { length, place };
             let longer = bohrali::insert_edge(&mut buffer, length, receipt, edge.from, edge.to);
             assert_eq!(longer, Ok(length + 2), "{name}");
+            let shorter = bohrali::remove_edge(&mut buffer, length + 2, edge.from, edge.to);
+            assert_eq!(shorter, Ok(length), "{name}");
         };
         let thread = thread::Builder::new().stack_size(STACK).spawn(calls);
         thread.expect("a thread").join().expect(name);

@@ -1,5 +1,5 @@
-//! An edge tried first, then put in (02, Note 6), and the program that asks. The changed chart is put together
-//! from all its records anew: edges sorted, trailer counted.
+//! An edge tried first, then put in (02, Note 6), and taken out (02, Note 7), and the program that asks. The
+//! changed chart is put together from all its records anew: edges sorted, trailer counted.
 
 use crate::builder::ChartBuilder;
 use crate::chart::{Chart, Edge, Node};
@@ -45,6 +45,28 @@ fn tried(buffer: &[u8], length: usize, edge: Edge) -> Result<(Receipt, Vec<u8>),
     let longer = with_edges(bytes, &chart, edges);
     decode_checked(&longer)?;
     Ok((Receipt { length, place }, longer))
+}
+
+/// Removal: "closes the gap, rewrites the trailer, sets the two freed bytes to 0 and returns the shorter
+/// length".
+pub fn remove(buffer: &mut [u8], length: usize, edge: Edge) -> i64 {
+    number(try_remove(buffer, length, edge))
+}
+
+/// "19 no such edge, after 1 to 10 on the present chart and before 1 to 10 on the shorter one."
+fn try_remove(buffer: &mut [u8], length: usize, edge: Edge) -> Result<usize, u8> {
+    let bytes = present(buffer, length)?;
+    let chart = decode_checked(bytes)?;
+    let others: Vec<Edge> = chart.edges.iter().copied().filter(|&x| x != edge).collect();
+    if others.len() == chart.edges.len() {
+        return Err(19);
+    }
+    let shorter = with_edges(bytes, &chart, others);
+    decode_checked(&shorter)?;
+    let (kept, freed) = buffer[..length].split_at_mut(shorter.len());
+    kept.copy_from_slice(&shorter);
+    freed.fill(0);
+    Ok(shorter.len())
 }
 
 /// "4 first of all for a length beyond the buffer."

@@ -1,9 +1,9 @@
-//! Asking about an edge and putting it in: receipts, refusals in their order, and every byte of the buffer.
-//! And the program's text.
+//! Asking about an edge, putting it in and taking it out: receipts, refusals in their order, and every byte of
+//! the buffer. And the program's text.
 
 use reference::builder::ChartBuilder;
 use reference::chart::{Chart, Construct, Edge};
-use reference::edits::{ask, input, insert, text, Receipt, MOST_BUFFER};
+use reference::edits::{ask, input, insert, remove, text, Receipt, MOST_BUFFER};
 use reference::known::*;
 use reference::refusals::decode_checked;
 
@@ -205,6 +205,91 @@ fn every_edge_of_chart_k() {
                 (asked, known) => assert_eq!(asked.err(), known.err(), "{pair:?}"),
             }
         }
+    }
+}
+
+/// What removal gives and leaves in a buffer with three bytes more.
+fn removed(chart: &[u8], pair: (u8, u8)) -> (i64, Vec<u8>) {
+    let mut bytes = buffer(chart, 3);
+    let number = remove(&mut bytes, chart.len(), edge(pair));
+    (number, bytes)
+}
+
+/// The present chart first, then 19, then the shorter chart; what is refused writes nothing.
+#[test]
+fn refusals_of_removal_in_order() {
+    let (chart, looped) = (single(), chart_s(Construct::SINGLE, &[(1, 3)]));
+    let two = row(2, 2);
+    for (chart, pair, row) in [
+        (&chart, (4, 0), 19),
+        (&chart, (1, 3), 19),
+        (&chart, (255, 255), 19),
+        (&chart, (0, 1), 10),
+        (&chart, (1, 2), 10),
+        (&chart, (2, 3), 10),
+        (&chart, (3, 4), 10),
+        (&looped, (1, 2), 10),
+        (&chart_x(&[]), (1, 2), 10),
+        // the only edge: row 3 comes before row 10
+        (&two, (0, 1), 3),
+        (&two, (1, 0), 19),
+    ] {
+        assert_eq!(removed(chart, pair), (-row, buffer(chart, 3)), "{pair:?}");
+    }
+    let mut cut = chart.clone();
+    cut[0] = 9;
+    assert_eq!(removed(&cut, (4, 0)).0, -5);
+    assert_eq!(removed(&chart[..15], (0, 1)).0, -1);
+    for length in [52, 53, usize::MAX] {
+        let mut bytes = buffer(&chart, 3);
+        assert_eq!(remove(&mut bytes, length, edge((4, 0))), -4);
+        assert_eq!(remove(&mut bytes, length, edge((1, 2))), -4);
+        assert_eq!(bytes, buffer(&chart, 3));
+    }
+}
+
+/// The gap is closed, the two bytes that are freed are 0, and what follows stays.
+#[test]
+fn the_shorter_chart() {
+    let (number, bytes) = removed(&chart_s(Construct::SINGLE, &[(3, 1)]), (3, 1));
+    assert_eq!(number, 48);
+    assert_eq!(bytes[..48], single());
+    assert_eq!(bytes[48..], [0, 0, FILL, FILL, FILL]);
+    let (number, bytes) = removed(&chart_y([1, 2], &[(3, 1)]), (3, 1));
+    assert_eq!(number, 74);
+    assert_eq!(bytes[..74], chart_y([1, 2], &[]));
+}
+
+/// "Putting in and then taking out the same edge brings back every byte of the old chart", tags among them;
+/// the two bytes past it are 0 then.
+#[test]
+fn there_and_back() {
+    for mut chart in [
+        single(),
+        chart_d(&[]),
+        chart_x(&[]),
+        chart_y([1, 2], &[]),
+        chart_z(&[]),
+    ] {
+        let nodes = decode_checked(&chart).expect("a known chart").nodes.len();
+        (0..nodes).for_each(|node| chart[4 * node + 3] = FILL);
+        let mut trips = 0;
+        for from in 0..nodes as u8 {
+            for to in 0..nodes as u8 {
+                let mut bytes = buffer(&chart, 5);
+                let Ok(receipt) = ask(&bytes, chart.len(), edge((from, to))) else {
+                    continue;
+                };
+                let longer = insert(&mut bytes, chart.len(), receipt, edge((from, to)));
+                assert_eq!(longer, chart.len() as i64 + 2);
+                let shorter = remove(&mut bytes, longer as usize, edge((from, to)));
+                assert_eq!(shorter, chart.len() as i64);
+                let tail = [0, 0, FILL, FILL, FILL];
+                assert_eq!(bytes, [&chart[..], &tail].concat());
+                trips += 1;
+            }
+        }
+        assert!(trips > 2, "{trips}");
     }
 }
 
