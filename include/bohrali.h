@@ -7,9 +7,9 @@
  * only.
  *
  * A pointer may be null only where its length is 0; otherwise it points to so many bytes. `chart`,
- * `claims` and `accesses` are only read: they may overlap, and nobody may write them during the
- * call. `out` must overlap none of them, and nobody else may read or write it during the call, nor
- * `buffer`, in which a chart is changed. Calls share nothing, so any number of threads may make
+ * `claims`, `accesses` and `text` are only read: they may overlap, and nobody may write them during
+ * the call. `out` must overlap none of them, and nobody else may read or write it during the call,
+ * nor `buffer`, in which a chart is changed. Calls share nothing, so any number of threads may make
  * them.
  *
  * The first word of a constant says what it is: LEAST and MOST are limits, BYTES sizes, TRAILER
@@ -75,8 +75,8 @@ extern "C" {
  *
  * Regions. The whole chart is the outermost region, BOHRALI_REGION_OUTERMOST. Each parallel
  * construct is a region inside it, or inside another one, with a team of its own; its number is the
- * construct's. Every call but bohrali_admit, bohrali_insert_edge and bohrali_remove_edge is about
- * one region and reads the chart for it:
+ * construct's. Every call but bohrali_admit, bohrali_listing, bohrali_insert_edge and
+ * bohrali_remove_edge is about one region and reads the chart for it:
  *     nodes       those inside the parallel, with its begin and its end, which are the region's
  *                 Start and Finish; all others are outside. Nothing is outside the outermost one.
  *     barriers    the barriers that name the region, and its Start and Finish. Barriers of deeper
@@ -114,6 +114,29 @@ extern "C" {
  * implies, as after a single, a do or a sections without NOWAIT, is a barrier node like any other.
  */
 
+/* The listing: the shape of a region as text, for those who have no compiler to write a chart. It
+ * is a row of items, one straight after the other, with no blank or line end between them:
+ *
+ *     s             a plain node
+ *     b             a barrier
+ *     l{..}         a loop: a plain node, its head; then its block, which leads back to the head.
+ *                   What follows is reached from the head.
+ *     i{..}{..}     a branch: a plain node, two blocks of which one is taken, and a plain node
+ *                   where they join
+ *     S{..} S{..}n  a single around a block. A barrier follows its end, unless n (NOWAIT) stands
+ *                   after the brace.
+ *     D{..} D{..}n  a do, in the same way
+ *     M{..}         a master
+ *     C{..}         a critical, unnamed
+ *     O{..}         an ordered
+ *
+ * A block is a row of items too; it, and the whole listing, may be empty. At most
+ * BOHRALI_MOST_DEPTH braces may be open at a time. Start and Finish go around the whole. Nodes and
+ * constructs are numbered as their letters are met: a construct's end and a branch's second node at
+ * the closing brace, the barrier that follows a construct next. Names and tags are 0. Each node
+ * leads to the next one of its row, and the last node of a row to what follows the row; an edge
+ * that would be there twice, as in i{}{}, is written once. */
+
 /* Limits of a chart. Barriers are counted in each region by itself, its Start and Finish included,
  * and so are never fewer than 2. */
 #define BOHRALI_LEAST_NODES 2
@@ -122,6 +145,9 @@ extern "C" {
 #define BOHRALI_MOST_EDGES 1024
 #define BOHRALI_MOST_CONSTRUCTS 48
 #define BOHRALI_MOST_BARRIERS 64
+
+/* The most braces that may be open in a listing. */
+#define BOHRALI_MOST_DEPTH 16
 
 /* Limits of a team's size, where one is named. */
 #define BOHRALI_LEAST_SIZE 1
@@ -247,8 +273,8 @@ enum bohrali_race {
 /* Refusals. A call returns the first that applies, negated, and then has written nothing. Each is
  * checked over the whole chart, or the whole list, before the next, in the order of their numbers
  * but for two: 23 comes straight after 10, and 20 straight after 23, so both before 11, 12, 13 and
- * 21. bohrali_insert_edge and bohrali_remove_edge check a length and two charts, in the order that
- * is said there. */
+ * 21. bohrali_insert_edge and bohrali_remove_edge check a length and two charts, and
+ * bohrali_listing a text, in the order that is said there. */
 enum bohrali_refusal {
     BOHRALI_REFUSED_SHORT = 1,     /* fewer than 16 bytes */
     BOHRALI_REFUSED_MARKS = 2,     /* edition neither 1 nor 2, or closing bytes differ */
@@ -269,6 +295,10 @@ enum bohrali_refusal {
     BOHRALI_REFUSED_CLAIMS = 12,   /* an odd number of bytes */
     BOHRALI_REFUSED_NUMBERS = 13,  /* a node number that no node has, or that of a barrier of the
                                       region or of a node outside it */
+    BOHRALI_REFUSED_GRAMMAR = 14,  /* in a listing, a byte missing or with no place in the
+                                      grammar */
+    BOHRALI_REFUSED_DEPTH = 15,    /* in a listing, over 16 open braces */
+    BOHRALI_REFUSED_LIMITS = 16,   /* of a listing, node, edge or construct count over its limit */
     BOHRALI_REFUSED_RECEIPT = 17,  /* a receipt's length or place that asking would not give now */
     BOHRALI_REFUSED_SPACE = 18,    /* fewer than two bytes past the chart */
     BOHRALI_REFUSED_NO_EDGE = 19,  /* the chart has no such edge */
@@ -283,6 +313,14 @@ enum bohrali_refusal {
  * phases those of the outermost region, or a refusal 1 to 10, negated. A phase is a pair (start,
  * end) that some node has; equal pairs count once. */
 int64_t bohrali_admit(const uint8_t *chart, size_t chart_len);
+
+/* Writes the chart of a listing, of edition 1. It is admitted: every other call takes it. Returns
+ * its length, or the first of these refusals that applies, negated: 14 or 15, of these two the one
+ * that is met first from the left, over the whole text; 16; 5 for a barrier inside a construct, one
+ * that follows a single or a do among them; 6 where the nesting is broken; 8 for over 64 barriers,
+ * Start and Finish counted; 11. Bytes past the chart keep their values. Any text may be handed
+ * over; BOHRALI_MOST_CHART_BYTES are room enough for the chart of any. */
+int64_t bohrali_listing(const uint8_t *text, size_t text_len, uint8_t *out, size_t out_len);
 
 /* Puts the edge (from, to) into the chart that the first chart_len bytes of a buffer are, where the
  * chart with that edge is admitted too. That chart has the edge's record in its place among the

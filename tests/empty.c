@@ -41,6 +41,8 @@ int main(void)
     expect("judge nothing", bohrali_judge(NULL, 0, REGION, NULL, 0), -BOHRALI_REFUSED_SHORT);
     expect("judge nothing, sized", bohrali_judge_sized(NULL, 0, REGION, 2, NULL, 0),
            -BOHRALI_REFUSED_SHORT);
+    expect("no room for the chart of an empty listing", bohrali_listing(NULL, 0, NULL, 0),
+           -BOHRALI_REFUSED_ROOM);
     expect("pair of nothing", bohrali_pair(NULL, 0, REGION, 0, 0), -BOHRALI_REFUSED_SHORT);
     expect("pair of nothing, sized", bohrali_pair_sized(NULL, 0, REGION, 2, 0, 0),
            -BOHRALI_REFUSED_SHORT);

@@ -7,6 +7,7 @@ ghost use Rattle.admission.specs.Admission.{admitted, numberOf as Admission·nu
 ghost use Rattle.output.specs.Output.{numberOf as Output·numberOf};
 ghost use Rattle.distances.specs.Distances.{distancesWritten, distancesLeft};
 ghost use Rattle.accesses.specs.Races.{racesWritten, racesLeft};
+ghost use Rattle.listing.specs.Call.{listingWritten, listingLeft};
 ghost use Rattle.calls.specs.Phases.{phasesWritten, phasesLeft};
 ghost use Rattle.calls.specs.Sheet.{sheetWritten, sheetLeft, sheetWrittenFor, sheetLeftFor};
 ghost use Rattle.calls.specs.Pair.{pairAnswered, pairAnsweredFor, numberOf as Pair·numberOf};
@@ -19,6 +20,7 @@ ghost use Rattle.correctness.specs.AnswersCorrect.{PairCorrect, PairCorrectIn, 
 ghost use Rattle.correctness.specs.RacesCorrect.{RacesCorrect};
 ghost use Rattle.correctness.specs.InsertCorrect.{InsertCorrect};
 ghost use Rattle.correctness.specs.RemoveCorrect.{RemoveCorrect};
+ghost use Rattle.correctness.specs.ListingCorrect.{ListingCorrect};
 ghost use Rattle.edits.specs.Edits.{insertWritten, insertLeft, removeWritten, removeLeft};
 ghost use Rattle.edits.specs.declared.Receipt.{Receipt};
 ghost use Rattle.bohrali.specs.Bounds.{SmallCounts};
@@ -96,6 +98,19 @@ pub extern "C" fn bohrali_distances(chart: &[u8], region: usize, out: &mut [u8])
     ensures { λ r. ⌜ DistancesCorrect (now (chart .entry)) region (now (out .entry)) r (now (out .exit)) ⌝ }
 {
     match distances::distances(chart, region, out) {
+        Written::Bytes(count) => counted(count),
+        Written::Refused(refusal) => negated(refusal),
+    }
+}
+
+// The chart of a directive listing, written to the buffer: its length.
+#[no_mangle]
+pub extern "C" fn bohrali_listing(text: &[u8], out: &mut [u8]) -> i64
+    ensures { λ r. ⌜ r ≡ Output·numberOf (listingWritten (now (text .entry)) (now (out .entry))) ⌝ }
+    ensures { λ _. ⌜ now (out .exit) ≡ listingLeft (now (text .entry)) (now (out .entry)) ⌝ }
+    ensures { λ r. ⌜ ListingCorrect (now (text .entry)) (now (out .entry)) r (now (out .exit)) ⌝ }
+{
+    match listing_chart::listing(text, out) {
         Written::Bytes(count) => counted(count),
         Written::Refused(refusal) => negated(refusal),
     }

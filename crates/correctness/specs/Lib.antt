@@ -14,3 +14,5 @@ pub mod InsertCorrect
 pub mod InsertCorrectLaws
 pub mod RemoveCorrect
 pub mod RemoveCorrectLaws
+pub mod ListingCorrect
+pub mod ListingCorrectLaws

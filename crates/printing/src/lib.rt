@@ -13,7 +13,7 @@ use chart::cursor::wide;
 use chart::format::Chart;
 use chart::format::Refusal;
 
-fn print_refusal(refusal: Refusal) {
+pub fn print_refusal(refusal: Refusal) {
     io::write_all(1, b"refused ");
     io::print_decimal(1, wide(refusal.number) as u64);
     io::write_all(1, b"\n");
@@ -33,7 +33,7 @@ fn print_admitted(s: &[u8], counts: Counts)
 }
 
 // What the program prints for these bytes.
-fn print(s: &[u8]) {
+pub fn print(s: &[u8]) {
     match admit(s) {
         Admission::Admitted(counts) => print_admitted(s, counts),
         Admission::Refused(refusal) => print_refusal(refusal),

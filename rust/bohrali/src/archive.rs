@@ -33,6 +33,7 @@ extern "C" {
         claims: *const u8,
         claims_len: usize,
     ) -> i64;
+    pub fn bohrali_listing(text: *const u8, text_len: usize, out: *mut u8, out_len: usize) -> i64;
     pub fn bohrali_pair(
         chart: *const u8,
         chart_len: usize,

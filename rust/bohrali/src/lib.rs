@@ -100,6 +100,15 @@ pub fn judge_sized(
     accepted(number).map(verdict)
 }
 
+/// Writes the chart of a listing, the shape of a region as text, and gives its length. The chart is admitted.
+/// include/bohrali.h has the grammar.
+pub fn listing(text: &[u8], out: &mut [u8]) -> Result<usize, Refusal> {
+    // SAFETY: as above, for `text` in place of the chart.
+    accepted(unsafe {
+        archive::bohrali_listing(text.as_ptr(), text.len(), out.as_mut_ptr(), out.len())
+    })
+}
+
 /// The answer for two nodes of a region, which may be equal.
 pub fn pair(chart: &[u8], region: Region, a: usize, b: usize) -> Result<Answer, Refusal> {
     // SAFETY: as above; a and b are numbers.

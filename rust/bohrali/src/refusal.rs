@@ -5,7 +5,8 @@ use std::fmt;
 
 /// Why a call was refused: the first of its rows that applies, in the order of these numbers, but that
 /// `Region` comes straight after `Paths`, and `Accesses` straight after `Region`; `insert_edge` and
-/// `remove_edge` check two charts and a length before them, in the order that include/bohrali.h has.
+/// `remove_edge` check two charts and a length before them, and `listing` comes from `Grammar`, `Depth` and
+/// `Limits` to `Node`, `Construct`, `Barrier` and `Room`, as include/bohrali.h says.
 #[derive(Clone, Copy, Debug, PartialEq, Eq, Hash)]
 #[non_exhaustive]
 #[repr(u8)]
@@ -37,6 +38,12 @@ pub enum Refusal {
     Claims = 12,
     /// A node number that no node of the region has, or that of a barrier.
     Numbers = 13,
+    /// A byte missing in a listing, or one with no place in the grammar.
+    Grammar = 14,
+    /// Over 16 braces open in a listing.
+    Depth = 15,
+    /// Node, edge or construct count of a listing over the limits of a chart.
+    Limits = 16,
     /// A receipt's length or place that asking would not give now.
     Receipt = 17,
     /// Fewer than two bytes past the chart.
@@ -54,7 +61,7 @@ pub enum Refusal {
 
 impl Refusal {
     /// All refusals, in the order of their numbers.
-    pub const ALL: [Refusal; 19] = [
+    pub const ALL: [Refusal; 22] = [
         Refusal::Short,
         Refusal::Marks,
         Refusal::Counts,
@@ -68,6 +75,9 @@ impl Refusal {
         Refusal::Room,
         Refusal::Claims,
         Refusal::Numbers,
+        Refusal::Grammar,
+        Refusal::Depth,
+        Refusal::Limits,
         Refusal::Receipt,
         Refusal::Space,
         Refusal::NoEdge,
@@ -100,6 +110,9 @@ impl Refusal {
             Refusal::Room => "the buffer is shorter than the result",
             Refusal::Claims => "the claims are an odd number of bytes",
             Refusal::Numbers => "a node number is a barrier's or that of no node of the region",
+            Refusal::Grammar => "a byte of the listing is missing or has no place in the grammar",
+            Refusal::Depth => "over 16 braces of the listing are open",
+            Refusal::Limits => "the listing has too many nodes, edges or constructs",
             Refusal::Receipt => "the receipt's length or place no longer agrees",
             Refusal::Space => "there are fewer than two bytes past the chart",
             Refusal::NoEdge => "the chart has no such edge",

@@ -6,13 +6,14 @@ use bohrali::{limits, Access, AccessKind, Answer, Race, Refusal, Region};
 use std::collections::BTreeMap;
 use std::{fs, path::PathBuf};
 
-const LIMITS: [(&str, usize); 11] = [
+const LIMITS: [(&str, usize); 12] = [
     ("LEAST_NODES", limits::LEAST_NODES),
     ("MOST_NODES", limits::MOST_NODES),
     ("LEAST_EDGES", limits::LEAST_EDGES),
     ("MOST_EDGES", limits::MOST_EDGES),
     ("MOST_CONSTRUCTS", limits::MOST_CONSTRUCTS),
     ("MOST_BARRIERS", limits::MOST_BARRIERS),
+    ("MOST_DEPTH", limits::MOST_DEPTH),
     ("LEAST_SIZE", limits::LEAST_SIZE),
     ("MOST_SIZE", limits::MOST_SIZE),
     ("MOST_ACCESSES", limits::MOST_ACCESSES),

@@ -3,6 +3,7 @@
 
 pub mod benchmark;
 pub mod damage;
+pub mod listings;
 pub mod more_edges;
 pub mod races;
 pub mod random;

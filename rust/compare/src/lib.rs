@@ -84,6 +84,16 @@ impl Archive {
         })
     }
 
+    /// The chart of a listing into a buffer, which afterwards holds what the call left there.
+    pub fn listing(&mut self, text: &[u8], out: &mut [u8]) -> i64 {
+        let outs = &mut self.out;
+        self.chart.with(text, |text| {
+            outs.with_mut(out, |out| {
+                number(bohrali::listing(text, out), |bytes| bytes)
+            })
+        })
+    }
+
     pub fn pair(&mut self, chart: &[u8], region: usize, a: usize, b: usize) -> i64 {
         self.chart.with(chart, |lent| {
             let answer = bohrali::pair(lent, region.into(), a, b);

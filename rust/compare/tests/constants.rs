@@ -5,7 +5,7 @@ use bohrali::{limits, AccessKind, Answer, Race, Region};
 use reference::answers::Rules;
 use reference::calls::PHASE_BYTES;
 use reference::chart::{Chart, Construct, Edge, Node, Trailer};
-use reference::{distances, masked, printing, races, regions, sizes};
+use reference::{distances, listing, masked, printing, races, regions, sizes};
 
 #[test]
 fn limits_of_a_chart() {
@@ -13,6 +13,7 @@ fn limits_of_a_chart() {
     assert_eq!(limits::LEAST_EDGES..=limits::MOST_EDGES, Chart::EDGE_LIMITS);
     assert_eq!(0..=limits::MOST_CONSTRUCTS, Chart::CONSTRUCT_LIMITS);
     assert_eq!(limits::MOST_BARRIERS, Chart::MOST_BARRIERS);
+    assert_eq!(limits::MOST_DEPTH, listing::MOST_DEPTH);
     let longest = layout::BYTES_NODE * limits::MOST_NODES
         + layout::BYTES_EDGE * limits::MOST_EDGES
         + layout::BYTES_CONSTRUCT_2 * limits::MOST_CONSTRUCTS

@@ -6,6 +6,7 @@ use bohrali::{Access, Size};
 use compare::edits::{right_receipt, without_spare_edge};
 use reference::builder::ChartBuilder;
 use reference::known::{longest, one_region};
+use reference::known_listings::nested;
 use std::thread;
 
 const STACK: usize = 64 * 1024;
@@ -48,6 +49,36 @@ fn calls_fit_a_small_stack() {
         let thread = thread::Builder::new().stack_size(STACK).spawn(calls);
         thread.expect("a thread").join().expect(name);
     }
+}
+
+/// Listings with the deepest blocks, with the most of everything, and long ones that are refused at their ends.
+#[test]
+fn listings_fit_a_small_stack() {
+    let written = [
+        nested("l", 16, "s"),
+        nested("i", 16, "").replace('}', "}{}"),
+        nested("l", 15, "C{s}"),
+        nested("l", 9, "s").repeat(19),
+        "S{}n".repeat(48) + &"s".repeat(94),
+    ];
+    let refused = [
+        "s".repeat(400_000),
+        "l{".repeat(200_000),
+        "l{}".repeat(130_000) + "x",
+        nested("l", 16, "").repeat(8_000) + &"l{".repeat(17),
+        nested("i", 16, "").replace('}', "}{}").repeat(4_000),
+    ];
+    let calls = move || {
+        let mut out = [0; 2_000];
+        for text in written {
+            bohrali::listing(text.as_bytes(), &mut out).expect(&text);
+        }
+        for text in refused {
+            bohrali::listing(text.as_bytes(), &mut out).expect_err("a refusal");
+        }
+    };
+    let thread = thread::Builder::new().stack_size(STACK).spawn(calls);
+    thread.expect("a thread").join().expect("listings");
 }
 
 /// A chart without an edge that it can spare, which is then put in and taken out again.

@@ -10,6 +10,8 @@ pub mod distances;
 pub mod edits;
 pub mod first_edges;
 pub mod known;
+pub mod known_listings;
+pub mod listing;
 pub mod masked;
 pub mod phases;
 pub mod printing;

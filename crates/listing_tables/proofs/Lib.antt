@@ -1,0 +1,6 @@
+pub mod Joining
+pub mod Begins
+pub mod Filling
+pub mod Ending
+pub mod Parts
+pub mod Turns
