@@ -274,7 +274,8 @@ enum bohrali_race {
  * checked over the whole chart, or the whole list, before the next, in the order of their numbers
  * but for two: 23 comes straight after 10, and 20 straight after 23, so both before 11, 12, 13 and
  * 21. bohrali_insert_edge and bohrali_remove_edge check a length and two charts, and
- * bohrali_listing a text, in the order that is said there. */
+ * bohrali_listing a text, in the order that is said there. 22 is not among them: it refuses a
+ * recorded run, and C has no call that replays one; the program replay_trace does. */
 enum bohrali_refusal {
     BOHRALI_REFUSED_SHORT = 1,     /* fewer than 16 bytes */
     BOHRALI_REFUSED_MARKS = 2,     /* edition neither 1 nor 2, or closing bytes differ */

@@ -133,7 +133,7 @@ one-of {P} = ((λ h. elim h [ inl p ↦ (forward, p) | inr p ↦ (backward, p) ]
     back backward p = inr p
 
 module _ {R : Region} (W : WellFormed R) where
-  ordered-of : (x d : ℕ) → (inOrderedOf R x d ≡ true) ↔ InOrdered R x d
+  pub ordered-of : (x d : ℕ) → (inOrderedOf R x d ≡ true) ↔ InOrdered R x d
   unfolding inOrderedOf
   ordered-of x d = (
     (λ h. let (o, ((k, i), e)) = found .0 h in record { construct = o; is-ordered = k; of-do = e; within = i }),

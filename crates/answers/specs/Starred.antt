@@ -27,19 +27,19 @@ use Rattle.answers.specs.declared.Size.the-variants.{Any, Of}
 abbrev pub barrier : List ℕ
 barrier = 1 ∷ 255 ∷ 0 ∷ 0 ∷ []
 
-abbrev plain : ℕ → List ℕ
+abbrev pub plain : ℕ → List ℕ
 plain number = 0 ∷ number ∷ 0 ∷ 0 ∷ []
 
-abbrev begin : ℕ → List ℕ
+abbrev pub begin : ℕ → List ℕ
 begin number = 2 ∷ number ∷ 0 ∷ 0 ∷ []
 
-abbrev end : ℕ → List ℕ
+abbrev pub end : ℕ → List ℕ
 end number = 3 ∷ number ∷ 0 ∷ 0 ∷ []
 
 abbrev pub edge : ℕ → ℕ → List ℕ
 edge from to = from ∷ to ∷ []
 
-abbrev construct : ℕ → ℕ → List ℕ
+abbrev pub construct : ℕ → ℕ → List ℕ
 construct kind parent = kind ∷ parent ∷ 0 ∷ 0 ∷ []
 
 -- In edition 2: a masked outside everything, for a thread below 256.
@@ -62,7 +62,7 @@ abbrev pub chart : List (List ℕ) → List (List ℕ) → List (List ℕ) → L
 chart nodes edges constructs = chartOf 1 nodes edges constructs
 
 -- 01's charts. K.
-abbrev chartK : List ℕ
+abbrev pub chartK : List ℕ
 chartK = chart (barrier ∷ plain outside ∷ barrier ∷ plain outside ∷ barrier ∷ []) (edge 0 1 ∷ edge 1 2 ∷ edge 2 3 ∷ edge 3 1 ∷ edge 3 4 ∷ []) []
 
 -- S of a kind of construct, with its edges in a row or with 3-1 added.
@@ -81,7 +81,7 @@ chartB = chart (barrier ∷ begin 0 ∷ plain 0 ∷ end 0 ∷ barrier ∷ barrie
     (edge 0 1 ∷ edge 1 2 ∷ edge 2 3 ∷ edge 3 4 ∷ edge 4 1 ∷ edge 4 5 ∷ []) (construct singleByte outside ∷ [])
 
 -- D, with the edges that leave node 5.
-abbrev chartD : List (List ℕ) → List ℕ
+abbrev pub chartD : List (List ℕ) → List ℕ
 chartD last = chart (barrier ∷ begin 0 ∷ begin 1 ∷ plain 1 ∷ end 1 ∷ end 0 ∷ barrier ∷ [])
     (edge 0 1 ∷ edge 1 2 ∷ edge 2 3 ∷ edge 3 4 ∷ edge 4 5 ∷ last) (construct loopByte outside ∷ construct orderedByte 0 ∷ [])
 

@@ -8,6 +8,7 @@ pub mod more_edges;
 pub mod races;
 pub mod random;
 pub mod regions;
+pub mod traces;
 pub mod valid;
 
 use random::Random;

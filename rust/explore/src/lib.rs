@@ -7,6 +7,7 @@ pub mod fault;
 pub mod locks;
 pub mod masked;
 pub mod regions;
+pub mod replay;
 pub mod search;
 mod sections;
 mod sizes;

@@ -134,7 +134,7 @@ impl<'a> Team<'a> {
     /// 01's opening: "all m threads are at the same barrier, not Finish. Each takes an edge of its
     /// own choice, in one step; all counts become 0 and a new stretch begins." 02: no section is
     /// taken "after an opening".
-    fn release(&self, state: &State, next: &mut Vec<State>) {
+    pub(crate) fn release(&self, state: &State, next: &mut Vec<State>) {
         let barrier = usize::from(state.nodes[0]);
         let last = barrier == self.chart.finish && self.fault != Some(Fault::EndToBeginKept);
         let closed = !self.chart.is_barrier(barrier) || last;
@@ -154,7 +154,7 @@ impl<'a> Team<'a> {
     }
 
     /// 01's move: "a thread not at a barrier takes an edge, subject to the rest".
-    fn thread_steps(&self, state: &State, thread: usize, next: &mut Vec<State>) {
+    pub(crate) fn thread_steps(&self, state: &State, thread: usize, next: &mut Vec<State>) {
         let at = usize::from(state.nodes[thread]);
         let Node { kind, construct } = self.chart.nodes[at];
         match kind {

@@ -18,6 +18,7 @@ pub mod printing;
 pub mod races;
 pub mod refusals;
 pub mod regions;
+pub mod replay;
 pub mod scopes;
 pub mod sections;
 pub mod sizes;

@@ -15,6 +15,8 @@ pub struct Region {
     pub chart: Chart,
     /// By node of the whole chart, its number here; none outside the region.
     pub place: Vec<Option<usize>>,
+    /// By construct of the whole chart, its number here; none where it is no construct of the region's own.
+    pub constructs: Vec<Option<usize>>,
 }
 
 /// Rows 1 to 10, then 23: "a number other than 255 that names no parallel"; otherwise the chart read for
@@ -67,7 +69,11 @@ impl Chart {
             start: number(self.start_of(region)),
             finish: number(self.finish_of(region)),
         };
-        Region { chart, place }
+        Region {
+            chart,
+            place,
+            constructs,
+        }
     }
 
     /// The node from which a region's team starts: its begin and end "are its Start and Finish".

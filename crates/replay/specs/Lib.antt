@@ -1,0 +1,2 @@
+pub mod Team
+pub mod Playing

@@ -1,0 +1,5 @@
+pub mod Filling
+pub mod Around
+pub mod Roles
+pub mod Marking
+pub mod Whole

@@ -1,0 +1,65 @@
+// The records of a team.
+ghost use Prim.Native.Nat.{_≤_};
+use crate::lines::end_line;
+use crate::lines::number;
+use bits::has;
+use chart::cursor::wide;
+use chart::format::Chart;
+use replay::run::Team;
+use traces::Thread;
+
+// Each construct whose begin the thread has left.
+fn counts(counts: [u64; Chart::CONSTRUCTS]) {
+    let mut c = 0;
+    while c < Chart::CONSTRUCTS {
+        let count = counts[c];
+        if count != 0 {
+            number(b" construct ", c);
+            number(b" count ", count as usize);
+        }
+        c += 1;
+    }
+}
+
+// All sections that it has taken.
+fn sections(taken: [u64; Chart::CONSTRUCTS]) -> u64 {
+    let mut all = 0;
+    let mut c = 0;
+    while c < Chart::CONSTRUCTS {
+        all = all | taken[c];
+        c += 1;
+    }
+    all
+}
+
+fn taken(all: u64) {
+    let mut x = 0;
+    while x < Chart::CONSTRUCTS {
+        if has(all, x) {
+            number(b" taken ", x);
+        }
+        x += 1;
+    }
+}
+
+fn thread(t: usize, thread: Thread) {
+    number(b"thread ", t);
+    number(b" node ", wide(thread.node));
+    let left = thread.counts;
+    counts(left);
+    let masks = thread.taken;
+    taken(sections(masks));
+    end_line();
+}
+
+// A line for each thread of the team.
+pub fn all(team: Team)
+    requires { ⌜ team .count ≤ 8 ⌝ }
+{
+    let n = team.count;
+    let mut t = 0;
+    while t < n {
+        thread(t, team.threads[t]);
+        t += 1;
+    }
+}
