@@ -8,6 +8,7 @@ PREFIX ?= /usr/local
 VERSION := 1.0.0
 SONAME := libbohrali.so.$(firstword $(subst ., ,$(VERSION)))
 ARCHIVE := target/staticlib/libbohrali.a
+REPLAY := target/bin/replay_trace
 SHARED := target/lib/libbohrali.so.$(VERSION)
 SOURCES := crates.txt $(wildcard crates/*/src/*.rt crates/*/specs/*.antt)
 CFLAGS ?= -O2 -Wall -Wextra -Werror
@@ -18,6 +19,10 @@ all: $(ARCHIVE) $(SHARED)
 
 $(ARCHIVE): $(SOURCES)
 	rt staticlib bohrali
+	touch $@
+
+$(REPLAY): $(SOURCES)
+	rt check replay_trace
 	touch $@
 
 # The archive as one shared object. Code that is not position-independent fails the link (text), and so does a name that nothing defines (defs).
@@ -40,7 +45,7 @@ demo: all target/judge
 test:
 	.ci/run
 
-bench: $(ARCHIVE)
+bench: $(ARCHIVE) $(REPLAY)
 	cd rust && cargo run --offline --locked --quiet --release -p bench
 
 bench-against: $(ARCHIVE)

@@ -1,10 +1,11 @@
-//! Times of the calls by several implementations. All run in one process, by turns; times of different
-//! runs are not to be compared.
+//! Times of the calls by several implementations. All run in one process, by turns, but for the replay,
+//! which programs make; times of different runs are not to be compared.
 
 #[cfg(feature = "before")]
 pub mod before;
 pub mod calls;
 pub mod first_edges;
+pub mod replay;
 pub mod subject;
 pub mod table;
 mod timing;

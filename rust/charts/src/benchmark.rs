@@ -1,10 +1,12 @@
 //! The charts of the benchmark, all fixed: six to be asked again and again, which are the costliest ones
-//! for each part of the work and a typical one, and 64 to be asked in turn.
+//! for each part of the work and a typical one, 64 to be asked in turn, and four for long traces.
 
 mod code;
+mod rings;
 mod turns;
 mod zigzag;
 
+pub use rings::rings;
 pub use turns::in_turn;
 
 use crate::random::Random;
@@ -21,8 +23,8 @@ pub fn all() -> [(&'static str, Vec<u8>); 6] {
         ("192 nodes, 1024 edges, 64 barriers", full(64)),
         ("chain of 192, 2 barriers", reference::known::row(NODES, 2)),
         ("192 nodes, 1024 edges, 2 barriers", full(2)),
-        ("typical, 62 barriers", typical()),
-        ("48 constructs that return", returning()),
+        ("typical, 62 barriers", typical(61).bytes()),
+        ("48 constructs that return", returning().bytes()),
         ("zigzag of 189, 1024 edges", zigzag::chart()),
     ]
 }
@@ -49,11 +51,11 @@ fn full(barriers: usize) -> Vec<u8> {
     chart.bytes()
 }
 
-/// 62 barriers in a row; between two of them a small branch or a construct.
-fn typical() -> Vec<u8> {
+/// Barriers in a row; between two of them a small branch or a construct, at so many places.
+fn typical(places: usize) -> ChartBuilder {
     let mut chart = ChartBuilder::new();
     let mut barrier = chart.barrier();
-    for place in 0..61 {
+    for place in 0..places {
         let exits = match place {
             10 | 40 => vec![simple(&mut chart, barrier, Construct::SINGLE)],
             30 => vec![simple(&mut chart, barrier, Construct::MASTER)],
@@ -64,7 +66,7 @@ fn typical() -> Vec<u8> {
         barrier = chart.barrier();
         exits.iter().for_each(|&exit| chart.edge(exit, barrier));
     }
-    chart.bytes()
+    chart
 }
 
 /// Two nodes side by side, of which the second may also follow the first.
@@ -107,7 +109,7 @@ fn do_with_ordered(chart: &mut ChartBuilder, from: usize, filled: bool) -> usize
 
 /// 36 outermost constructs in a row with a plain node after each, 12 of them dos with an ordered,
 /// all with an edge from end to begin.
-fn returning() -> Vec<u8> {
+fn returning() -> ChartBuilder {
     let mut chart = ChartBuilder::new();
     let mut last = chart.barrier();
     for place in 0..36 {
@@ -133,5 +135,5 @@ fn returning() -> Vec<u8> {
         let (begin, end) = (is_own(2).unwrap(), is_own(3).unwrap());
         chart.edge(end, begin);
     }
-    chart.bytes()
+    chart
 }

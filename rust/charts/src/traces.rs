@@ -7,27 +7,64 @@ use reference::replay::Run;
 
 /// A run of at most so many entries; it ends where no thread can step, finished or not.
 pub fn legal(random: &mut Random, region: &Region, threads: usize, most: usize) -> Vec<u8> {
-    let mut run = Run::of(region, threads);
-    let mut team: Vec<u8> = (0..threads as u8).collect();
-    let inside = (0..region.place.len()).filter(|&node| region.place[node].is_some());
-    let mut nodes: Vec<u8> = inside.map(|node| node as u8).collect();
-    let mut trace = Vec::new();
+    let mut drawn = Drawn::of(region, threads);
+    let entries = (0..most).map_while(|_| drawn.next(random));
+    entries.flatten().collect()
+}
+
+/// A run of at most so many entries round one of the benchmark's rings: it ends where all threads are at the
+/// barrier before Finish, from which the same entries are legal again.
+pub fn round(random: &mut Random, region: &Region, threads: usize, most: usize) -> Vec<u8> {
+    let mut drawn = Drawn::of(region, threads);
+    let finish = (region.place.len() - 1) as u8;
+    drawn.nodes.retain(|&node| node != finish);
+    let mut at = vec![0; threads];
+    let (mut trace, mut whole) = (Vec::new(), 0);
     for _ in 0..most {
-        random.shuffle(&mut team);
-        random.shuffle(&mut nodes);
-        let mut entries = team
-            .iter()
-            .flat_map(|&x| nodes.iter().map(move |&to| [x, to]));
-        let taken = entries.find(|&[thread, node]| {
-            let place = region.place[usize::from(node)].expect("a node of the region");
-            run.take(thread.into(), place)
-        });
-        let Some(entry) = taken else {
-            break;
-        };
-        trace.extend(entry);
+        let [thread, node] = drawn.next(random).expect("a ring always goes on");
+        trace.extend([thread, node]);
+        at[usize::from(thread)] = node;
+        if at.iter().all(|&node| node == finish - 1) {
+            whole = trace.len();
+        }
     }
+    trace.truncate(whole);
     trace
+}
+
+/// A run that is being drawn.
+struct Drawn<'a> {
+    region: &'a Region,
+    run: Run<'a>,
+    team: Vec<u8>,
+    /// Where threads may go, by the rules or not.
+    nodes: Vec<u8>,
+}
+
+impl<'a> Drawn<'a> {
+    fn of(region: &'a Region, threads: usize) -> Drawn<'a> {
+        let inside = (0..region.place.len()).filter(|&node| region.place[node].is_some());
+        Drawn {
+            region,
+            run: Run::of(region, threads),
+            team: (0..threads as u8).collect(),
+            nodes: inside.map(|node| node as u8).collect(),
+        }
+    }
+
+    /// An entry that the rules allow, if there is one.
+    fn next(&mut self, random: &mut Random) -> Option<[u8; 2]> {
+        random.shuffle(&mut self.team);
+        random.shuffle(&mut self.nodes);
+        let mut entries = self
+            .team
+            .iter()
+            .flat_map(|&x| self.nodes.iter().map(move |&to| [x, to]));
+        entries.find(|&[thread, node]| {
+            let place = self.region.place[usize::from(node)].expect("a node of the region");
+            self.run.take(thread.into(), place)
+        })
+    }
 }
 
 /// The trace with an entry's thread or node changed, an entry put in, taken out or doubled, two entries exchanged, or

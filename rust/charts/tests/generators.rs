@@ -314,6 +314,18 @@ fn digest<'a>(charts: impl IntoIterator<Item = &'a Vec<u8>>) -> u64 {
 #[test]
 fn benchmark_charts_stay_what_they_are() {
     let repeated = benchmark::all().map(|(_, chart)| chart);
-    let digests = [digest(&repeated), digest(&benchmark::in_turn())];
-    assert_eq!(digests, [0x13ED_3A24_1488_B394, 0x65CD_BCFC_5735_F67C]);
+    let rings = benchmark::rings().map(|(_, chart)| chart);
+    let digests = [
+        digest(&repeated),
+        digest(&benchmark::in_turn()),
+        digest(&rings),
+    ];
+    assert_eq!(
+        digests,
+        [
+            0x13ED_3A24_1488_B394,
+            0x65CD_BCFC_5735_F67C,
+            0x8D51_155D_9878_BA93
+        ]
+    );
 }

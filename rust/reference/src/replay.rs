@@ -322,6 +322,14 @@ pub const MOST_INPUT: usize = 1 + 1 + 2 + MOST_TRACE + printing::MOST_BYTES;
 /// What the program prints. Its input is the region in one byte, the team in one, the trace behind its length in two,
 /// and the chart to the end.
 pub fn text(input: &[u8]) -> String {
+    text_by(input, replay)
+}
+
+/// The same, replayed by another implementation.
+pub fn text_by(
+    input: &[u8],
+    replay: impl Fn(&[u8], u64, &[u8], usize) -> Result<Replay, u8>,
+) -> String {
     if input.len() > MOST_INPUT {
         return "input too long\n".into();
     }

@@ -3,13 +3,13 @@
 use crate::bits::bits;
 use crate::tables::{Filtered, Record, Records, MOST_CONSTRUCTS, NONE};
 
-const SINGLE: u8 = 1;
-const MASTER: u8 = 2;
+pub const SINGLE: u8 = 1;
+pub const MASTER: u8 = 2;
 pub const CRITICAL: u8 = 3;
-const DO: u8 = 4;
-const ORDERED: u8 = 5;
-const SECTIONS: u8 = 6;
-const SECTION: u8 = 7;
+pub const DO: u8 = 4;
+pub const ORDERED: u8 = 5;
+pub const SECTIONS: u8 = 6;
+pub const SECTION: u8 = 7;
 pub const PARALLEL: u8 = 8;
 
 /// By kind, the kinds that may be above in its region, bit k for kind k; the first entry is a parallel's.

@@ -25,6 +25,7 @@ mod loops;
 mod marks;
 mod nodes;
 mod races;
+pub mod replay;
 mod sheet;
 mod sweeps;
 mod tables;
@@ -84,39 +85,43 @@ fn with_marks<const RULES: bool, const LEVELS: bool>(
     chart: &[u8],
     then: impl FnOnce(Marked) -> Result<i64, u8>,
 ) -> i64 {
-    number((|| {
-        let tables = Tables::of(chart)?;
-        let mut constructs = Constructs::new();
-        let row_6 = !constructs.read(&tables.constructs);
-        let mut nodes = Nodes::new();
-        nodes.read(&tables, &constructs, row_6)?;
-        let mut edges = Edges::new();
-        if !edges.read(&tables, &nodes, &constructs) {
-            return Err(9);
-        }
-        // Tables are lent from here on: to move them costs as much as to fill them.
-        let read = Read {
-            tables,
-            nodes: &nodes,
-            constructs: &constructs,
-            edges: &edges,
-        };
-        let mut marks = Marks::new();
-        let sound = if RULES && constructs.returnable() != 0 {
-            marks.find::<true, LEVELS>(&read)
-        } else {
-            marks.find::<false, LEVELS>(&read)
-        };
-        if !sound {
-            return Err(10);
-        }
-        then(Marked {
-            read: &read,
-            marks: &marks,
-        })
-    })())
+    let result = admitted::<RULES, LEVELS, _>(chart, then);
+    result.unwrap_or_else(|refusal| -i64::from(refusal))
 }
 
-fn number(result: Result<i64, u8>) -> i64 {
-    result.unwrap_or_else(|refusal| -i64::from(refusal))
+/// The same; what comes of it, or the refusal.
+#[inline(always)]
+fn admitted<const RULES: bool, const LEVELS: bool, T>(
+    chart: &[u8],
+    then: impl FnOnce(Marked) -> Result<T, u8>,
+) -> Result<T, u8> {
+    let tables = Tables::of(chart)?;
+    let mut constructs = Constructs::new();
+    let row_6 = !constructs.read(&tables.constructs);
+    let mut nodes = Nodes::new();
+    nodes.read(&tables, &constructs, row_6)?;
+    let mut edges = Edges::new();
+    if !edges.read(&tables, &nodes, &constructs) {
+        return Err(9);
+    }
+    // Tables are lent from here on: to move them costs as much as to fill them.
+    let read = Read {
+        tables,
+        nodes: &nodes,
+        constructs: &constructs,
+        edges: &edges,
+    };
+    let mut marks = Marks::new();
+    let sound = if RULES && constructs.returnable() != 0 {
+        marks.find::<true, LEVELS>(&read)
+    } else {
+        marks.find::<false, LEVELS>(&read)
+    };
+    if !sound {
+        return Err(10);
+    }
+    then(Marked {
+        read: &read,
+        marks: &marks,
+    })
 }

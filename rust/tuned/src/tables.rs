@@ -29,6 +29,16 @@ impl Records<'_> {
         }
     }
 
+    /// The filter of a construct: 0 in edition 1.
+    pub fn filter(&self, number: usize) -> u16 {
+        match self {
+            Records::First(_) => 0,
+            Records::Second(table) => table
+                .get(number)
+                .map_or(0, |&[.., low, high]| u16::from_le_bytes([low, high])),
+        }
+    }
+
     /// The kind byte of a construct, if there is one of this number.
     pub fn kind_of(&self, number: u8) -> Option<u8> {
         self.record(number.into()).map(|[kind, ..]| kind)
