@@ -23,38 +23,22 @@ ghost use Rattle.correctness.specs.RemoveCorrect.{RemoveCorrect};
 ghost use Rattle.correctness.specs.ListingCorrect.{ListingCorrect};
 ghost use Rattle.edits.specs.Edits.{insertWritten, insertLeft, removeWritten, removeLeft};
 ghost use Rattle.edits.specs.declared.Receipt.{Receipt};
-ghost use Rattle.bohrali.specs.Bounds.{SmallCounts};
-ghost use Prim.Native.Nat.{_+_, _*_, _^_, _<_};
-use crate::sized::judge;
-use crate::sized::pair;
-use crate::sized::sheet;
-use admission::admit::Admission;
-use admission::admit::Counts;
 use answers::Size;
 use editing::inserting::insert_edge;
 use editing::removing::remove_edge;
 use edits::Receipt;
-use output::Written;
-use output::signed::counted;
-use output::signed::negated;
-
-// Admit's three counts in one number.
-fn packed(counts: Counts) -> usize
-    requires { ⌜ SmallCounts counts ⌝ }
-    ensures { λ r. ⌜ (r ≡ counts .nodes + 256 * counts .barriers + 65536 * counts .phases) × (r < 2 ^ 63) ⌝ }
-{
-    counts.nodes + 256 * counts.barriers + 65536 * counts.phases
-}
+use numbers::counts;
+use numbers::sized::judge;
+use numbers::sized::pair;
+use numbers::sized::sheet;
+use numbers::written;
 
 #[no_mangle]
 pub extern "C" fn bohrali_admit(chart: &[u8]) -> i64
     ensures { λ r. ⌜ r ≡ Admission·numberOf (admitted (now (chart .entry))) ⌝ }
     ensures { λ r. ⌜ AdmitCorrect (now (chart .entry)) r ⌝ }
 {
-    match admission::admit::admit(chart) {
-        Admission::Admitted(counts) => counted(packed(counts)),
-        Admission::Refused(refusal) => negated(refusal),
-    }
+    counts::number_of(admission::admit::admit(chart))
 }
 
 #[no_mangle]
@@ -85,10 +69,7 @@ pub extern "C" fn bohrali_phases(chart: &[u8], region: usize, out: &mut [u8]) ->
     ensures { λ _. ⌜ now (out .exit) ≡ phasesLeft (now (chart .entry)) region (now (out .entry)) ⌝ }
     ensures { λ r. ⌜ PhasesCorrect (now (chart .entry)) region (now (out .entry)) r (now (out .exit)) ⌝ }
 {
-    match calls::writing::phases(chart, region, out) {
-        Written::Bytes(count) => counted(count),
-        Written::Refused(refusal) => negated(refusal),
-    }
+    written::number_of(calls::writing::phases(chart, region, out))
 }
 
 #[no_mangle]
@@ -97,10 +78,7 @@ pub extern "C" fn bohrali_distances(chart: &[u8], region: usize, out: &mut [u8])
     ensures { λ _. ⌜ now (out .exit) ≡ distancesLeft (now (chart .entry)) region (now (out .entry)) ⌝ }
     ensures { λ r. ⌜ DistancesCorrect (now (chart .entry)) region (now (out .entry)) r (now (out .exit)) ⌝ }
 {
-    match distances::distances(chart, region, out) {
-        Written::Bytes(count) => counted(count),
-        Written::Refused(refusal) => negated(refusal),
-    }
+    written::number_of(distances::distances(chart, region, out))
 }
 
 // The chart of a directive listing, written to the buffer: its length.
@@ -110,10 +88,7 @@ pub extern "C" fn bohrali_listing(text: &[u8], out: &mut [u8]) -> i64
     ensures { λ _. ⌜ now (out .exit) ≡ listingLeft (now (text .entry)) (now (out .entry)) ⌝ }
     ensures { λ r. ⌜ ListingCorrect (now (text .entry)) (now (out .entry)) r (now (out .exit)) ⌝ }
 {
-    match listing_chart::listing(text, out) {
-        Written::Bytes(count) => counted(count),
-        Written::Refused(refusal) => negated(refusal),
-    }
+    written::number_of(listing_chart::listing(text, out))
 }
 
 #[no_mangle]
@@ -166,10 +141,7 @@ pub extern "C" fn bohrali_races(chart: &[u8], region: usize, accesses: &[u8], ou
     ensures { λ _. ⌜ now (out .exit) ≡ racesLeft (now (chart .entry)) region (now (accesses .entry)) (now (out .entry)) ⌝ }
     ensures { λ r. ⌜ RacesCorrect (now (chart .entry)) region (now (accesses .entry)) (now (out .entry)) r (now (out .exit)) ⌝ }
 {
-    match races::races(chart, region, accesses, out) {
-        Written::Bytes(count) => counted(count),
-        Written::Refused(refusal) => negated(refusal),
-    }
+    written::number_of(races::races(chart, region, accesses, out))
 }
 
 // The chart is the first `chart_len` bytes of the buffer; the receipt's two numbers are those that asking gave.
@@ -196,10 +168,7 @@ pub extern "C" fn bohrali_insert_edge(
         length: receipt_length,
         place: receipt_place,
     };
-    match insert_edge(buffer, chart_len, receipt, from, to) {
-        Written::Bytes(count) => counted(count),
-        Written::Refused(refusal) => negated(refusal),
-    }
+    written::number_of(insert_edge(buffer, chart_len, receipt, from, to))
 }
 
 // The chart is the first `chart_len` bytes of the buffer.
@@ -209,8 +178,5 @@ pub extern "C" fn bohrali_remove_edge(buffer: &mut [u8], chart_len: usize, from:
     ensures { λ _. ⌜ now (buffer .exit) ≡ removeLeft (now (buffer .entry)) «chart_len» from to ⌝ }
     ensures { λ r. ⌜ RemoveCorrect (now (buffer .entry)) «chart_len» from to r (now (buffer .exit)) ⌝ }
 {
-    match remove_edge(buffer, chart_len, from, to) {
-        Written::Bytes(count) => counted(count),
-        Written::Refused(refusal) => negated(refusal),
-    }
+    written::number_of(remove_edge(buffer, chart_len, from, to))
 }

@@ -3,7 +3,7 @@
 use mathlib.Core.Path.{sym, _∙_}
 use borrow.Author.Needs.{needs}
 use Rattle.admission.specs.Admission.{admitted}
-use Rattle.bohrali.proofs.Counts.{small-counts}
+use Rattle.numbers.proofs.SmallCounts.{small-counts}
 use Rattle.printing.proofs.print.Statement.{statement}
 use Rattle.printing.proofs.print.Tie as tie
 

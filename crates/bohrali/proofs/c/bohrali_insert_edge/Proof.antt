@@ -20,55 +20,24 @@ receipt e = record { length = e .args .receipt-length; place = e .args .receipt-
 insert-edge-requires : tie.Need-insert-edge-requires
 insert-edge-requires c κs = search needs
 
-enum-known-count : tie.Need-enum-known-count
-enum-known-count c = search needs
-
-counted-requires : tie.Need-counted-requires
-counted-requires c κs =
-    let p = c .before .before .before .before .before in
+-- a result that was written had room, and so fits
+number-of-requires : tie.Need-number-of-requires
+number-of-requires c κs count h =
+    let p = c .before .before in
     let e = p .before .before .before in
-    let h = sym (p .insert-edge .ensures .0) ∙ c .before .count .given .1 in
+    let h = sym (p .insert-edge .ensures .0) ∙ h in
     let buffer = e .args .buffer .now in
     omega (arith, insert-returns buffer (e .args .chart-len) (receipt e) (e .args .from) (e .args .to) h, room buffer (e .args .chart-len) (receipt e) (e .args .from) (e .args .to) h)
-
-enum-known-refusal : tie.Need-enum-known-refusal
-enum-known-refusal c = search needs
-
-negated-requires : tie.Need-negated-requires
-negated-requires c κs = search needs
 
 same-length : tie.Need-same-length
 same-length c = search needs
 
 returns : tie.Need-returns
-unfolding numberOf
 returns c =
-    let p = c .before .before .before .before .before .before in
-    let e : toZ w64 (ofZ w64 (c .counted .result)) ≡ c .counted .result = search needs in
-    carried (InsertCorrect _ _ _ _ _) (e ∙ c .counted .ensures ∙ sym (ap numberOf (sym (p .insert-edge .ensures .0) ∙ c .before .before .count .given .1))) (p .insert-edge .ensures .1)
-    (insert-correct _ _ (receipt (p .before .before .before)) _ _)
-
-same-length-2 : tie.Need-same-length-2
-same-length-2 c = search needs
-
-returns-2 : tie.Need-returns-2
-unfolding numberOf
-returns-2 c =
-    let p = c .before .before .before .before .before .before in
-    let e : toZ w64 (ofZ w64 (c .negated .result)) ≡ c .negated .result = search needs in
-    carried (InsertCorrect _ _ _ _ _) (e ∙ c .negated .ensures ∙ sym (ap numberOf (sym (p .insert-edge .ensures .0) ∙ c .before .before .refusal .given .1))) (p .insert-edge .ensures .1)
+    let p = c .before .before .before in
+    let e : toZ w64 (ofZ w64 (c .number-of .result)) ≡ c .number-of .result = search needs in
+    carried (InsertCorrect _ _ _ _ _) (e ∙ c .number-of .ensures ∙ ap numberOf (p .insert-edge .ensures .0)) (p .insert-edge .ensures .1)
     (insert-correct _ _ (receipt (p .before .before .before)) _ _)
 
 pub bohrali-insert-edge-spec : {M : Type 1} → statement M
-bohrali-insert-edge-spec =
-    tie.close
-    (tie.spec
-    insert-edge-requires
-    enum-known-count
-    counted-requires
-    enum-known-refusal
-    negated-requires
-    same-length
-    returns
-    same-length-2
-    returns-2)
+bohrali-insert-edge-spec = tie.close (tie.spec insert-edge-requires number-of-requires same-length returns)

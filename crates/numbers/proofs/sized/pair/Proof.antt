@@ -1,4 +1,4 @@
--- `bohrali::sized::pair` meets its contract.
+-- `numbers::sized::pair` meets its contract.
 -- Assumes nothing.
 use mathlib.Core.Path.{_≡_, ap, sym, _∙_}
 use lib.IntN.{pos}
@@ -6,8 +6,8 @@ use borrow.Author.Needs.{needs}
 use mir.Syntax.{w64}
 use mir.Val.{toZ, ofZ}
 use Rattle.calls.specs.Pair.{numberOf}
-use Rattle.bohrali.proofs.sized.pair.Statement.{statement}
-use Rattle.bohrali.proofs.sized.pair.Tie as tie
+use Rattle.numbers.proofs.sized.pair.Statement.{statement}
+use Rattle.numbers.proofs.sized.pair.Tie as tie
 
 pair-requires : tie.Need-pair-requires
 pair-requires c κs = search needs

@@ -1,4 +1,4 @@
--- `bohrali::sized::judge` meets its contract.
+-- `numbers::sized::judge` meets its contract.
 -- Assumes nothing.
 use mathlib.Core.Path.{_≡_, ap, sym, _∙_}
 use native.Mathlib.Omega.{arith}
@@ -6,10 +6,10 @@ use borrow.Author.Needs.{needs}
 use Rattle.verdicts.specs.Claims.{total}
 use Rattle.verdicts.specs.Judged.{numberOf}
 use Rattle.judge.proofs.Facts.{failed-below}
-use Rattle.bohrali.proofs.sized.judge.Statement.{statement}
+use Rattle.numbers.proofs.sized.judge.Statement.{statement}
 use mir.Val.{toZ, ofZ}
 use mir.Syntax.{w64}
-use Rattle.bohrali.proofs.sized.judge.Tie as tie
+use Rattle.numbers.proofs.sized.judge.Tie as tie
 
 judge-requires : tie.Need-judge-requires
 judge-requires c κs = search needs

@@ -4,11 +4,11 @@ ghost use Rattle.output.specs.Output.{numberOf as Output·numberOf};
 ghost use Rattle.calls.specs.Sheet.{sheetWrittenFor, sheetLeftFor};
 ghost use Rattle.calls.specs.Pair.{pairAnsweredFor, numberOf as Pair·numberOf};
 ghost use Rattle.verdicts.specs.Judged.{judgedFor, numberOf as Judged·numberOf};
+use crate::written;
 use answers::Size;
 use calls::pair::Answered;
 use chart::cursor::wide;
 use judge::number::number_of;
-use output::Written;
 use output::signed::counted;
 use output::signed::negated;
 
@@ -25,10 +25,7 @@ pub fn sheet(chart: &[u8], region: usize, size: Size, out: &mut [u8]) -> i64
     ensures { λ r. ⌜ r ≡ Output·numberOf (sheetWrittenFor (now (chart .entry)) region size (now (out .entry))) ⌝ }
     ensures { λ _. ⌜ now (out .exit) ≡ sheetLeftFor (now (chart .entry)) region size (now (out .entry)) ⌝ }
 {
-    match calls::writing::sheet(chart, region, size, out) {
-        Written::Bytes(count) => counted(count),
-        Written::Refused(refusal) => negated(refusal),
-    }
+    written::number_of(calls::writing::sheet(chart, region, size, out))
 }
 
 pub fn judge(chart: &[u8], region: usize, size: Size, claims: &[u8]) -> i64

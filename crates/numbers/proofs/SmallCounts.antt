@@ -24,7 +24,7 @@ use Rattle.admission.specs.declared.admit.Admission.the-variants.{Admitted}
 use Rattle.loading.proofs.Accepted.{accepted}
 use Rattle.loading.proofs.Loading.{barriers-most}
 use Rattle.lists.specs.Rows.{square}
-use Rattle.bohrali.specs.Bounds.{SmallCounts}
+use Rattle.numbers.specs.Bounds.{SmallCounts}
 
 pairs-most : (n k : ℕ) (f : ℕ → ℕ → Bool) → countPairs n k f ≤ n * k
 unfolding countPairs
