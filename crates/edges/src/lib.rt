@@ -171,11 +171,14 @@ fn bad_scopes(s: &[u8], chart: Chart) -> bool
     bad_edges_by(s, chart, &leave, &arrive)
 }
 
-// Row 9. Edges are asked for sections only where there is one.
+// Row 9. Edges are asked for sections only where there is one, and for scopes only where there is a construct.
 pub fn bad_edges(s: &[u8], chart: Chart) -> bool
     requires { ⌜ Laid (now s) chart × (badNodes (decode (now s)) ≡ false) ⌝ }
     ensures { λ r. ⌜ r ≡ badEdges (decode (now (s .entry))) ⌝ }
 {
+    if chart.constructs == 0 {
+        return bare::bad_edges(s, chart);
+    }
     if bad_scopes(s, chart) {
         return true;
     }

@@ -74,6 +74,9 @@ pub fn bad_nodes(s: &[u8], chart: Chart) -> bool
     requires { ⌜ Laid (now s) chart ⌝ }
     ensures { λ r. ⌜ r ≡ badNodes (decode (now (s .entry))) ⌝ }
 {
+    if chart.constructs == 0 {
+        return bare::bad_nodes(s, chart);
+    }
     if names_region(Node::read(s, chart, 0)) {
         return true;
     }
@@ -124,11 +127,14 @@ fn not_ones(found: &[u8; NUMBERS], c: usize) -> bool
     false
 }
 
-// Row 7.
+// Row 7. Without constructs there is none that could lack a frame.
 pub fn bad_frames(s: &[u8], chart: Chart) -> bool
     requires { ⌜ Laid (now s) chart ⌝ }
     ensures { λ r. ⌜ r ≡ badFrames (decode (now (s .entry))) ⌝ }
 {
+    if chart.constructs == 0 {
+        return false;
+    }
     let mut begins = [0u8; NUMBERS];
     let mut ends = [0u8; NUMBERS];
     count_frames(s, chart, &mut begins, &mut ends);

@@ -29,35 +29,42 @@ decides s chart kind found L F =
     any-same (chart .constructs) _ test (λ k l. ap (λ (m : ℕ). not (eqb m 1)) (F .at k ∙ ap (framesIn (D .nodes) kind k) (sym (nodes-length s chart L))))
     ∙ ap (λ (m : ℕ). any m test) (sym (constructs-length s chart L))
 
+returns : tie.Need-returns
+unfolding badFrames badFrame any
+returns c =
+    let e = c .before .before .before in
+    let q : length (decode (e .args .s .now) .constructs) ≡ 0 = constructs-length _ (e .args .chart) (e .pre) ∙ c .if1 .taken in
+    rw q
+
 count-frames-requires : tie.Need-count-frames-requires
 unfolding count
 count-frames-requires c κs =
-    let e = c .before .before .before in
+    let e = c .before .before .before .before .before in
     (e .pre, record { long = refl; at = zeros 256 }, record { long = refl; at = zeros 256 })
 
 not-ones-requires : tie.Need-not-ones-requires
 not-ones-requires c κs = search needs
 
-returns : tie.Need-returns
+returns-2 : tie.Need-returns-2
 unfolding badFrames
-returns c =
+returns-2 c =
     let f = c .before .before .before in
-    let e = f .before .before .before .before in
+    let e = f .before .before .before .before .before .before in
     let d = decides (e .args .s .now) (e .args .chart) beginNode _ (e .pre) (f .count-frames .ensures .0) in
-    rw (sym d ∙ sym (c .before .not-ones .ensures) ∙ c .if1 .taken)
+    rw (sym d ∙ sym (c .before .not-ones .ensures) ∙ c .if2 .taken)
 
 not-ones-requires-2 : tie.Need-not-ones-requires-2
 not-ones-requires-2 c κs = search needs
 
-returns-2 : tie.Need-returns-2
+returns-3 : tie.Need-returns-3
 unfolding badFrames
-returns-2 c =
+returns-3 c =
     let l = c .before .before in
     let f = l .before .before .before in
-    let e = f .before .before .before .before in
+    let e = f .before .before .before .before .before .before in
     let b = decides (e .args .s .now) (e .args .chart) beginNode _ (e .pre) (f .count-frames .ensures .0) in
     let n = decides (e .args .s .now) (e .args .chart) endNode _ (e .pre) (f .count-frames .ensures .1) in
-    rw (sym b ∙ sym (l .before .not-ones .ensures) ∙ l .if1 .left) (c .not-ones2 .ensures ∙ n)
+    rw (sym b ∙ sym (l .before .not-ones .ensures) ∙ l .if2 .left) (c .not-ones2 .ensures ∙ n)
 
 pub bad-frames-spec : {M : Type 1} → statement M
-bad-frames-spec = tie.close (tie.spec count-frames-requires not-ones-requires returns not-ones-requires-2 returns-2)
+bad-frames-spec = tie.close (tie.spec returns count-frames-requires not-ones-requires returns-2 not-ones-requires-2 returns-3)

@@ -18,8 +18,14 @@ use Rattle.nodes.proofs.Outer.{parts}
 use Rattle.nodes.proofs.bad_nodes.Statement.{statement}
 use Rattle.nodes.proofs.bad_nodes.Tie as tie
 
+bad-nodes-requires : tie.Need-bad-nodes-requires
+bad-nodes-requires c κs = search needs
+
+returns : tie.Need-returns
+returns c = c .bad-nodes .ensures
+
 read-requires : tie.Need-read-requires
-read-requires c κs = let e = c .before in (e .pre, omega (arith, e .pre .two-nodes))
+read-requires c κs = let e = c .before .before .before in (e .pre, omega (arith, e .pre .two-nodes))
 
 names-region-requires : tie.Need-names-region-requires
 names-region-requires c κs = search needs
@@ -33,16 +39,16 @@ row s chart L =
     ∙ ap (λ (m : ℕ). (namesRegion (decode s) 0 || namesRegion (decode s) (m - 1)) || any (length (decode s .nodes)) (aloneAt (decode s))) n
 
 -- the tests of the first node and the last, in terms of the decoded chart
-first : (c : tie.After-names-region) → c .names-region .result ≡ namesRegion (decode (c .before .before .before .args .s .now)) 0
+first : (c : tie.After-names-region) → c .names-region .result ≡ namesRegion (decode (c .before .before .before .before .before .args .s .now)) 0
 first c = cc (c .names-region .ensures, c .before .read .ensures .0, c .before .read .ensures .1)
 
-last : (c : tie.After-names-region2) → let e = c .before .before .before .before .before .before .before in c .names-region2 .result ≡ namesRegion (decode (e .args .s .now)) (e .args .chart .nodes - 1)
+last : (c : tie.After-names-region2) → let e = c .before .before .before .before .before .before .before .before .before in c .names-region2 .result ≡ namesRegion (decode (e .args .s .now)) (e .args .chart .nodes - 1)
 last c = cc (c .names-region2 .ensures, c .before .read2 .ensures .0, c .before .read2 .ensures .1)
 
-returns : tie.Need-returns
-returns c =
-    let e = c .before .before .before .before in
-    rw (row _ (e .args .chart) (e .pre), sym (first (c .before)) ∙ c .if1 .taken)
+returns-2 : tie.Need-returns-2
+returns-2 c =
+    let e = c .before .before .before .before .before .before in
+    rw (row _ (e .args .chart) (e .pre), sym (first (c .before)) ∙ c .if2 .taken)
 
 sub-read : tie.Need-sub-read
 sub-read c = search needs
@@ -53,32 +59,34 @@ read-requires-2 c κs = search needs
 names-region-requires-2 : tie.Need-names-region-requires-2
 names-region-requires-2 c κs = search needs
 
-returns-2 : tie.Need-returns-2
-returns-2 c =
+returns-3 : tie.Need-returns-3
+returns-3 c =
     let a = c .before .before .before .before in
-    let e = a .before .before .before .before in
-    rw (row _ (e .args .chart) (e .pre), sym (first (a .before)) ∙ a .if1 .left, sym (last (c .before)) ∙ c .if2 .taken)
+    let e = a .before .before .before .before .before .before in
+    rw (row _ (e .args .chart) (e .pre), sym (first (a .before)) ∙ a .if2 .left, sym (last (c .before)) ∙ c .if3 .taken)
 
 bad-each-requires : tie.Need-bad-each-requires
 bad-each-requires c κs = search needs
 
-returns-3 : tie.Need-returns-3
-returns-3 c =
+returns-4 : tie.Need-returns-4
+returns-4 c =
     let b = c .before in
     let a = b .before .before .before .before in
-    let e = a .before .before .before .before in
-    rw (row _ (e .args .chart) (e .pre), sym (first (a .before)) ∙ a .if1 .left, sym (last (b .before)) ∙ b .if2 .left) (c .bad-each .ensures)
+    let e = a .before .before .before .before .before .before in
+    rw (row _ (e .args .chart) (e .pre), sym (first (a .before)) ∙ a .if2 .left, sym (last (b .before)) ∙ b .if3 .left) (c .bad-each .ensures)
 
 pub bad-nodes-spec : {M : Type 1} → statement M
 bad-nodes-spec =
     tie.close
     (tie.spec
+    bad-nodes-requires
+    returns
     read-requires
     names-region-requires
-    returns
+    returns-2
     sub-read
     read-requires-2
     names-region-requires-2
-    returns-2
+    returns-3
     bad-each-requires
-    returns-3)
+    returns-4)
