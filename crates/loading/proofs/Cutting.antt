@@ -1,21 +1,19 @@
 -- A chart cut to the region of a parallel: which constructs lie in it, by their parents; which nodes are of it and whose edges are its own,
--- by their numbers; and the edges that are kept, one by one.
+-- by their numbers.
 -- Assumes nothing.
-use mathlib.Core.Path.{_≡_, refl, ap, sym, _∙_, subst}
-use mathlib.Core.Logic.{_⊎_, inl, inr, _≢_}
-use mathlib.Core.Bool.{Bool, true, false, _&&_, _||_, not, cond}
-use mathlib.Core.List.{List, [], _∷_, _++_}
-use Prim.Native.Nat.{ℕ, _+_, _≤_, _<_}
+use mathlib.Core.Path.{_≡_, refl, ap, _∙_}
+use mathlib.Core.Logic.{inl, inr, _≢_}
+use mathlib.Core.Bool.{Bool, true, false, _&&_, _||_, cond}
+use mathlib.Core.List.{List}
+use Prim.Native.Nat.{ℕ, _≤_, _<_}
 use native.Mathlib.Omega.{arith}
 use native.Mathlib.Decide.{ℕ-discrete, decLt}
 use lib.Dec.{eqb, leb, ltb}
-use lib.ListN.{length, getD, set, replicate, length-set, length-append}
+use lib.ListN.{length, getD}
 use borrow.Author.Tests.{eq-eqb, ne-eqb, lt-ltb}
-use Rattle.lists.specs.Truth.{truth, false-if, and-both, or-cases, or-right, same-truth}
-use Rattle.lists.specs.Range.{count-most}
-use Rattle.lists.specs.Store.{Written, written-none, written-more}
-use Rattle.lists.specs.Select.{select, select-hit, select-miss, select-length, append-at, append-off}
-use Rattle.chart.specs.Format.{outside, Node, Edge, Decoded, noNode, decode, nodeAt, edgeAt}
+use Rattle.lists.specs.Truth.{false-if, and-both, or-cases, or-right, same-truth}
+use Rattle.lists.specs.Store.{Written}
+use Rattle.chart.specs.Format.{outside, Node, Decoded, noNode, decode, nodeAt}
 use Rattle.chart.specs.Scope.{beginNode, endNode, parentOf, liesAt, scopeAt, leavingAt}
 use Rattle.chart.specs.Nested.{liesWithin, keptIn}
 use Rattle.chart.specs.Checked.{reading}
@@ -28,98 +26,13 @@ use Rattle.chart.proofs.Tables.{scoped, no-node, node-fit, parents, frame-below
 use Rattle.chart.proofs.RegionFacts.{within-encloses, kept-scope}
 use Rattle.chart.proofs.Kept.{within-step}
 use Rattle.paths.specs.Decide.{noBarrier}
-use Rattle.paths.specs.Cut.{keeps, cut, edgesOf, edges-long, edges-at}
 use Rattle.answers.specs.Numbers.{asked}
 use Rattle.loading.proofs.Accepted.{tables, few-constructs}
-use Rattle.loading.proofs.Columns.{edge-past}
 use Rattle.loading.proofs.Loading.{stop-byte}
-use Rattle.loading.specs.Tables.{Accepted, Columns, Stored, left, kept, Within, Leaving, Stops, Closed}
+use Rattle.loading.specs.Tables.{Accepted, kept, Within, Stops, Closed}
 
 abbrev pub flagOf : Bool → ℕ
 flagOf b = cond b 1 0
-
--- a column keeps its length
-pub stored-long : {flag from to : ℕ} {froms tos : List ℕ} {total : ℕ} {froms′ tos′ : List ℕ} {total′ : ℕ}
-    → Stored flag from to froms tos total froms′ tos′ total′ → (length froms′ ≡ length froms) × (length tos′ ≡ length tos)
-stored-long (left h) = (refl, refl)
-stored-long {froms = froms} {tos} {total} (kept h) = (length-set froms total _, length-set tos total _)
-
--- the edges that are kept of the first n
-
-module _ (D : Decoded) (p : ℕ) where
-  abbrev pub column : (Edge → ℕ) → List ℕ → ℕ → ℕ
-  column pick numbers j = pick (edgeAt (D .edges) (getD numbers j 0))
-
-  pub record Kept (n : ℕ) (froms tos : List ℕ) (total : ℕ) : Type 0 where
-    pub count : total ≡ length (select n (keeps D p))
-    pub from : Written (column (λ (e : Edge). e .from) (select n (keeps D p))) total froms
-    pub to : Written (column (λ (e : Edge). e .to) (select n (keeps D p))) total tos
-
-  pub kept-none : {froms tos : List ℕ} → froms ≡ replicate 1024 0 → tos ≡ replicate 1024 0 → Kept 0 froms tos 0
-  unfolding select
-  kept-none a b = record { count = refl; from = rw a (written-none _ 1024); to = rw b (written-none _ 1024) }
-
-  pub kept-most : {n : ℕ} {froms tos : List ℕ} {total : ℕ} → Kept n froms tos total → total ≤ n
-  kept-most {n} K = omega (arith, K .count, select-length n (keeps D p), count-most n (keeps D p))
-
-  -- one more in a column
-  put-column : (pick : Edge → ℕ) (n : ℕ) {total : ℕ} {l : List ℕ} (v : ℕ) → keeps D p n ≡ true → total < length l → total ≡ length (select n (keeps D p))
-      → v ≡ pick (edgeAt (D .edges) n) → Written (column pick (select n (keeps D p))) total l → Written (column pick (select (n + 1) (keeps D p))) (total + 1) (set l total v)
-  put-column pick n {total} {l} v h room q e w =
-      let f = keeps D p in
-      let z = select-hit f n h in
-      written-more {l = l} v room
-      (e ∙ ap (λ (k : ℕ). pick (edgeAt (D .edges) k)) (sym (ap (λ (k : List ℕ). getD k total 0) z ∙ ap (λ (k : ℕ). getD (select n f ++ (n ∷ [])) k 0) q ∙ append-at (select n f) n)))
-      (record {
-        at = λ j m. w .at j m ∙ ap (λ (k : ℕ). pick (edgeAt (D .edges) k)) (sym (ap (λ (k : List ℕ). getD k j 0) z ∙ append-off (select n f) n j (λ y. omega arith)));
-        past = w .past;
-      })
-
-  kept-flag : (n : ℕ) {flag from to : ℕ} {froms tos : List ℕ} {total : ℕ} {froms′ tos′ : List ℕ} {total′ : ℕ}
-      → flag ≡ flagOf (keeps D p n) → from ≡ edgeAt (D .edges) n .from → to ≡ edgeAt (D .edges) n .to → total < length froms → total < length tos
-      → Kept n froms tos total → Stored flag from to froms tos total froms′ tos′ total′ → Kept (n + 1) froms′ tos′ total′
-  kept-flag n {froms = froms} {tos} {total} q a b room room′ K (left h) =
-      let z = sym (select-miss (keeps D p) n (false-if (λ t. none (rw t at q) h))) in
-      record {
-        count = K .count ∙ ap length z;
-        from = subst (λ (l : List ℕ). Written (column (λ (e : Edge). e .from) l) total froms) z (K .from);
-        to = subst (λ (l : List ℕ). Written (column (λ (e : Edge). e .to) l) total tos) z (K .to);
-      }
-    where
-      none : {flag : ℕ} → flag ≡ 1 → flag ≡ 0 → ⊥
-      none e o = omega arith
-  kept-flag n {from = from} {to} {total = total} q a b room room′ K (kept h) =
-      let t = some (truth (keeps D p n)) in
-      record {
-        count = omega (arith, K .count, length-append (select n (keeps D p)) (n ∷ []), ap length (select-hit (keeps D p) n t));
-        from = put-column (λ (e : Edge). e .from) n from t room (K .count) a (K .from);
-        to = put-column (λ (e : Edge). e .to) n to t room′ (K .count) b (K .to);
-      }
-    where
-      some : (keeps D p n ≡ true) ⊎ (keeps D p n ≡ false) → keeps D p n ≡ true
-      some (inl t) = t
-      some (inr t) = absurd (h (q ∙ ap flagOf t))
-
-  pub kept-more : (n : ℕ) {index : ℕ} {flags : List ℕ} → Leaving D p flags → {from to : ℕ} {froms tos : List ℕ} {total : ℕ} {froms′ tos′ : List ℕ} {total′ : ℕ}
-      → index ≡ from → from ≡ edgeAt (D .edges) n .from → to ≡ edgeAt (D .edges) n .to → total < length froms → total < length tos
-      → Kept n froms tos total → Stored (getD flags index 0) from to froms tos total froms′ tos′ total′ → Kept (n + 1) froms′ tos′ total′
-  kept-more n {flags = flags} L i a b room room′ K S = kept-flag n (ap (λ (x : ℕ). getD flags x 0) (i ∙ a) ∙ L .at _) a b room room′ K S
-
-  kept-column : (pick : Edge → ℕ) → ((edges : List Edge) (i : ℕ) → length edges ≤ i → pick (edgeAt edges i) ≡ 0) → {total : ℕ} {l : List ℕ} → total ≡ length (cut D p)
-      → Written (column pick (cut D p)) total l → (i : ℕ) → getD l i 0 ≡ pick (edgeAt (edgesOf p D) i)
-  kept-column pick past {total} q w i = elim (decLt i total) [
-    | yes b ↦ w .at i b ∙ ap pick (sym (edges-at D p i (omega arith)))
-    | no b ↦ w .past i (omega arith) ∙ sym (past (edgesOf p D) i (omega (arith, edges-long D p)))
-  ]
-
-  pub kept-all : {froms tos : List ℕ} {total : ℕ} → Kept (length (D .edges)) froms tos total → Columns (edgesOf p D) froms tos × (total ≡ length (edgesOf p D))
-  kept-all K = (
-    record {
-      from = kept-column (λ (e : Edge). e .from) (λ edges i l. edge-past edges i l .0) (K .count) (K .from);
-      to = kept-column (λ (e : Edge). e .to) (λ edges i l. edge-past edges i l .1) (K .count) (K .to);
-    },
-    K .count ∙ sym (edges-long D p),
-  )
 
 -- nothing lies outside the outermost region
 pub stop-closed : (s : List ℕ) (chart : Chart) (x : ℕ) → chart .region ≡ outside → x < length (decode s .nodes)

@@ -3,3 +3,4 @@ pub mod Columns
 pub mod Cutting
 pub mod Loading
 pub mod Rows
+pub mod Tabling

@@ -3,7 +3,7 @@
 use mathlib.Core.Path.{_≡_, refl, ap, sym, _∙_, subst}
 use mathlib.Core.Bool.{Bool, true, false, _&&_, not, cond}
 use mathlib.Core.List.{List, [], _∷_, _++_}
-use Prim.Native.Nat.{ℕ, zero, suc, _+_, _-_, _≤_, _<_}
+use Prim.Native.Nat.{ℕ, _+_, _-_, _≤_, _<_}
 use native.Mathlib.Omega.{arith}
 use native.Mathlib.Decide.{ℕ-discrete, decLt}
 use lib.Dec.{eqb, leb}
@@ -14,7 +14,7 @@ use Rattle.lists.specs.Range.{count, first-passes, at-any}
 use Rattle.lists.specs.Counting.{count-hit, count-mono, count-up}
 use Rattle.lists.specs.Store.{at-set, zeros}
 use Rattle.lists.specs.Select.{select, select-hit, select-miss, select-length, select-passes, append-at, append-off}
-use Rattle.chart.specs.Format.{Node, Decoded, decode, nodeAt}
+use Rattle.chart.specs.Format.{Node, decode, nodeAt}
 use Rattle.chart.specs.Region.{Role, Region}
 use Rattle.chart.specs.Nested.{roleIn}
 use Rattle.chart.specs.Reading.{frameOf}
@@ -26,11 +26,10 @@ use Rattle.chart.proofs.Facts.{FrameAt, OneFrame, isFrame, is-frame, frame-is, 
 use Rattle.chart.proofs.Tables.{no-node}
 use Rattle.chart.proofs.Kept.{barrier-counted, counted-barrier}
 use Rattle.paths.specs.Decide.{noBarrier}
-use Rattle.splitting.specs.Parts.{row, Beside}
 use Rattle.phases.specs.Phases.{barriers}
 use Rattle.phases.specs.PhasesLaws.{is-barrier}
 use Rattle.loading.proofs.Accepted.{tables}
-use Rattle.loading.specs.Tables.{Accepted, Stops, Barriers, Noted, skip, put, Framed, Blank}
+use Rattle.loading.specs.Tables.{Accepted, Stops, Barriers, Noted, skip, put, Framed}
 
 -- a barrier of the region by its bytes, as row 8 counts them
 
@@ -233,36 +232,3 @@ module _ (s : List ℕ) (chart : Chart) (A : Accepted s chart) (kind : ℕ) (low
     node = F .node;
     there = λ c l. found c l .1 .0;
   }
-
--- a table whose first rows are written
-
-blank-row : {A : Type 0} (n : ℕ) (x d : A) (r : ℕ) → r < n → getD (replicate n x) r d ≡ x
-blank-row zero x d r l = absurd (omega arith)
-blank-row (suc n) x d zero l = refl
-blank-row (suc n) x d (suc r) l = blank-row n x d r (omega arith)
-
-blank-past : (n : ℕ) (x : List ℕ) (r : ℕ) → n ≤ r → getD (replicate n x) r [] ≡ []
-blank-past zero x r l = refl
-blank-past (suc n) x zero l = absurd (omega arith)
-blank-past (suc n) x (suc r) l = blank-past n x r (omega arith)
-
-pub blank-rows : (r : ℕ) → r < 6 → row (replicate 6 (replicate 1024 0)) r ≡ replicate 1024 0
-blank-rows r l = blank-row 6 (replicate 1024 0) [] r l
-
-pub blank-none : Blank (replicate 6 (replicate 1024 0))
-blank-none = record {
-  six = length-replicate {A = List ℕ} 6 (replicate 1024 0);
-  long = λ r l. rw (blank-rows r l) (length-replicate {A = ℕ} 1024 0);
-  rest = λ r j _. elim (decLt r 6) [ yes l ↦ rw (blank-rows r l) (zeros 1024 j) | no n ↦ rw (blank-past 6 (replicate 1024 0) r (omega arith)) refl ];
-}
-
--- where two rows are written, and keep their lengths
-pub blank-turn : {old new : List (List ℕ)} → Blank old → length (row new 0) ≡ length (row old 0) → length (row new 1) ≡ length (row old 1) → Beside 0 1 old new → Blank new
-blank-turn {old} {new} b p q d = record {
-  six = d .long ∙ b .six;
-  long = λ r l. elim (ℕ-discrete r 0) [
-    | yes e ↦ rw (e, p) (b .long 0 (omega arith))
-    | no n ↦ elim (ℕ-discrete r 1) [ yes e ↦ rw (e, q) (b .long 1 (omega arith)) | no m ↦ rw (d .same r n m) (b .long r l) ]
-  ];
-  rest = λ r j l. rw (d .same r (λ e. omega arith) (λ e. omega arith)) (b .rest r j l);
-}

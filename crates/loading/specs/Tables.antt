@@ -47,11 +47,18 @@ pub record FirstEdges (edges : List Edge·Edge) (places : List ℕ) : Type 0 whe
   pub long : length places ≡ 193
   pub at : (x : ℕ) → x ≤ 192 → getD places x 0 ≡ firstEdge edges x
 
--- Besides, a table of edges has rows that are not written yet.
+-- A table of edges in which nothing is written yet.
 pub record Blank (table : List (List ℕ)) : Type 0 where
   pub six : length table ≡ 6
   pub long : (r : ℕ) → r < 6 → length (row table r) ≡ 1024
-  pub rest : (r j : ℕ) → 2 ≤ r → getD (row table r) j 0 ≡ 0
+  pub none : (r j : ℕ) → getD (row table r) j 0 ≡ 0
+
+-- The table of the edges of a chart as it is read for the region p, parted by stops, and their number.
+pub record Tabled (p : ℕ) (D : Decoded) (stops : List ℕ) (table : List (List ℕ)) (total ups low ins : ℕ) : Type 0 where
+  pub six : length table ≡ 6
+  pub count : total ≡ length (edgesOf p D)
+  pub columns : Columns (edgesOf p D) (row table 0) (row table 1)
+  pub split : Split table total stops ups low ins
 
 -- An edge leads from x to y; backward: from y to x. And so for any path.
 abbrev pub Along : Direction → Region → ℕ → ℕ → Type 0

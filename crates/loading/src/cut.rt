@@ -1,20 +1,15 @@
-// What is left where a chart is read for a parallel's region: the constructs that lie in it, and the edges that are its own.
+// What is left where a chart is read for a parallel's region: the constructs that lie in it, and the nodes whose edges are its own.
 ghost use mathlib.Core.Path.{_≡_};
 ghost use mathlib.Core.Logic.{_≢_};
 ghost use mathlib.Core.Bool.{_&&_, cond};
-ghost use Prim.Native.Nat.{ℕ, _<_};
 ghost use lib.Dec.{eqb};
-ghost use lib.ListN.{getD, length};
+ghost use lib.ListN.{getD};
 ghost use Rattle.chart.specs.Format.{outside, decode};
-ghost use Rattle.paths.specs.Cut.{edgesOf};
-ghost use Rattle.splitting.specs.Parts.{row, Beside};
-ghost use Rattle.loading.specs.Tables.{Accepted, Columns, Blank, Stored, Within, Leaving};
+ghost use Rattle.loading.specs.Tables.{Accepted, Within, Leaving};
 use chart::cursor::wide;
 use chart::format::Chart;
 use chart::format::Construct;
-use chart::format::Edge;
 use chart::format::Node;
-use splitting::Parts;
 
 // 1 for the region's own parallel, and for what stands in a construct with a flag.
 fn lies(c: usize, region: usize, parent: u8) -> u8
@@ -57,7 +52,7 @@ fn leaves(node: Node, region: usize, flags: &[u8; 256]) -> u8
 }
 
 // The flags of the nodes whose edges are the region's.
-fn leaving(s: &[u8], chart: Chart, flags: &mut [u8; Chart::NODES])
+pub fn leaving(s: &[u8], chart: Chart, flags: &mut [u8; Chart::NODES])
     requires { ⌜ Accepted (now s) chart × (chart .region ≢ outside) ⌝ }
     ensures { λ _. ⌜ Leaving (decode (now (s .entry))) (chart .region) (now (flags .exit)) ⌝ }
 {
@@ -71,37 +66,4 @@ fn leaving(s: &[u8], chart: Chart, flags: &mut [u8; Chart::NODES])
         flags[x] = leaves(Node::read(s, chart, x), region, &places);
         x += 1;
     }
-}
-
-// One edge more: where it has its flag, it is the next of the rows.
-fn keep(flag: u8, edge: Edge, table: &mut [[u8; Chart::EDGES]; Parts::ROWS], total: usize) -> usize
-    requires { ⌜ (total < 1024) × (length (now table) ≡ 6) ⌝ }
-    ensures { λ r. ⌜ Stored flag (edge .from) (edge .to) (row (now (table .entry)) 0) (row (now (table .entry)) 1) total (row (now (table .exit)) 0) (row (now (table .exit)) 1) r ⌝ }
-    ensures { λ _. ⌜ Beside 0 1 (now (table .entry)) (now (table .exit)) ⌝ }
-{
-    if flag == 0 {
-        return total;
-    }
-    table[Parts::FROM][total] = edge.from;
-    table[Parts::TO][total] = edge.to;
-    total + 1
-}
-
-// The edges that leave nodes with a flag, in their order, and how many there are; the other rows are blank.
-pub fn cut_edges(s: &[u8], chart: Chart, table: &mut [[u8; Chart::EDGES]; Parts::ROWS]) -> usize
-    requires { ⌜ Accepted (now s) chart × (chart .region ≢ outside) ⌝ }
-    ensures { λ r. ⌜ Columns (edgesOf (chart .region) (decode (now (s .entry)))) (row (now (table .exit)) 0) (row (now (table .exit)) 1) × Blank (now (table .exit)) × (r ≡ length (edgesOf (chart .region) (decode (now (s .entry))))) ⌝ }
-{
-    let mut flags = [0u8; Chart::NODES];
-    leaving(s, chart, &mut flags);
-    *table = [[0u8; Chart::EDGES]; Parts::ROWS];
-    let e = chart.edges;
-    let mut total = 0;
-    let mut i = 0;
-    while i < e {
-        let edge = Edge::read(s, chart, i);
-        total = keep(flags[wide(edge.from)], edge, table, total);
-        i += 1;
-    }
-    total
 }

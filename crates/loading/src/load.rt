@@ -1,4 +1,4 @@
-// What the searches work on, from the bytes of a chart that rows 1 to 9 of the refusals let pass.
+// Stops, barriers, begins and ends, from the bytes of a chart that rows 1 to 9 of the refusals let pass.
 ghost use mathlib.Core.Path.{_≡_};
 ghost use mathlib.Core.Bool.{_&&_, cond};
 ghost use Prim.Native.Nat.{_≤_, _<_};
@@ -6,50 +6,11 @@ ghost use lib.Dec.{eqb, leb};
 ghost use lib.ListN.{length, set};
 ghost use Rattle.chart.specs.Format.{decode};
 ghost use Rattle.chart.specs.Scope.{beginNode, endNode};
-ghost use Rattle.chart.specs.Checked.{Laid, reading};
-ghost use Rattle.paths.specs.Cut.{edgesOf};
-ghost use Rattle.splitting.specs.Parts.{row};
-ghost use Rattle.loading.specs.Tables.{Accepted, Columns, Blank, Stops, Barriers, Noted, Framed};
-use crate::cut::cut_edges;
+ghost use Rattle.chart.specs.Checked.{reading};
+ghost use Rattle.loading.specs.Tables.{Accepted, Stops, Barriers, Noted, Framed};
 use chart::cursor::wide;
 use chart::format::Chart;
-use chart::format::Edge;
 use chart::format::Node;
-use splitting::Parts;
-
-// How many edges and barriers a region has.
-pub struct Loaded {
-    pub edges: usize,
-    pub barriers: usize,
-}
-
-// All edges, as a row of the nodes that they leave and one of those that they come to; the other rows are blank.
-fn all_edges(s: &[u8], chart: Chart, table: &mut [[u8; Chart::EDGES]; Parts::ROWS])
-    requires { ⌜ Laid (now s) chart ⌝ }
-    ensures { λ _. ⌜ Columns (decode (now (s .entry)) .edges) (row (now (table .exit)) 0) (row (now (table .exit)) 1) × Blank (now (table .exit)) ⌝ }
-{
-    *table = [[0u8; Chart::EDGES]; Parts::ROWS];
-    let e = chart.edges;
-    let mut i = 0;
-    while i < e {
-        let edge = Edge::read(s, chart, i);
-        table[Parts::FROM][i] = edge.from;
-        table[Parts::TO][i] = edge.to;
-        i += 1;
-    }
-}
-
-// The edges of the region, in the same way, and how many there are.
-fn edges(s: &[u8], chart: Chart, table: &mut [[u8; Chart::EDGES]; Parts::ROWS]) -> usize
-    requires { ⌜ Accepted (now s) chart ⌝ }
-    ensures { λ r. ⌜ Columns (edgesOf (chart .region) (decode (now (s .entry)))) (row (now (table .exit)) 0) (row (now (table .exit)) 1) × Blank (now (table .exit)) × (r ≡ length (edgesOf (chart .region) (decode (now (s .entry))))) ⌝ }
-{
-    if chart.region == Chart::OUTERMOST {
-        all_edges(s, chart, table);
-        return chart.edges;
-    }
-    cut_edges(s, chart, table)
-}
 
 // 1 for a barrier of the region, its begin and its end among them, 0 for any other node.
 pub fn stop(node: Node, region: usize) -> u8
@@ -92,7 +53,7 @@ fn note(stop: u8, x: usize, nodes: &mut [u8; Chart::BARRIERS], total: usize) -> 
 }
 
 // The list of the barriers, and how many there are.
-fn barriers(
+pub fn barriers(
     s: &[u8],
     chart: Chart,
     stops: &[u8; Chart::NODES],
@@ -110,25 +71,6 @@ fn barriers(
         x += 1;
     }
     total
-}
-
-// Edges, stops and barriers, and how many edges and barriers there are.
-pub fn load(
-    s: &[u8],
-    chart: Chart,
-    table: &mut [[u8; Chart::EDGES]; Parts::ROWS],
-    stops: &mut [u8; Chart::NODES],
-    nodes: &mut [u8; Chart::BARRIERS],
-) -> Loaded
-    requires { ⌜ Accepted (now s) chart ⌝ }
-    ensures { λ r. ⌜ Columns (edgesOf (chart .region) (decode (now (s .entry)))) (row (now (table .exit)) 0) (row (now (table .exit)) 1) × Blank (now (table .exit)) × (r .edges ≡ length (edgesOf (chart .region) (decode (now (s .entry))))) ⌝ }
-    ensures { λ _. ⌜ Stops (reading (now (s .entry)) chart) (now (stops .exit)) ⌝ }
-    ensures { λ r. ⌜ Barriers (reading (now (s .entry)) chart) (now (nodes .exit)) (r .barriers) ⌝ }
-{
-    let edges = edges(s, chart, table);
-    load_stops(s, chart, stops);
-    let barriers = barriers(s, chart, stops, nodes);
-    Loaded { edges, barriers }
 }
 
 // One node more: where it is of this kind, it is that of its construct.

@@ -7,13 +7,14 @@ ghost use Rattle.paths.specs.Graph.{Rising, Places};
 ghost use Rattle.splitting.specs.Parts.{row};
 ghost use Rattle.chart.specs.Format.{Edge, decode};
 ghost use Rattle.chart.specs.Checked.{reading};
-ghost use Rattle.loading.specs.Tables.{Accepted, Columns, FirstEdges, Arranged, Handed, Stops, Barriers};
-use crate::load::load;
+ghost use Rattle.loading.specs.Tables.{Accepted, Columns, FirstEdges, Blank, Arranged, Handed, Stops, Barriers};
+use crate::fill::load_edges;
+use crate::load::barriers;
+use crate::load::load_stops;
 use chart::format::Chart;
 use sorting::places_rising;
 use splitting::Extent;
 use splitting::Parts;
-use splitting::split;
 
 // The places of all nodes, before anything is marked.
 fn find_places(
@@ -28,7 +29,7 @@ fn find_places(
     places_rising(&table[Parts::FROM], e, places);
 }
 
-// What the searches work on: edges, places, stops and barriers.
+// What the searches work on: stops and barriers, the edges parted by the stops, and the places.
 pub fn load_tables(
     s: &[u8],
     chart: Chart,
@@ -37,16 +38,18 @@ pub fn load_tables(
     stops: &mut [u8; Chart::NODES],
     nodes: &mut [u8; Chart::BARRIERS],
 ) -> Extent
-    requires { ⌜ Accepted (now s) chart ⌝ }
+    requires { ⌜ Accepted (now s) chart × Blank (now table) ⌝ }
     ensures { λ r. ⌜ Arranged (reading (now (s .entry)) chart) (now (table .exit)) (now (places .exit)) (now (stops .exit)) (r .parts .ups) (r .parts .low) (r .parts .ins) ⌝ }
     ensures { λ r. ⌜ Handed (chart .region) (decode (now (s .entry))) (now (table .exit)) (now (places .exit)) (r .parts .ups) (r .parts .low) (r .parts .ins) ⌝ }
     ensures { λ r. ⌜ Stops (reading (now (s .entry)) chart) (now (stops .exit)) × Barriers (reading (now (s .entry)) chart) (now (nodes .exit)) (r .barriers) × (r .nodes ≡ chart .nodes) ⌝ }
 {
-    let loaded = load(s, chart, table, stops, nodes);
+    load_stops(s, chart, stops);
+    let barriers = barriers(s, chart, stops, nodes);
+    let loaded = load_edges(s, chart, stops, table);
     find_places(table, loaded.edges, places);
-    let parts = split(table, loaded.edges, stops);
+    let parts = loaded.parts;
     Extent {
-        barriers: loaded.barriers,
+        barriers,
         nodes: chart.nodes,
         parts,
     }

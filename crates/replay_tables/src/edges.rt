@@ -10,13 +10,13 @@ ghost use Rattle.replay_tables.specs.Words.{Beside, Marked};
 use bits::bit;
 use chart::cursor::wide;
 use chart::format::Chart;
-use loading::load::load;
+use loading::fill::load_edges;
 use replay_steps::tables::RegionTable;
 use splitting::Parts;
 
 // Each of the first n edges, marked.
 fn mark_edges(edges: &[[u8; Chart::EDGES]; Parts::ROWS], n: usize, table: &mut RegionTable)
-    requires { ⌜ (n ≤ 1024) × (length (now edges) ≡ 6) × (length (now table) ≡ 2037) × ((r : ℕ) → r < 6 → length (row (now edges) r) ≡ 1024) × ((r j : ℕ) → getD (row (now edges) r) j 0 < 192) ⌝ }
+    requires { ⌜ (n ≤ 1024) × (length (now edges) ≡ 6) × (length (now table) ≡ 2037) × ((j : ℕ) → getD (row (now edges) 0) j 0 < 192) × ((j : ℕ) → getD (row (now edges) 1) j 0 < 192) ⌝ }
     requires { ⌜ ((j : ℕ) → j < 1024 → getD (now table) j 0 ≡ 0) ⌝ }
     ensures { λ _. ⌜ Marked (row (now (edges .entry)) 0) (row (now (edges .entry)) 1) n (now (table .exit)) × Beside 0 1024 (now (table .entry)) (now (table .exit)) ⌝ }
 {
@@ -30,15 +30,14 @@ fn mark_edges(edges: &[[u8; Chart::EDGES]; Parts::ROWS], n: usize, table: &mut R
     }
 }
 
-// The region's edges, marked in a table that has none.
+// The region's edges, marked in a table that has none. How they are parted is of no account here, so that no stop stands.
 pub fn fill_edges(s: &[u8], chart: Chart, table: &mut RegionTable)
     requires { ⌜ Accepted (now s) chart × (length (now table) ≡ 2037) ⌝ }
     requires { ⌜ ((j : ℕ) → j < 1024 → getD (now table) j 0 ≡ 0) ⌝ }
     ensures { λ _. ⌜ ((x y : ℕ) → x < 256 → y < 256 → reading (now (s .entry)) chart .edge x y ≡ hasBit (getD (now (table .exit)) (4 * x + y / 64) 0) (y % 64)) × Beside 0 1024 (now (table .entry)) (now (table .exit)) ⌝ }
 {
     let mut edges = [[0u8; Chart::EDGES]; Parts::ROWS];
-    let mut stops = [0u8; Chart::NODES];
-    let mut nodes = [0u8; Chart::BARRIERS];
-    let loaded = load(s, chart, &mut edges, &mut stops, &mut nodes);
+    let stops = [0u8; Chart::NODES];
+    let loaded = load_edges(s, chart, &stops, &mut edges);
     mark_edges(&edges, loaded.edges, table);
 }

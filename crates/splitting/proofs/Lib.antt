@@ -1,1 +1,3 @@
+pub mod Placing
 pub mod Splitting
+pub mod Steps

@@ -1,45 +1,21 @@
 -- One edge more keeps the two parts; and parts in order are ahead, forward and backward.
 -- Assumes nothing.
-use mathlib.Core.Path.{_≡_, refl, sym, _∙_}
-use mathlib.Core.Logic.{_⊎_, inl, inr, ⊎-elim}
-use mathlib.Core.Bool.{Bool, true, false}
-use mathlib.Core.List.{List, []}
+use mathlib.Core.Path.{_≡_, refl, _∙_}
+use mathlib.Core.Logic.{_⊎_, inl, inr}
+use mathlib.Core.Bool.{true, false}
+use mathlib.Core.List.{List}
 use Prim.Native.Nat.{ℕ, _+_, _-_, _≤_, _<_}
 use native.Mathlib.Omega.{arith}
-use native.Mathlib.Decide.{ℕ-discrete, decLt}
+use native.Mathlib.Decide.{ℕ-discrete}
 use borrow.Author.Count.{below-more}
-use lib.ListN.{length, getD, set, length-set, replicate, length-replicate}
-use lib.Bits.{bitOr, or-comm, or-zero-l}
+use lib.ListN.{length, getD, set, length-set}
 use lib.Seq.{getD-set-same, getD-set-other}
-use Rattle.lists.specs.Mask.{or-more}
-use Rattle.lists.specs.Store.{at-set, zeros}
+use Rattle.lists.specs.Store.{at-set}
 use Rattle.paths.specs.Graph.{Listed, Rising}
 use Rattle.paths.specs.Found.{Clear}
 use Rattle.sweeps.specs.Sweep.{Between, Lies, Ahead, place}
 use Rattle.sweeps.specs.SweepLaws.{Inner}
-use Rattle.splitting.specs.Parts.{Kept, Parted, Put, Come, Noted, row, Beside}
-
-pub or-none : (a b : ℕ) → bitOr a b ≡ 0 → (a ≡ 0) × (b ≡ 0)
-or-none a b e = (omega (arith, or-more a b), omega (arith, or-more b a, or-comm a b))
-
-pub none-or : (a b : ℕ) → a ≡ 0 → b ≡ 0 → bitOr a b ≡ 0
-none-or a b e f = rw (e, f) (or-zero-l 0)
-
--- a store in each of two rows
-pub wrote : (l : List (List ℕ)) (a b at x y : ℕ) → a < length l → b < length l → (b ≡ a → ⊥)
-    → (let m = set l a (set (row l a) at x) in
-    let n = set m b (set (row m b) at y) in
-    (row n a ≡ set (row l a) at x) × (row n b ≡ set (row l b) at y) × Beside a b l n)
-wrote l a b at x y p q d =
-    let m = set l a (set (row l a) at x) in
-    let other : row m b ≡ row l b = getD-set-other l a b (set (row l a) at x) [] d in (
-      getD-set-other m b a (set (row m b) at y) [] (λ e. d (sym e)) ∙ getD-set-same l a (set (row l a) at x) [] p,
-      getD-set-same m b (set (row m b) at y) [] (omega (arith, length-set l a (set (row l a) at x))) ∙ rw other refl,
-      record {
-        long = length-set m b _ ∙ length-set l a _;
-        same = λ r u v. getD-set-other m b r (set (row m b) at y) [] v ∙ getD-set-other l a r (set (row l a) at x) [] u;
-      },
-    )
+use Rattle.splitting.specs.Parts.{Kept, Parted, Put, Come, Noted}
 
 -- before the first edge
 
@@ -282,55 +258,6 @@ module _ {keys values stops : List ℕ} {e j : ℕ} {s t : List ℕ} {ups low : 
         low-first a k l m n (yes z) (yes w) = rw (z, w) (omega arith)
         low-first a k l m n (yes z) (no w) = rw z (omega (arith, same-s k w, own-s, highest (i .down k (omega arith) n .0)))
 
--- for the code
-
-pub pick-inside : (x y ups low at : ℕ) → ups < low → (x < y → at ≡ ups) × (y ≤ x → at ≡ low - 1) → (ups ≤ at) × (at < low)
-pick-inside x y ups low at l (f, g) = go (decLt x y)
-  where
-    go : Dec (x < y) → (ups ≤ at) × (at < low)
-    go (yes h) = let e = f h in (omega arith, omega arith)
-    go (no h) = let e = g (omega arith) in (omega arith, omega arith)
-
--- a number that is 1 in one case and 0 in the others
-pub at-most : (keep r : ℕ) (A B : Type 0) → Dec A → ((A → ⊥) → B) → (keep ≡ 0 → r ≡ 0) × (B → r ≡ 0) × ((keep ≡ 0 → ⊥) → A → r ≡ 1) → r ≤ 1
-at-most keep r A B d other (f, g, h) = go (ℕ-discrete keep 0) d
-  where
-    go : Dec (keep ≡ 0) → Dec A → r ≤ 1
-    go (yes e) d = omega (arith, f e)
-    go (no e) (yes a) = omega (arith, h e a)
-    go (no e) (no a) = omega (arith, g (other a))
-
-pub rise-most : (keep x y r : ℕ) → (keep ≡ 0 → r ≡ 0) × (y ≤ x → r ≡ 0) × ((keep ≡ 0 → ⊥) → x < y → r ≡ 1) → r ≤ 1
-rise-most keep x y r = at-most keep r (x < y) (y ≤ x) (decLt x y) (λ n. omega arith)
-
-pub fall-most : (keep x y r : ℕ) → (keep ≡ 0 → r ≡ 0) × (x < y → r ≡ 0) × ((keep ≡ 0 → ⊥) → y ≤ x → r ≡ 1) → r ≤ 1
-fall-most keep x y r (f, g, h) = go (ℕ-discrete keep 0) (decLt x y)
-  where
-    go : Dec (keep ≡ 0) → Dec (x < y) → r ≤ 1
-    go (yes e) d = omega (arith, f e)
-    go (no e) (yes a) = omega (arith, g a)
-    go (no e) (no a) = omega (arith, h e (omega arith))
-
-pub put-is : (x y keep : ℕ) (s t : List ℕ) (ups low at up down : ℕ) → ups < low → (x < y → at ≡ ups) × (y ≤ x → at ≡ low - 1)
-    → (keep ≡ 0 → up ≡ 0) × (y ≤ x → up ≡ 0) × ((keep ≡ 0 → ⊥) → x < y → up ≡ 1)
-    → (keep ≡ 0 → down ≡ 0) × (x < y → down ≡ 0) × ((keep ≡ 0 → ⊥) → y ≤ x → down ≡ 1)
-    → Put x y keep s t ups low (set s at x) (set t at y) (ups + up) (low - down)
-put-is x y keep s t ups low at up down l p r d = record {
-  at = at;
-  is-s = refl;
-  is-t = refl;
-  inside = pick-inside x y ups low at l p;
-  way = go (ℕ-discrete keep 0) (decLt x y);
-}
-  where
-    go : Dec (keep ≡ 0) → Dec (x < y) → ((keep ≡ 0) × (ups + up ≡ ups) × (low - down ≡ low)) ⊎ (((keep ≡ 0 → ⊥) × (x < y) × (at ≡ ups) × (ups + up ≡ ups + 1) × (low - down ≡ low))
-        ⊎ ((keep ≡ 0 → ⊥) × (y ≤ x) × (at + 1 ≡ low) × (ups + up ≡ ups) × (low - down ≡ at)))
-    go (yes e) h = inl (e, omega (arith, r .0 e), omega (arith, d .0 e))
-    go (no e) (yes h) = inr (inl (e, h, p .0 h, omega (arith, r .2 e h), omega (arith, d .1 h)))
-    go (no e) (no h) =
-        let h′ : y ≤ x = omega arith in
-        inr (inr (e, h′, omega (arith, p .1 h′), omega (arith, r .1 h′), omega (arith, p .1 h′, d .2 e h′)))
-
 -- one turn of the loop
 pub put-turn : {keys values stops : List ℕ} {e j : ℕ} {s t s′ t′ : List ℕ} {ups low ups′ low′ keep : ℕ} → Rising keys e → j < e
     → getD keys j 0 < 192 → getD values j 0 < 192 → Parted keys values stops j s t ups low
@@ -347,34 +274,6 @@ put-turn {keys} {values} {stops} {e} {j} {s} {t} {s′} {t′} {ups} {low} {ups�
         let u′ : ups′ ≡ p .at + 1 = omega arith in
         rw (p .is-s, p .is-t, u′, l) (put-up order within kn vn i (p .at) (p .inside) (yes-kept z .0) (yes-kept z .1) h q)
     go (inr (inr (z, h, q, u, l))) = rw (p .is-s, p .is-t, u, l) (put-down order within kn vn i (p .at) (p .inside) (yes-kept z .0) (yes-kept z .1) h q)
-
--- The table after j turns.
-pub record Turned (keys values stops : List ℕ) (j : ℕ) (edges : List (List ℕ)) (ups low ins : ℕ) : Type 0 where
-  pub six : length edges ≡ 6
-  pub from : row edges 0 ≡ keys
-  pub to : row edges 1 ≡ values
-  pub plain : Parted keys values stops j (row edges 2) (row edges 3) ups low
-  pub come : Come keys values stops j (row edges 4) (row edges 5) ins
-
-pub split-turn : {keys values stops : List ℕ} {e j keep : ℕ} {l m n : List (List ℕ)} {ups low ins ups′ low′ ins′ : ℕ} (x y : ℕ)
-    → e ≤ 1024 → Rising keys e → j < e → getD keys j 0 < 192 → getD values j 0 < 192 → x ≡ getD keys j 0 → y ≡ getD values j 0
-    → Turned keys values stops j l ups low ins
-    → ((keep ≡ 0 → ⊥) → Clear stops x × Clear stops y) → (keep ≡ 0 → Clear stops x → Clear stops y → ⊥)
-    → Put x y keep (row l 2) (row l 3) ups low (row m 2) (row m 3) ups′ low′ → Beside 2 3 l m
-    → Noted x y (getD stops y 0) (row m 4) (row m 5) ins (row n 4) (row n 5) ins′ → Beside 4 5 m n
-    → Turned keys values stops (j + 1) n ups′ low′ ins′
-split-turn {l = l} {m} {n} x y few order within kn vn ex ey i yes-kept no-kept p b q d = record {
-  six = d .long ∙ b .long ∙ i .six;
-  from = old 0 (λ z. omega arith) (λ z. omega arith) (λ z. omega arith) (λ z. omega arith) ∙ i .from;
-  to = old 1 (λ z. omega arith) (λ z. omega arith) (λ z. omega arith) (λ z. omega arith) ∙ i .to;
-  plain = rw (d .same 2 (λ z. omega arith) (λ z. omega arith), d .same 3 (λ z. omega arith) (λ z. omega arith))
-      (put-turn order within kn vn (i .plain) (rw (ex, ey) at yes-kept) (rw (ex, ey) at no-kept) (rw (ex, ey) at p));
-  come = come-turn (omega arith) kn vn (i .come)
-      (rw (ex, ey, b .same 4 (λ z. omega arith) (λ z. omega arith), b .same 5 (λ z. omega arith) (λ z. omega arith)) at q);
-}
-  where
-    old : (r : ℕ) → (r ≡ 2 → ⊥) → (r ≡ 3 → ⊥) → (r ≡ 4 → ⊥) → (r ≡ 5 → ⊥) → row n r ≡ row l r
-    old r f g h k = d .same r h k ∙ b .same r f g
 
 -- what the parts are good for
 

@@ -72,3 +72,18 @@ pub record Split (edges : List (List ℕ)) (e : ℕ) (stops : List ℕ) (ups low
   pub order : Rising (row edges 0) e
   pub plain : Parted (row edges 0) (row edges 1) stops e (row edges 2) (row edges 3) ups low
   pub come : Come (row edges 0) (row edges 1) stops e (row edges 4) (row edges 5) ins
+
+-- A table of edges has six rows; those of all edges have room for 1024.
+pub record Sized (edges : List (List ℕ)) : Type 0 where
+  pub six : length edges ≡ 6
+  pub from : length (row edges 0) ≡ 1024
+  pub to : length (row edges 1) ≡ 1024
+
+-- An edge from x to y may stand behind the first j of a split table: there is room, and it leaves no lower node than they do.
+pub record Next (edges : List (List ℕ)) (j : ℕ) (stops : List ℕ) (ups low ins x y : ℕ) : Type 0 where
+  pub split : Split edges j stops ups low ins
+  pub sized : Sized edges
+  pub within : j < 1024
+  pub from : x < 192
+  pub to : y < 192
+  pub most : (i : ℕ) → i < j → getD (row edges 0) i 0 ≤ x

@@ -1,11 +1,10 @@
 // The edges by what they do in the marking: those between nodes that may be passed, in two parts, rising ones and falling ones, and those
 // that come to stops.
 ghost use mathlib.Core.Path.{_≡_};
-ghost use Prim.Native.Nat.{ℕ, _+_, _≤_, _<_};
-ghost use lib.ListN.{getD, length};
-ghost use Rattle.paths.specs.Graph.{Rising};
+ghost use Prim.Native.Nat.{_+_, _≤_, _<_};
+ghost use lib.ListN.{getD, length, set};
 ghost use Rattle.paths.specs.Found.{Clear};
-ghost use Rattle.splitting.specs.Parts.{row, Put, Noted, Beside, Split};
+ghost use Rattle.splitting.specs.Parts.{row, Put, Noted, Beside, Split, Sized, Next};
 use chart::format::Chart;
 
 // Of the edges between nodes that may be passed the rising ones stand in front, up to `ups`, the falling ones at the back, from `low` on;
@@ -142,30 +141,21 @@ fn note(
     }
 }
 
-// The first e edges, parted.
-pub fn split(
-    edges: &mut [[u8; Chart::EDGES]; Parts::ROWS],
-    e: usize,
+// One edge more, behind the first j, in all rows.
+pub fn place(
+    from: u8,
+    to: u8,
     stops: &[u8; Chart::NODES],
+    edges: &mut [[u8; Chart::EDGES]; Parts::ROWS],
+    j: usize,
+    parts: Parts,
 ) -> Parts
-    requires { ⌜ (e ≤ 1024) × Rising (row (now edges) 0) e × (length (now edges) ≡ 6) ⌝ }
-    requires { ⌜ ((r j : ℕ) → getD (row (now edges) r) j 0 < 192) ⌝ }
-    requires { ⌜ ((r : ℕ) → r < 6 → length (row (now edges) r) ≡ 1024) ⌝ }
-    ensures { λ r. ⌜ Split (now (edges .exit)) e (now (stops .entry)) (r .ups) (r .low) (r .ins) ⌝ }
-    ensures { λ _. ⌜ (row (now (edges .exit)) 0 ≡ row (now (edges .entry)) 0) × (row (now (edges .exit)) 1 ≡ row (now (edges .entry)) 1) ⌝ }
+    requires { ⌜ Next (now edges) j (now stops) (parts .ups) (parts .low) (parts .ins) from to ⌝ }
+    ensures { λ r. ⌜ Split (now (edges .exit)) (j + 1) (now (stops .entry)) (r .ups) (r .low) (r .ins) × Sized (now (edges .exit)) ⌝ }
+    ensures { λ _. ⌜ (row (now (edges .exit)) 0 ≡ set (row (now (edges .entry)) 0) j from) × (row (now (edges .exit)) 1 ≡ set (row (now (edges .entry)) 1) j to) ⌝ }
 {
-    let mut parts = Parts {
-        ups: 0,
-        low: Chart::EDGES,
-        ins: 0,
-    };
-    let mut j = 0;
-    while j < e {
-        let from = edges[Parts::FROM][j];
-        let to = edges[Parts::TO][j];
-        parts = put(kept(stops, from, to), from, to, edges, parts);
-        parts = note(stops, from, to, edges, parts);
-        j += 1;
-    }
-    parts
+    edges[Parts::FROM][j] = from;
+    edges[Parts::TO][j] = to;
+    let parted = put(kept(stops, from, to), from, to, edges, parts);
+    note(stops, from, to, edges, parted)
 }

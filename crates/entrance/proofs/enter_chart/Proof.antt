@@ -8,6 +8,7 @@ use Rattle.lists.specs.Truth.{bad}
 use Rattle.chart.proofs.Records.{nodes-length}
 use Rattle.loading.specs.Tables.{Accepted}
 use Rattle.loading.proofs.Accepted.{accepted, well-formed}
+use Rattle.loading.proofs.Tabling.{blank-none}
 use Rattle.entrance.specs.Entered.{Entry}
 use Rattle.entrance.proofs.Entering.{marked-same, few, not-none, nodes-below, unreached, stuck, connects, refuses, marks}
 use Rattle.entrance.proofs.enter_chart.Statement.{statement}
@@ -28,7 +29,7 @@ abbrev forth : (c : tie.After-fill-ends) → tie.Else1
 forth c = c .before .before .before .before .before .before
 
 load-tables-requires : tie.Need-load-tables-requires
-load-tables-requires c κs = accepted _ _ (c .before .before .before .before .before .pre)
+load-tables-requires c κs = (accepted _ _ (c .before .before .before .before .before .pre), blank-none)
 
 fill-starts-requires : tie.Need-fill-starts-requires
 fill-starts-requires c κs =

@@ -2,6 +2,7 @@
 -- Assumes nothing.
 use native.Mathlib.Omega.{arith}
 use Rattle.loading.proofs.Accepted.{well-formed}
+use Rattle.loading.proofs.Tabling.{blank-none}
 use Rattle.entrance.proofs.Entering.{few, not-none, nodes-below}
 use Rattle.entrance.proofs.mark_region.Statement.{statement}
 use Rattle.entrance.proofs.mark_region.Tie as tie
@@ -15,7 +16,7 @@ abbrev loaded : (c : tie.After-fill-starts) → tie.After-load-tables
 loaded c = c .before .before .before .before .before .before .before
 
 load-tables-requires : tie.Need-load-tables-requires
-load-tables-requires c κs = c .before .before .before .before .before .pre
+load-tables-requires c κs = (c .before .before .before .before .before .pre, blank-none)
 
 fill-starts-requires : tie.Need-fill-starts-requires
 fill-starts-requires c κs =

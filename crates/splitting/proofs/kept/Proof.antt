@@ -4,7 +4,7 @@ use lib.Bits.{or-zero-l}
 use mathlib.Core.Path.{_≡_}
 use native.Mathlib.Omega.{arith}
 use borrow.Author.Needs.{needs}
-use Rattle.splitting.proofs.Splitting.{or-none, none-or}
+use Rattle.splitting.proofs.Steps.{or-none, none-or}
 use Rattle.splitting.proofs.kept.Statement.{statement}
 use Rattle.splitting.proofs.kept.Tie as tie
 

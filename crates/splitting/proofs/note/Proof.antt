@@ -3,7 +3,7 @@
 use mathlib.Core.Path.{refl}
 use native.Mathlib.Omega.{arith}
 use borrow.Author.Needs.{needs}
-use Rattle.splitting.proofs.Splitting.{wrote}
+use Rattle.splitting.proofs.Steps.{wrote}
 use Rattle.splitting.proofs.note.Statement.{statement}
 use Rattle.splitting.proofs.note.Tie as tie
 

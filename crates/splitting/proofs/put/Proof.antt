@@ -4,7 +4,7 @@ use mathlib.Core.Path.{refl}
 use Prim.Native.Nat.{_≤_, _<_}
 use native.Mathlib.Omega.{arith}
 use borrow.Author.Needs.{needs}
-use Rattle.splitting.proofs.Splitting.{pick-inside, rise-most, fall-most, put-is, wrote}
+use Rattle.splitting.proofs.Steps.{pick-inside, rise-most, fall-most, put-is, wrote}
 use Rattle.splitting.proofs.put.Statement.{statement}
 use Rattle.splitting.proofs.put.Tie as tie
 

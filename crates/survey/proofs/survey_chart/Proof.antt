@@ -10,6 +10,7 @@ use Rattle.chart.proofs.Records.{nodes-length}
 use Rattle.refusals.proofs.Outcome.{passed-none}
 use Rattle.loading.specs.Tables.{Accepted}
 use Rattle.loading.proofs.Accepted.{accepted, well-formed}
+use Rattle.loading.proofs.Tabling.{blank-none}
 use Rattle.entrance.proofs.Entering.{few, not-none, nodes-below, unreached, stuck, connects}
 use Rattle.survey.specs.Surveyed.{checkedOf}
 use Rattle.profiles.proofs.Nodes.{all-marks}
@@ -31,7 +32,7 @@ abbrev forth : (c : tie.After-fill-ends) → tie.Else1
 forth c = c .before .before .before .before .before .before
 
 load-tables-requires : tie.Need-load-tables-requires
-load-tables-requires c κs = accepted _ _ (c .before .before .before .before .before .pre .0)
+load-tables-requires c κs = (accepted _ _ (c .before .before .before .before .before .pre .0), blank-none)
 
 index-1-starts : tie.Need-index-1-starts
 index-1-starts c = search needs

@@ -40,25 +40,25 @@ wide-requires-2 : tie.Need-wide-requires-2 Inv-loop μ-loop
 wide-requires-2 c κs = search needs
 
 mul-at : tie.Need-mul-at Inv-loop μ-loop
-mul-at c = omega (arith, c .before .before .wide .ensures .0, c .wide2 .ensures .0, c .before .before .before .before .before .before .pre .0 .4 0 (c .before .before .before .before .before .loop .i), c .before .before .before .before .before .before .pre .0 .4 1 (c .before .before .before .before .before .loop .i), c .before .before .before .before .before .loop .inv .2 .long, c .before .before .before .before .before .before .pre .0 .2)
+mul-at c = omega (arith, c .before .before .wide .ensures .0, c .wide2 .ensures .0, c .before .before .before .before .before .before .pre .0 .3 (c .before .before .before .before .before .loop .i), c .before .before .before .before .before .before .pre .0 .4 (c .before .before .before .before .before .loop .i), c .before .before .before .before .before .loop .inv .2 .long, c .before .before .before .before .before .before .pre .0 .2)
 
 add-at : tie.Need-add-at Inv-loop μ-loop
-add-at c = omega (arith, c .before .before .wide .ensures .0, c .wide2 .ensures .0, c .before .before .before .before .before .before .pre .0 .4 0 (c .before .before .before .before .before .loop .i), c .before .before .before .before .before .before .pre .0 .4 1 (c .before .before .before .before .before .loop .i), c .before .before .before .before .before .loop .inv .2 .long, c .before .before .before .before .before .before .pre .0 .2)
+add-at c = omega (arith, c .before .before .wide .ensures .0, c .wide2 .ensures .0, c .before .before .before .before .before .before .pre .0 .3 (c .before .before .before .before .before .loop .i), c .before .before .before .before .before .before .pre .0 .4 (c .before .before .before .before .before .loop .i), c .before .before .before .before .before .loop .inv .2 .long, c .before .before .before .before .before .before .pre .0 .2)
 
 bit-requires : tie.Need-bit-requires Inv-loop μ-loop
 bit-requires c κs = search needs
 
 mul-table : tie.Need-mul-table Inv-loop μ-loop
-mul-table c = omega (arith, c .before .before .before .wide .ensures .0, c .before .wide2 .ensures .0, c .before .before .before .before .before .before .before .pre .0 .4 0 (c .before .before .before .before .before .before .loop .i), c .before .before .before .before .before .before .before .pre .0 .4 1 (c .before .before .before .before .before .before .loop .i), c .before .before .before .before .before .before .loop .inv .2 .long, c .before .before .before .before .before .before .before .pre .0 .2)
+mul-table c = omega (arith, c .before .before .before .wide .ensures .0, c .before .wide2 .ensures .0, c .before .before .before .before .before .before .before .pre .0 .3 (c .before .before .before .before .before .before .loop .i), c .before .before .before .before .before .before .before .pre .0 .4 (c .before .before .before .before .before .before .loop .i), c .before .before .before .before .before .before .loop .inv .2 .long, c .before .before .before .before .before .before .before .pre .0 .2)
 
 element-copy-out-table : tie.Need-element-copy-out-table Inv-loop μ-loop
-element-copy-out-table c = omega (arith, c .before .before .before .wide .ensures .0, c .before .wide2 .ensures .0, c .before .before .before .before .before .before .before .pre .0 .4 0 (c .before .before .before .before .before .before .loop .i), c .before .before .before .before .before .before .before .pre .0 .4 1 (c .before .before .before .before .before .before .loop .i), c .before .before .before .before .before .before .loop .inv .2 .long, c .before .before .before .before .before .before .before .pre .0 .2)
+element-copy-out-table c = omega (arith, c .before .before .before .wide .ensures .0, c .before .wide2 .ensures .0, c .before .before .before .before .before .before .before .pre .0 .3 (c .before .before .before .before .before .before .loop .i), c .before .before .before .before .before .before .before .pre .0 .4 (c .before .before .before .before .before .before .loop .i), c .before .before .before .before .before .before .loop .inv .2 .long, c .before .before .before .before .before .before .before .pre .0 .2)
 
 mul-table-2 : tie.Need-mul-table-2 Inv-loop μ-loop
-mul-table-2 c = omega (arith, c .before .before .before .before .wide .ensures .0, c .before .before .wide2 .ensures .0, c .before .before .before .before .before .before .before .before .pre .0 .4 0 (c .before .before .before .before .before .before .before .loop .i), c .before .before .before .before .before .before .before .before .pre .0 .4 1 (c .before .before .before .before .before .before .before .loop .i), c .before .before .before .before .before .before .before .loop .inv .2 .long, c .before .before .before .before .before .before .before .before .pre .0 .2)
+mul-table-2 c = omega (arith, c .before .before .before .before .wide .ensures .0, c .before .before .wide2 .ensures .0, c .before .before .before .before .before .before .before .before .pre .0 .3 (c .before .before .before .before .before .before .before .loop .i), c .before .before .before .before .before .before .before .before .pre .0 .4 (c .before .before .before .before .before .before .before .loop .i), c .before .before .before .before .before .before .before .loop .inv .2 .long, c .before .before .before .before .before .before .before .before .pre .0 .2)
 
 element-write-table : tie.Need-element-write-table Inv-loop μ-loop
-element-write-table c = omega (arith, c .before .before .before .before .wide .ensures .0, c .before .before .wide2 .ensures .0, c .before .before .before .before .before .before .before .before .pre .0 .4 0 (c .before .before .before .before .before .before .before .loop .i), c .before .before .before .before .before .before .before .before .pre .0 .4 1 (c .before .before .before .before .before .before .before .loop .i), c .before .before .before .before .before .before .before .loop .inv .2 .long, c .before .before .before .before .before .before .before .before .pre .0 .2)
+element-write-table c = omega (arith, c .before .before .before .before .wide .ensures .0, c .before .before .wide2 .ensures .0, c .before .before .before .before .before .before .before .before .pre .0 .3 (c .before .before .before .before .before .before .before .loop .i), c .before .before .before .before .before .before .before .before .pre .0 .4 (c .before .before .before .before .before .before .before .loop .i), c .before .before .before .before .before .before .before .loop .inv .2 .long, c .before .before .before .before .before .before .before .before .pre .0 .2)
 
 add-i : tie.Need-add-i Inv-loop μ-loop
 add-i c = omega arith
@@ -72,11 +72,11 @@ loop-again c =
     let l = c .before .before .before .before .before .before .before in
     let from = c .before .before .before .before .wide .ensures .0 in
     let to = c .before .before .wide2 .ensures .0 in
-    let low = a .pre .0 .4 0 (l .loop .i) in
-    let high = a .pre .0 .4 1 (l .loop .i) in (
+    let low = a .pre .0 .3 (l .loop .i) in
+    let high = a .pre .0 .4 (l .loop .i) in (
       omega arith,
-      marked-more _ _ _ _ from to (omega (arith, from, low)) (omega (arith, to, high)) refl (omega (arith, c .before .before .before .before .wide .ensures .0, c .before .before .wide2 .ensures .0, c .before .before .before .before .before .before .before .before .pre .0 .4 0 (c .before .before .before .before .before .before .before .loop .i), c .before .before .before .before .before .before .before .before .pre .0 .4 1 (c .before .before .before .before .before .before .before .loop .i), c .before .before .before .before .before .before .before .loop .inv .2 .long, c .before .before .before .before .before .before .before .before .pre .0 .2)) (rw (c .before .bit .ensures) refl) (l .loop .inv .1),
-      beside-more _ _ (omega arith) (omega (arith, c .before .before .before .before .wide .ensures .0, c .before .before .wide2 .ensures .0, c .before .before .before .before .before .before .before .before .pre .0 .4 0 (c .before .before .before .before .before .before .before .loop .i), c .before .before .before .before .before .before .before .before .pre .0 .4 1 (c .before .before .before .before .before .before .before .loop .i), c .before .before .before .before .before .before .before .loop .inv .2 .long, c .before .before .before .before .before .before .before .before .pre .0 .2)) (l .loop .inv .2),
+      marked-more _ _ _ _ from to (omega (arith, from, low)) (omega (arith, to, high)) refl (omega (arith, c .before .before .before .before .wide .ensures .0, c .before .before .wide2 .ensures .0, c .before .before .before .before .before .before .before .before .pre .0 .3 (c .before .before .before .before .before .before .before .loop .i), c .before .before .before .before .before .before .before .before .pre .0 .4 (c .before .before .before .before .before .before .before .loop .i), c .before .before .before .before .before .before .before .loop .inv .2 .long, c .before .before .before .before .before .before .before .before .pre .0 .2)) (rw (c .before .bit .ensures) refl) (l .loop .inv .1),
+      beside-more _ _ (omega arith) (omega (arith, c .before .before .before .before .wide .ensures .0, c .before .before .wide2 .ensures .0, c .before .before .before .before .before .before .before .before .pre .0 .3 (c .before .before .before .before .before .before .before .loop .i), c .before .before .before .before .before .before .before .before .pre .0 .4 (c .before .before .before .before .before .before .before .loop .i), c .before .before .before .before .before .before .before .loop .inv .2 .long, c .before .before .before .before .before .before .before .before .pre .0 .2)) (l .loop .inv .2),
     )
 
 returns : tie.Need-returns Inv-loop μ-loop

@@ -1,0 +1,21 @@
+-- `survey::hold` meets its contract: its table is fresh.
+-- Assumes nothing.
+use borrow.Author.Needs.{needs}
+use Rattle.loading.proofs.Tabling.{blank-none}
+use Rattle.survey.proofs.hold.Statement.{statement}
+use Rattle.survey.proofs.hold.Tie as tie
+
+load-tables-requires : tie.Need-load-tables-requires
+load-tables-requires c κs = (c .before .before .before .before .before .pre, blank-none)
+
+returns-requires : tie.Need-returns-requires
+returns-requires c κs = search needs
+
+fill-held-requires : tie.Need-fill-held-requires
+fill-held-requires c κs = search needs
+
+returns : tie.Need-returns
+returns c = search needs
+
+pub hold-spec : {M : Type 1} → statement M
+hold-spec = tie.close (tie.spec load-tables-requires returns-requires fill-held-requires returns)
