@@ -1,4 +1,4 @@
--- Levels as they begin and as they are told.
+-- Levels as they begin, as they are told, and masks that they tell.
 -- Assumes nothing.
 use mathlib.Core.Path.{_≡_}
 use mathlib.Core.List.{List}
@@ -17,3 +17,7 @@ Begins mask level = (mask ≡ 0 → level ≡ 254) × ((mask ≡ 0 → ⊥) → 
 -- A level as it is told: 0 for none.
 abbrev pub Tells : ℕ → ℕ → Type 0
 Tells level told = (level < 254 → told ≡ level) × (254 ≤ level → told ≡ 0)
+
+-- A mask that a level tells, where all paths begin at the first source: that source's bit, 0 for no level.
+abbrev pub Shows : ℕ → ℕ → Type 0
+Shows level mask = (level ≡ 0 → mask ≡ 0) × ((level ≡ 0 → ⊥) → mask ≡ 1)

@@ -1,7 +1,7 @@
-// Levels as they begin, 1 where the sources' edges lead, and as they are told, 0 for none.
+// Levels as they begin, 1 where the sources' edges lead, and as they are told, 0 for none; and masks that they tell.
 ghost use mathlib.Core.Path.{_≡_};
 ghost use lib.ListN.{length};
-ghost use Rattle.feeding.specs.Levels.{Each, Begins, Tells};
+ghost use Rattle.feeding.specs.Levels.{Each, Begins, Tells, Shows};
 use chart::format::Chart;
 use sweeps::levels::NONE;
 
@@ -43,6 +43,27 @@ pub fn tell(levels: &mut [u8; Chart::NODES])
     let mut y = 0;
     while y < Chart::NODES {
         levels[y] = told(levels[y]);
+        y += 1;
+    }
+}
+
+// The mask of a node with this level, where all paths begin at the first source.
+fn shown(level: u8) -> u64
+    ensures { λ r. ⌜ Shows level r ⌝ }
+{
+    if level == 0 {
+        return 0;
+    }
+    1
+}
+
+pub fn show(levels: &[u8; Chart::NODES], masks: &mut [u64; Chart::NODES])
+    requires { ⌜ length (now masks) ≡ 192 ⌝ }
+    ensures { λ _. ⌜ Each Shows (now (levels .entry)) (now (masks .exit)) ⌝ }
+{
+    let mut y = 0;
+    while y < Chart::NODES {
+        masks[y] = shown(levels[y]);
         y += 1;
     }
 }

@@ -1,4 +1,4 @@
--- Row 10 of the refusals by the masks: the passes find the barriers that are joined to the source; from it a path leads to a node exactly
+-- Row 10 of the refusals by masks and levels: the passes find the barriers that are joined to the source; from it a path leads to a node exactly
 -- when a joined barrier leads there past no barrier.
 -- Assumes nothing.
 use mathlib.Core.Path.{_≡_, refl, ap, sym, _∙_}
@@ -7,31 +7,32 @@ use mathlib.Core.Bool.{Bool, true, false, _&&_, _||_, not, cond}
 use mathlib.Core.List.{List}
 use Prim.Native.Nat.{ℕ, _+_, _-_, _^_, _≤_, _<_}
 use native.Mathlib.Omega.{arith}
-use native.Mathlib.Decide.{ℕ-discrete}
+use native.Mathlib.Decide.{ℕ-discrete, decLt}
+use native.Mathlib.Numerals.{add-one}
 use lib.Bits.{bitAnd, bitOr, and-le-r, or-comm, or-lt}
 use lib.Count.{ones}
-use lib.Dec.{eqb}
+use lib.Dec.{eqb, ltb}
 use lib.ListN.{length, getD}
 use lib.Pow.{pow-lt}
-use borrow.Author.Tests.{eqb-true, eq-eqb, ne-eqb, not-true, not-false}
-use Rattle.lists.specs.Truth.{truth, clash, false-if, both-and}
-use Rattle.lists.specs.Range.{any, any-at, at-any, any-or, any-same, none-passes, count}
+use borrow.Author.Tests.{eqb-true, eq-eqb, ne-eqb, not-true, not-false, lt-ltb, le-ltb}
+use Rattle.lists.specs.Truth.{truth, clash, false-if, true-not, and-both, both-and, and-fails, fails-and}
+use Rattle.lists.specs.Range.{any, any-at, at-any, any-none, any-or, any-same, none-passes, count}
 use Rattle.lists.specs.Counting.{count-all, count-full, count-hit}
 use Rattle.lists.specs.Mask.{Has, Mask, or-cases, or-left, or-right, or-more, has-none, has-own, has-pow, mask-is}
 use Rattle.lists.specs.Bits.{has, ones-mask}
-use Rattle.lists.specs.Common.{and-both, both-and as has-both, some-bit}
+use Rattle.lists.specs.Common.{and-both as has-each, both-and as has-both, some-bit}
 use Rattle.lists.specs.Select.{select, select-at, select-length}
 use Rattle.chart.specs.Region.{barrier, Region}
 use Rattle.chart.specs.WellFormed.{WellFormed}
 use Rattle.paths.specs.Path.{Path, Any, Open}
 use Rattle.paths.specs.PathLaws.{append, carry, reverse, cut-last, From}
 use Rattle.paths.specs.Decide.{noBarrier, no-barrier, barrier-no, any-path, path-any}
-use Rattle.paths.specs.Found.{Found}
+use Rattle.paths.specs.Found.{Found, Leveled}
 use Rattle.paths.specs.Admission.{cutOff, badPaths}
 use Rattle.phases.specs.Phases.{Direction, forward, backward, barriers, barrierAt}
 use Rattle.phases.specs.PhasesLaws.{is-barrier, number-barrier, barrier-number, number-unique}
 use Rattle.loading.specs.Tables.{Along, leadsAny, Stops, Barriers}
-use Rattle.joining.specs.Joined.{Joined, own, more, fromSource, Passed, lost, lostIn}
+use Rattle.joining.specs.Joined.{Joined, own, more, fromSource, Passed, lost, lostBarrier, missing, Reaches, lostIn}
 
 -- the order of a pass: each barrier has its turn
 
@@ -48,6 +49,9 @@ turn-of source total b l = go (eqb source 0)
     go : (t : Bool) → cond t (cond t b (total - 1 - b)) (total - 1 - cond t b (total - 1 - b)) ≡ b
     go true = refl
     go false = omega arith
+
+differ : (a b : ℕ) → (a ≡ b → ⊥) → not (eqb a b) ≡ true
+differ a b n = rw (ne-eqb a b n)
 
 -- as many bits are set as numbers are in the mask
 ones-count : {P : ℕ → Type 0} {k m : ℕ} → Mask P k m → ones m ≡ count k (has m)
@@ -89,7 +93,7 @@ module _ (masks nodes : List ℕ) (total source : ℕ) where
           let m = bitAnd (maskAt b) all in
           let v : Mask (Has m) total m = record { small = omega (arith, and-le-r (maskAt b) all, p .low); only = λ i q h. h; all = λ i q h. h } in
           let (c, (l, h)) = some-bit v .0 n in
-          let (x, y) = and-both (maskAt b) all c h in
+          let (x, y) = has-each (maskAt b) all c h in
           more l (p .sound c y) x
 
       joins : (bitAnd (maskAt b) all ≡ 0 → ⊥) → Passed masks nodes total source before (k + 1) (bitOr (2 ^ b) all)
@@ -154,110 +158,155 @@ module _ {R : Region} (W : WellFormed R) where
   open? : (z : ℕ) → Dec (Open R z)
   open? z = elim (truth (noBarrier (R .role z))) [ inl h ↦ yes (no-barrier _ h) | inr h ↦ no (λ o. clash (barrier-no _ o) h) ]
 
-  -- the masks of a search from the barriers, past none of them
-  module _ (d : Direction) {nodes masks : List ℕ} {total : ℕ} (B : Barriers R nodes total)
-      (w : Found (Along d R) (Open R) nodes total masks) (source : ℕ) (within : source < total) where
-    abbrev Own : ℕ → Type 0
-    Own = Joined masks nodes total source
-
-    -- a path leads from the source to each barrier that is joined
-    joined-path : {b : ℕ} → Own b → (b ≡ source) ⊎ Path (Along d R) Any (getD nodes source 0) (getD nodes b 0)
-    joined-path own = inl refl
-    joined-path (more {b} {c} l j h) =
-        let p : Path (Along d R) Any (getD nodes c 0) (getD nodes b 0) = carry (λ x y e. e) (λ z o. tt) (w .mask (getD nodes b 0) .only c l h) in
-        inr (⊎-elim (λ e. rw e at p) (λ v. append v tt p) (joined-path j))
-
-    -- and to each node that a joined barrier leads to
-    on : {b x : ℕ} → Own b → Path (Along d R) (Open R) (getD nodes b 0) x → leadsAny d R (getD nodes source 0) x ≡ true
-    on j v =
-        let p = carry (λ x y e. e) (λ z o. tt) v in
-        path-leads d (⊎-elim (λ e. rw e at p) (λ u. append u tt p) (joined-path j))
-
-    -- the other way round
+  -- Where no barrier with M leads past no barrier to one without it: to what a path leads from one with M, one with M leads past no barrier.
+  module _ (d : Direction) (nodes : List ℕ) {total : ℕ} (B : Barriers R nodes total) (M : ℕ → Type 0)
+      (grows : (b c : ℕ) → c < total → M c → Path (Along d R) (Open R) (getD nodes c 0) (getD nodes b 0) → M b) where
     abbrev Node : ℕ → Type 0
-    Node z = (b : ℕ) × (b < total) × (getD nodes b 0 ≡ z) × Own b
+    Node z = (b : ℕ) × (b < total) × (getD nodes b 0 ≡ z) × M b
 
     closed : (x z : ℕ) → Node x → Path (Along d R) (Open R) x z → (Open R z → ⊥) → Node z
     closed x z (c, l, e, j) p n =
         let (b, m, q) = barrier-number R W z (is-barrier _ (false-if (λ h. n (no-barrier _ h)))) in
         let r : getD nodes b 0 ≡ z = B .at b ∙ q in
-        (b, omega (arith, B .count), r, more {b = b} l j (rw r (w .mask z .all c l (rw e p))))
+        (b, omega (arith, B .count), r, grows b c l j (rw (e, r) p))
 
     abbrev Led : ℕ → Type 0
     Led = From {E = Along d R} {P = Open R} open? Node closed
 
-    led : (x : ℕ) → leadsAny d R (getD nodes source 0) x ≡ true → (c : ℕ) × (c < total) × Own c × Has (getD masks x 0) c
-    led x h =
-        let f : Led x = cut-last open? Node closed (source, within, refl, own) (leads-path d (getD nodes source 0) x h) in
+    led : (source : ℕ) → source < total → M source → (x : ℕ) → leadsAny d R (getD nodes source 0) x ≡ true
+        → (c : ℕ) × (c < total) × M c × Path (Along d R) (Open R) (getD nodes c 0) x
+    led source within m x h =
+        let f : Led x = cut-last open? Node closed (source, within, refl, m) (leads-path d (getD nodes source 0) x h) in
         let (c, l, e, j) = f .member in
-        (c, l, j, w .mask x .all c l (rw e (f .path)))
+        (c, l, j, rw e (f .path))
 
-    led-joined : (b : ℕ) → leadsAny d R (getD nodes source 0) (getD nodes b 0) ≡ true → Own b
-    led-joined b h = let (c, l, j, g) = led (getD nodes b 0) h in more l j g
+  module _ (d : Direction) (nodes : List ℕ) {total : ℕ} (B : Barriers R nodes total) (source : ℕ) (within : source < total) where
+    -- a barrier, other than the source, is not led to from there
+    abbrev apart : ℕ → Bool
+    apart b = not (eqb b source) && not (leadsAny d R (getD nodes source 0) (getD nodes b 0))
 
-    module _ (all : ℕ) (v : Mask Own total all) where
-      -- a barrier that is not joined is lost
-      barrier-lost : (b : ℕ) → b < total → not (has all b) ≡ true → lost d R (getD nodes source 0) ≡ true
-      barrier-lost b l h = at-any (R .nodes) _ (getD nodes b 0) below (both-and _ _ differs unled)
-        where
-          no : Own b → ⊥
-          no j = clash (eq-eqb _ 1 (v .all b l j)) (not-true _ h)
+    as-barriers : any total apart ≡ lostBarrier d R source
+    as-barriers = rw (← B .count) (any-same total _ _ (λ b l. rw (B .at b, B .at source)))
 
-          below : getD nodes b 0 < R .nodes
-          below = rw (B .at b) (W .barrier-below (number-barrier R W b (omega (arith, B .count))))
+    -- by the masks of a search from the barriers, past none of them
+    module _ {masks : List ℕ} (w : Found (Along d R) (Open R) nodes total masks) (all : ℕ) (v : Mask (Joined masks nodes total source) total all) where
+      abbrev Own : ℕ → Type 0
+      Own = Joined masks nodes total source
 
-          same : getD nodes b 0 ≡ getD nodes source 0 → b ≡ source
-          same e = number-unique R W b source (omega (arith, B .count)) (omega (arith, B .count)) (sym (B .at b) ∙ e ∙ B .at source)
+      -- a path leads from the source to each barrier that is joined, and to no other
+      joined-path : {b : ℕ} → Own b → (b ≡ source) ⊎ Path (Along d R) Any (getD nodes source 0) (getD nodes b 0)
+      joined-path own = inl refl
+      joined-path (more {b} {c} l j h) =
+          let p : Path (Along d R) Any (getD nodes c 0) (getD nodes b 0) = carry (λ x y e. e) (λ z o. tt) (w .mask (getD nodes b 0) .only c l h) in
+          inr (⊎-elim (λ e. rw e at p) (λ v. append v tt p) (joined-path j))
 
-          differs : not (eqb (getD nodes b 0) (getD nodes source 0)) ≡ true
-          differs = rw (ne-eqb _ _ (λ e. no (rw (same e) own)))
+      led-joined : (b : ℕ) → leadsAny d R (getD nodes source 0) (getD nodes b 0) ≡ true → Own b
+      led-joined b h =
+          let on : (b c : ℕ) → c < total → Own c → Path (Along d R) (Open R) (getD nodes c 0) (getD nodes b 0) → Own b = λ b c l j p.
+          more l j (w .mask (getD nodes b 0) .all c l p) in
+          let (c, l, j, p) = led d nodes B Own on source within own (getD nodes b 0) h in
+          on b c l j p
 
-          unled : not (leadsAny d R (getD nodes source 0) (getD nodes b 0)) ≡ true
-          unled = rw (false-if (λ g. no (led-joined b g)))
-
-      pub few-lost : ones all < total → lost d R (getD nodes source 0) ≡ true
-      few-lost f = elim (truth (any total (λ b. not (has all b)))) [
-        | inl h ↦ (let (b, l, t) = any-at total _ h in barrier-lost b l t)
+      few-apart : ones all < total → lostBarrier d R source ≡ true
+      few-apart f = sym as-barriers ∙ elim (truth (any total (λ b. not (has all b)))) [
+        | inl h ↦ (let (b, l, t) = any-at total _ h in at-any total apart b l (lone b l t))
         | inr h ↦ absurd (full (count-all total (has all) (λ b l. not-false _ (none-passes total _ h b l))))
       ]
         where
           full : count total (has all) ≡ total → ⊥
           full e = omega (arith, ones-count v)
 
-      -- where all barriers are joined, a node that is no barrier is led to from the source exactly when its mask is not empty
-      pub all-joined : total ≤ ones all → {stops : List ℕ} → Stops R stops
-          → any (R .nodes) (λ x. eqb (getD stops x 0) 0 && eqb (getD masks x 0) 0) ≡ lost d R (getD nodes source 0)
-      all-joined f {stops} S = any-same (R .nodes) _ _ (λ x l. rw (S .at x) (asked x (truth (noBarrier (R .role x)))))
-        where
-          joined : (b : ℕ) → b < total → Own b
-          joined b l = v .only b l (eqb-true _ 1 (count-full total (has all) (omega (arith, ones-count v)) b l))
+          lone : (b : ℕ) → b < total → not (has all b) ≡ true → apart b ≡ true
+          lone b l h =
+              let no : Own b → ⊥ = λ j. clash (eq-eqb _ 1 (v .all b l j)) (not-true _ h) in
+              let unled : not (leadsAny d R (getD nodes source 0) (getD nodes b 0)) ≡ true = rw (false-if (λ g. no (led-joined b g))) in
+              both-and _ _ (differ b source (λ e. no (rw e own))) unled
 
-          none : (x : ℕ) → getD masks x 0 ≡ 0 → leadsAny d R (getD nodes source 0) x ≡ true → ⊥
-          none x z h = let (c, l, j, g) = led x h in has-none c (rw z at g)
+      full-apart : total ≤ ones all → lostBarrier d R source ≡ false
+      full-apart f = sym as-barriers ∙ any-none total apart (λ b l. fails-and _ _ (λ h.
+          let j : Own b = v .only b l (eqb-true _ 1 (count-full total (has all) (omega (arith, ones-count v)) b l)) in
+          ⊎-elim (λ e. absurd (clash (eq-eqb _ _ e) (not-true _ h))) (λ p. true-not _ (path-leads d p)) (joined-path j)))
 
-          same : (x : ℕ) → Dec (getD masks x 0 ≡ 0) → eqb (getD masks x 0) 0 ≡ not (leadsAny d R (getD nodes source 0) x)
-          same x (yes z) = rw (eq-eqb _ _ z, false-if (none x z))
-          same x (no n) =
-              let (b, (l, p)) = some-bit (w .mask x) .0 n in
-              rw (ne-eqb _ _ n, on (joined b l) p)
+      pub apart-told : ltb (ones all) total ≡ lostBarrier d R source
+      apart-told = elim (decLt (ones all) total) [
+        | yes l ↦ lt-ltb _ _ l ∙ sym (few-apart l)
+        | no n ↦ (let l : total ≤ ones all = omega arith in le-ltb _ _ l ∙ sym (full-apart l))
+      ]
 
-          -- a barrier is the source, or led to
-          found : (x : ℕ) → R .role x ≡ barrier → (x ≡ getD nodes source 0 → ⊥) → leadsAny d R (getD nodes source 0) x ≡ true
-          found x r n =
-              let (b, l, q) = barrier-number R W x r in
-              let e : getD nodes b 0 ≡ x = B .at b ∙ q in
-              ⊎-elim (λ s. absurd (n (sym e ∙ ap (λ (c : ℕ). getD nodes c 0) s))) (λ p. path-leads d (rw e at p)) (joined-path (joined b (omega (arith, B .count))))
+    -- a barrier that is lost is a node that is
+    barrier-lost : lostBarrier d R source ≡ true → lost d R (barrierAt R source) ≡ true
+    barrier-lost h =
+        let (b, l, t) = any-at (length (barriers R)) _ h in
+        let (differs, unled) = and-both _ _ t in
+        let other : barrierAt R b ≡ barrierAt R source → ⊥ = λ e.
+        clash (eq-eqb _ _ (number-unique R W b source l (omega (arith, B .count)) e)) (not-true _ differs) in
+        at-any (R .nodes) _ (barrierAt R b) (W .barrier-below (number-barrier R W b l)) (both-and _ _ (differ (barrierAt R b) (barrierAt R source) other) unled)
 
-          asked : (x : ℕ) → (noBarrier (R .role x) ≡ true) ⊎ (noBarrier (R .role x) ≡ false)
-              → (eqb (cond (noBarrier (R .role x)) 0 1) 0 && eqb (getD masks x 0) 0) ≡ (not (eqb x (getD nodes source 0)) && not (leadsAny d R (getD nodes source 0) x))
-          asked x (inl t) =
-              let other : x ≡ getD nodes source 0 → ⊥ = λ e.
-              clash t (ap noBarrier (ap (R .role) (e ∙ B .at source) ∙ number-barrier R W source (omega (arith, B .count)))) in
-              rw (t, ne-eqb _ _ other) (same x (ℕ-discrete (getD masks x 0) 0))
-          asked x (inr t) = elim (ℕ-discrete x (getD nodes source 0)) [
-            | yes e ↦ rw (t, eq-eqb _ _ e)
-            | no n ↦ rw (t, ne-eqb _ _ n, found x (is-barrier _ t) n)
-          ]
+    -- where all barriers are led to, a node that is none is led to from the source exactly when some barrier leads there past no barrier
+    module _ (f : lostBarrier d R source ≡ false) {values : List ℕ} (r : Reaches (Along d R) (Open R) nodes total values) where
+      reached : (b : ℕ) → b < total → (b ≡ source → ⊥) → leadsAny d R (getD nodes source 0) (getD nodes b 0) ≡ true
+      reached b l n = not-false _ (and-fails _ _ (none-passes total apart (as-barriers ∙ f) b l) (differ b source n))
+
+      on : (b x : ℕ) → b < total → Path (Along d R) (Open R) (getD nodes b 0) x → leadsAny d R (getD nodes source 0) x ≡ true
+      on b x l v =
+          let p : Path (Along d R) Any (getD nodes b 0) x = carry (λ x y e. e) (λ z o. tt) v in
+          path-leads d (elim (ℕ-discrete b source) [ yes e ↦ rw e at p | no n ↦ append (leads-path d _ _ (reached b l n)) tt p ])
+
+      none : (x : ℕ) → Open R x → getD values x 0 ≡ 0 → leadsAny d R (getD nodes source 0) x ≡ true → ⊥
+      none x o z h = let (c, l, j, p) = led d nodes B (λ b. Unit {0}) (λ b c l j p. tt) source within tt x h in r .none c x l o p z
+
+      same : (x : ℕ) → Open R x → Dec (getD values x 0 ≡ 0) → eqb (getD values x 0) 0 ≡ not (leadsAny d R (getD nodes source 0) x)
+      same x o (yes z) = rw (eq-eqb _ _ z, false-if (none x o z))
+      same x o (no n) = let (b, l, p) = r .some x o n in rw (ne-eqb _ _ n, on b x l p)
+
+      -- a barrier is the source, or led to
+      found : (x : ℕ) → R .role x ≡ barrier → (x ≡ getD nodes source 0 → ⊥) → leadsAny d R (getD nodes source 0) x ≡ true
+      found x k n =
+          let (b, l, q) = barrier-number R W x k in
+          let e : getD nodes b 0 ≡ x = B .at b ∙ q in
+          rw e at (reached b (omega (arith, B .count)) (λ s. n (sym e ∙ ap (λ (c : ℕ). getD nodes c 0) s)))
+
+      asked : (x : ℕ) → (noBarrier (R .role x) ≡ true) ⊎ (noBarrier (R .role x) ≡ false)
+          → (eqb (cond (noBarrier (R .role x)) 0 1) 0 && eqb (getD values x 0) 0) ≡ (not (eqb x (getD nodes source 0)) && not (leadsAny d R (getD nodes source 0) x))
+      asked x (inl t) =
+          let other : x ≡ getD nodes source 0 → ⊥ = λ e.
+          clash t (ap noBarrier (ap (R .role) (e ∙ B .at source) ∙ number-barrier R W source (omega (arith, B .count)))) in
+          rw (t, ne-eqb _ _ other) (same x (no-barrier _ t) (ℕ-discrete (getD values x 0) 0))
+      asked x (inr t) = elim (ℕ-discrete x (getD nodes source 0)) [
+        | yes e ↦ rw (t, eq-eqb _ _ e)
+        | no n ↦ rw (t, ne-eqb _ _ n, found x (is-barrier _ t) n)
+      ]
+
+      nodes-lost : {stops : List ℕ} → Stops R stops → missing stops values (R .nodes) ≡ lost d R (barrierAt R source)
+      nodes-lost S = rw (← B .at source) (any-same (R .nodes) _ _ (λ x l. rw (S .at x) (asked x (truth (noBarrier (R .role x))))))
+
+    -- both together
+    pub parts-lost : {stops values : List ℕ} → Reaches (Along d R) (Open R) nodes total values → Stops R stops
+        → (lostBarrier d R source || missing stops values (R .nodes)) ≡ lost d R (barrierAt R source)
+    parts-lost r S = elim (truth (lostBarrier d R source)) [
+      | inl h ↦ rw (h, barrier-lost h)
+      | inr h ↦ rw h (nodes-lost h r S)
+    ]
+
+-- masks and levels tell where a path leads
+
+pub masks-reach : {E : ℕ → ℕ → Type 0} {P : ℕ → Type 0} {sources masks : List ℕ} {total : ℕ} → Found E P sources total masks → Reaches E P sources total masks
+masks-reach w = record {
+  some = λ x o n. let (b, (l, p)) = some-bit (w .mask x) .0 n in (b, l, p);
+  none = λ b x l o p. some-bit (w .mask x) .1 (b, (l, p));
+}
+
+pub levels-reach : {E : ℕ → ℕ → Type 0} {P : ℕ → Type 0} {sources levels : List ℕ} {total : ℕ} → Leveled E P P sources total levels → Reaches E P sources total levels
+levels-reach w = record {
+  some = λ x o n. let r = w .path x o (omega arith) in (r .source, r .below, r .path);
+  none = λ b x l o p z. omega (arith, w .least b x l o p .0);
+}
+
+-- the turn of a loop that looks for a node that was missed
+pub missing-more : (stops values : List ℕ) (x : ℕ) {found r m : Bool} → found ≡ missing stops values x
+    → m ≡ (eqb (getD stops x 0) 0 && eqb (getD values x 0) 0) → r ≡ (found || m) → r ≡ missing stops values (x + 1)
+unfolding any
+missing-more stops values x p q e = e ∙ rw (p, q, add-one x)
 
 -- start is a barrier
 pub some-barrier : (R : Region) → WellFormed R → 0 < length (barriers R)

@@ -1,6 +1,7 @@
 -- The barriers that are joined to one of them, as the masks of all nodes tell when no path passed a barrier. Row 10 of the refusals is
 -- then a matter of these barriers and of the masks, with no further search.
 -- Assumes nothing.
+use mathlib.Core.Path.{_≡_}
 use mathlib.Core.Bool.{Bool, _&&_, _||_, not, cond}
 use mathlib.Core.List.{List}
 use Prim.Native.Nat.{ℕ, _-_, _^_, _≤_, _<_}
@@ -9,6 +10,7 @@ use lib.ListN.{length, getD}
 use Rattle.lists.specs.Mask.{Has, Sub}
 use Rattle.lists.specs.Range.{any}
 use Rattle.chart.specs.Region.{Region}
+use Rattle.paths.specs.Found.{Reached}
 use Rattle.phases.specs.Phases.{Direction, forward, backward, barriers, barrierAt}
 use Rattle.loading.specs.Tables.{leadsAny}
 
@@ -32,6 +34,19 @@ pub record Passed (masks nodes : List ℕ) (total source before k all : ℕ) : T
 -- One of the nodes, other than the source, is not led to from there.
 abbrev pub lost : Direction → Region → ℕ → Bool
 lost d R source = any (R .nodes) (λ x. not (eqb x source) && not (leadsAny d R source x))
+
+-- One of the barriers, other than the source, is not led to from there; both by their numbers.
+abbrev pub lostBarrier : Direction → Region → ℕ → Bool
+lostBarrier d R source = any (length (barriers R)) (λ b. not (eqb b source) && not (leadsAny d R (barrierAt R source) (barrierAt R b)))
+
+-- One of the first n nodes, on which no stop stands, has 0.
+abbrev pub missing : List ℕ → List ℕ → ℕ → Bool
+missing stops values n = any n (λ x. eqb (getD stops x 0) 0 && eqb (getD values x 0) 0)
+
+-- Numbers that tell of the nodes with P whether a path leads there from a source, 0 for none: masks do, and levels.
+pub record Reaches (E : ℕ → ℕ → Type 0) (P : ℕ → Type 0) (sources : List ℕ) (total : ℕ) (values : List ℕ) : Type 0 where
+  pub some : (x : ℕ) → P x → (getD values x 0 ≡ 0 → ⊥) → (b : ℕ) × (b < total) × Reached E P sources b x
+  pub none : (b x : ℕ) → b < total → P x → Reached E P sources b x → getD values x 0 ≡ 0 → ⊥
 
 -- So it is forward from the first barrier, or backward from the last.
 abbrev pub lostIn : Region → Bool

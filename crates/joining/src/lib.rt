@@ -1,26 +1,24 @@
 // Row 10 of the refusals: every node is reached from start and reaches finish, along edges. The masks of a search past no barrier tell
-// it: first which barriers are joined to start (to finish), then whether some barrier leads to each other node.
+// it: first which barriers are joined to start (to finish), then whether some barrier leads to each other node, which levels tell as well.
 ghost use mathlib.Core.Path.{_≡_};
 ghost use mathlib.Core.Bool.{_&&_, cond};
 ghost use Prim.Native.Nat.{ℕ, _^_, _≤_, _<_};
 ghost use lib.Bits.{bitAnd, bitOr};
 ghost use lib.Dec.{eqb};
 ghost use lib.ListN.{getD};
-ghost use Rattle.lists.specs.Range.{any};
 ghost use Rattle.lists.specs.Mask.{Has, Mask};
 ghost use Rattle.chart.specs.Region.{Region};
 ghost use Rattle.chart.specs.WellFormed.{WellFormed};
 ghost use Rattle.paths.specs.Path.{Open};
 ghost use Rattle.paths.specs.Found.{Found};
-ghost use Rattle.phases.specs.Phases.{Direction, barrierAt};
-ghost use Rattle.loading.specs.Tables.{Along, Stops, Barriers};
-ghost use Rattle.joining.specs.Joined.{Joined, fromSource, Passed, lost};
+ghost use Rattle.phases.specs.Phases.{Direction};
+ghost use Rattle.loading.specs.Tables.{Along, Barriers};
+ghost use Rattle.joining.specs.Joined.{Joined, fromSource, Passed, lostBarrier, missing};
 use bits::bit;
 use bits::either;
 use bits::ones;
 use chart::cursor::wide;
 use chart::format::Chart;
-use splitting::Extent;
 
 // The k-th barrier from the source on, so that one pass will do for a chart in program order.
 fn from_source(source: usize, total: usize, k: usize) -> usize
@@ -89,45 +87,54 @@ fn joined(
     all
 }
 
-// Whether no stop stands on a node, and its mask is empty.
-fn missed(stop: u8, mask: u64) -> bool
-    ensures { λ r. ⌜ r ≡ (eqb stop 0 && eqb mask 0) ⌝ }
+// Whether a barrier, other than the source, is not led to from there, by the masks of all nodes.
+pub fn any_apart(
+    masks: &[u64; Chart::NODES],
+    nodes: &[u8; Chart::BARRIERS],
+    total: usize,
+    source: usize,
+) -> bool
+    requires { ⌜ (total ≤ 64) × (source < total) ⌝ }
+    requires { ⌜ ((b : ℕ) → getD (now nodes) b 0 < 192) ⌝ }
+    ensures { λ r. ⌜ ((d : Direction) (R : Region) → WellFormed R → Barriers R (now (nodes .entry)) total → Found (Along d R) (Open R) (now (nodes .entry)) total (now (masks .entry)) → r ≡ lostBarrier d R source) ⌝ }
+{
+    ones(joined(masks, nodes, total, source)) < total
+}
+
+// Whether no stop stands on a node, and nothing was found there.
+fn missed(stop: u8, none: bool) -> bool
+    ensures { λ r. ⌜ r ≡ (eqb stop 0 && none) ⌝ }
 {
     if stop == 0 {
-        return mask == 0;
+        return none;
     }
     false
 }
 
-// Whether one of the first n nodes was missed. No turn leaves the loop, so that several are taken at once.
-fn any_missed(stops: &[u8; Chart::NODES], masks: &[u64; Chart::NODES], n: usize) -> bool
+// Whether one of the first n nodes was missed, by their masks. No turn leaves the loop, so that several are taken at once.
+pub fn any_missed(stops: &[u8; Chart::NODES], masks: &[u64; Chart::NODES], n: usize) -> bool
     requires { ⌜ n ≤ 192 ⌝ }
-    ensures { λ r. ⌜ r ≡ any n (λ x. eqb (getD (now (stops .entry)) x 0) 0 && eqb (getD (now (masks .entry)) x 0) 0) ⌝ }
+    ensures { λ r. ⌜ r ≡ missing (now (stops .entry)) (now (masks .entry)) n ⌝ }
 {
     let mut found = false;
     let mut x = 0;
     while x < n {
-        found = either(found, missed(stops[x], masks[x]));
+        found = either(found, missed(stops[x], masks[x] == 0));
         x += 1;
     }
     found
 }
 
-// Whether to one of the nodes, other than the source, no path leads from there, by the masks of all nodes.
-pub fn cut_off(
-    stops: &[u8; Chart::NODES],
-    masks: &[u64; Chart::NODES],
-    nodes: &[u8; Chart::BARRIERS],
-    extent: Extent,
-    source: usize,
-) -> bool
-    requires { ⌜ (extent .barriers ≤ 64) × (source < extent .barriers) × (extent .nodes ≤ 192) ⌝ }
-    requires { ⌜ ((b : ℕ) → getD (now nodes) b 0 < 192) ⌝ }
-    ensures { λ r. ⌜ ((d : Direction) (R : Region) → WellFormed R → extent .nodes ≡ R .nodes → Stops R (now (stops .entry)) → Barriers R (now (nodes .entry)) (extent .barriers) → Found (Along d R) (Open R) (now (nodes .entry)) (extent .barriers) (now (masks .entry)) → r ≡ lost d R (barrierAt R source)) ⌝ }
+// The same by their levels, which are an eighth of the bytes.
+pub fn any_unleveled(stops: &[u8; Chart::NODES], levels: &[u8; Chart::NODES], n: usize) -> bool
+    requires { ⌜ n ≤ 192 ⌝ }
+    ensures { λ r. ⌜ r ≡ missing (now (stops .entry)) (now (levels .entry)) n ⌝ }
 {
-    let total = extent.barriers;
-    if ones(joined(masks, nodes, total, source)) < total {
-        return true;
+    let mut found = false;
+    let mut x = 0;
+    while x < n {
+        found = either(found, missed(stops[x], levels[x] == 0));
+        x += 1;
     }
-    any_missed(stops, masks, extent.nodes)
+    found
 }

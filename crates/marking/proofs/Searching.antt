@@ -120,6 +120,10 @@ module _ {R : Region} {stops : List ℕ} (S : Stops R stops) where
     pub found-along : {sources : List ℕ} {total : ℕ} {masks : List ℕ} → Found E (Clear stops) sources total masks → Found (Along d R) (Open R) sources total masks
     found-along = found-carry f g open-node clear-node
 
+    pub leveled-along : {sources : List ℕ} {total : ℕ} {levels : List ℕ} → Leveled E (Clear stops) (Clear stops) sources total levels
+        → Leveled (Along d R) (Open R) (Open R) sources total levels
+    leveled-along = leveled-carry f g open-node clear-node clear-node
+
     along-mask : (sources : List ℕ) (total y m : ℕ) → Mask (λ b. Reached E (Clear stops) sources b y) total m
         → Mask (λ b. Reached (Along d R) (Open R) sources b y) total m
     along-mask sources total y m = mask-carry (λ b _. carry f open-node) (λ b _. carry g clear-node)
@@ -142,7 +146,7 @@ module _ {R : Region} {stops : List ℕ} (S : Stops R stops) where
     -- and the levels are the fewest edges
     pub all-levels : WellFormed R → {nodes : List ℕ} {total : ℕ} {levels : List ℕ} → Barriers R nodes total
         → Leveled E (Clear stops) (Clear stops) nodes total levels → (x : ℕ) → Open R x → getD levels x 0 ≡ nearest d R x
-    all-levels W B w = found-nearest W d B (leveled-carry f g open-node clear-node clear-node w)
+    all-levels W B w = found-nearest W d B (leveled-along w)
 
 -- what a search asks of the tables
 

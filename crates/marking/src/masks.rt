@@ -9,8 +9,11 @@ ghost use Rattle.chart.specs.Format.{Decoded};
 ghost use Rattle.phases.specs.Phases.{forward, backward, barrierAt};
 ghost use Rattle.loading.specs.Tables.{Arranged, Handed, Stops, Barriers, Masks, Levels};
 ghost use Rattle.joining.specs.Joined.{lost};
+use bits::either;
 use chart::format::Chart;
-use joining::cut_off;
+use joining::any_apart;
+use joining::any_missed;
+use joining::any_unleveled;
 use search::ends;
 use search::starts;
 use splitting::Extent;
@@ -33,7 +36,8 @@ pub fn fill_starts(
 {
     let mut all = [0u64; Chart::NODES];
     starts(edges, places, extent, nodes, masks, levels, &mut all);
-    cut_off(stops, &all, nodes, extent, 0)
+    let apart = any_apart(&all, nodes, extent.barriers, 0);
+    either(apart, any_unleveled(stops, levels, extent.nodes))
 }
 
 // The ends, and whether a node is cut off from the last barrier.
@@ -52,5 +56,6 @@ pub fn fill_ends(
 {
     let mut all = [0u64; Chart::NODES];
     ends(edges, places, extent, nodes, masks, &mut all);
-    cut_off(stops, &all, nodes, extent, extent.barriers - 1)
+    let apart = any_apart(&all, nodes, extent.barriers, extent.barriers - 1);
+    either(apart, any_missed(stops, &all, extent.nodes))
 }

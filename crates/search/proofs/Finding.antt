@@ -149,7 +149,7 @@ module _ {edges : List (List ℕ)} {e : ℕ} {stops : List ℕ} {ups low ins : �
         let (h, k) = rising-in froms e (i .at) s (T .order) (omega (arith, i .from, P .at s (omega arith))) (omega (arith, i .below, P .at (s + 1) (omega arith))) in
         (record { at = i .at; below = h; key = i .key; value = i .value }, sym (i .key) ∙ k)
 
-    listed-placed : (x y : ℕ) → Listed froms tos e x y → Between froms tos (getD places x 0) (getD places (x + 1) 0) x y
+    pub listed-placed : (x y : ℕ) → Listed froms tos e x y → Between froms tos (getD places x 0) (getD places (x + 1) 0) x y
     listed-placed x y t =
         let m = listed-node x y t .0 in
         let (from, to) = rw (t .key) at (rising-at froms e (t .at) (T .order) (t .below)) in

@@ -2,12 +2,13 @@
 -- Assumes nothing.
 use mathlib.Core.Path.{_≡_}
 use mathlib.Core.List.{List}
-use Prim.Native.Nat.{ℕ, _≤_, _<_}
+use Prim.Native.Nat.{ℕ, _+_, _≤_, _<_}
 use lib.ListN.{length, getD}
 use Rattle.lists.specs.Mask.{Mask}
 use Rattle.paths.specs.Graph.{Places}
 use Rattle.paths.specs.Found.{Clear, Reached, Found}
 use Rattle.splitting.specs.Parts.{row, Split}
+use Rattle.feeding.specs.Levels.{Shows}
 
 -- The table is that of some edges and stops.
 pub record Ready (edges : List (List ℕ)) (places : List ℕ) (ups low ins : ℕ) : Type 0 where
@@ -37,3 +38,13 @@ pub record Marked (E : ℕ → ℕ → Type 0) (stops sources : List ℕ) (total
   pub every : Found E (Clear stops) sources total all
   pub clear : (y : ℕ) → Clear stops y → Mask (λ b. Reached E (Clear stops) sources b y) total (getD masks y 0)
   pub stop : (y : ℕ) → (Clear stops y → ⊥) → getD masks y 0 ≡ 0
+
+-- All paths begin at the first source: there are two, and no edge stands at the places of the second.
+abbrev pub Lone : List ℕ → List ℕ → ℕ → Type 0
+Lone places sources total = (total ≡ 2) × (getD places (getD sources 1 0) 0 ≡ getD places (getD sources 1 0 + 1) 0)
+
+-- The masks old become new: the two sources keep theirs, and the levels tell the others.
+pub record Settled (sources levels old new : List ℕ) : Type 0 where
+  pub long : length new ≡ 192
+  pub at : (b : ℕ) → b < 2 → getD new (getD sources b 0) 0 ≡ getD old (getD sources b 0) 0
+  pub rest : (y : ℕ) → y < 192 → ((b : ℕ) → b < 2 → getD sources b 0 ≡ y → ⊥) → Shows (getD levels y 0) (getD new y 0)

@@ -1,22 +1,26 @@
 // The search, from up to 64 sources at once: for each node a mask with a bit for each source from which a path leads there, and forward
 // the fewest edges on such a path. What the sources' edges lead to is closed by sweeps along the edges between nodes that may be passed,
-// forward or with the edges turned round. The fewest edges are swept or searched, breadth first.
+// forward or with the edges turned round. The fewest edges are swept or searched, breadth first; where all paths begin at one source, they
+// tell its masks, and no sweep is needed.
 ghost use mathlib.Core.Path.{_≡_};
+ghost use mathlib.Core.Bool.{true};
 ghost use mathlib.Core.List.{List};
 ghost use Prim.Native.Nat.{ℕ, _+_, _≤_, _<_};
 ghost use lib.ListN.{getD, length};
 ghost use Rattle.paths.specs.Graph.{Listed, Places};
 ghost use Rattle.paths.specs.Found.{Clear, Leveled};
 ghost use Rattle.splitting.specs.Parts.{row, Split};
-ghost use Rattle.search.specs.Search.{Ready, Standing, Sown, Spread, Marked};
+ghost use Rattle.search.specs.Search.{Ready, Standing, Sown, Spread, Marked, Lone, Settled};
 
 pub mod nearest;
 
 use crate::nearest::fewest;
+use chart::cursor::wide;
 use chart::format::Chart;
 use feeding::clear;
 use feeding::feed;
 use feeding::leave;
+use feeding::levels::show;
 use feeding::stand;
 use splitting::Extent;
 use splitting::Parts;
@@ -115,6 +119,59 @@ fn behind(
     );
 }
 
+// Whether all paths begin at the first source: there are two, and no edge leaves the second.
+fn lone(places: &[usize; Chart::PLACES], sources: &[u8; Chart::BARRIERS], total: usize) -> bool
+    requires { ⌜ ((b : ℕ) → getD (now sources) b 0 < 192) ⌝ }
+    ensures { λ r. ⌜ (r ≡ true → Lone (now (places .entry)) (now (sources .entry)) total) ⌝ }
+{
+    if total != 2 {
+        return false;
+    }
+    let second = wide(sources[1]);
+    places[second] == places[second + 1]
+}
+
+// On from there where all paths begin at the first source: its bit is where there is a level. The two stops keep what the edges brought,
+// since their levels say nothing.
+fn settle(
+    sources: &[u8; Chart::BARRIERS],
+    levels: &[u8; Chart::NODES],
+    masks: &mut [u64; Chart::NODES],
+)
+    requires { ⌜ ((b : ℕ) → getD (now sources) b 0 < 192) ⌝ }
+    requires { ⌜ length (now masks) ≡ 192 ⌝ }
+    ensures { λ _. ⌜ Settled (now (sources .entry)) (now (levels .entry)) (now (masks .entry)) (now (masks .exit)) ⌝ }
+{
+    let first = wide(sources[0]);
+    let second = wide(sources[1]);
+    let at_first = masks[first];
+    let at_second = masks[second];
+    show(levels, masks);
+    masks[first] = at_first;
+    masks[second] = at_second;
+}
+
+// On from there, by the levels where they tell the masks.
+fn onward(
+    edges: &[[u8; Chart::EDGES]; Parts::ROWS],
+    places: &[usize; Chart::PLACES],
+    extent: Extent,
+    sources: &[u8; Chart::BARRIERS],
+    levels: &[u8; Chart::NODES],
+    masks: &mut [u64; Chart::NODES],
+)
+    requires { ⌜ (extent .barriers ≤ 64) × ((b : ℕ) → getD (now sources) b 0 < 192) ⌝ }
+    requires { ⌜ ((e : ℕ) × (stops : List ℕ) × Split (now edges) e stops (extent .parts .ups) (extent .parts .low) (extent .parts .ins) × Sown (Listed (row (now edges) 0) (row (now edges) 1) e) (now sources) (extent .barriers) (now masks)) ⌝ }
+    ensures { λ _. ⌜ ((e : ℕ) (stops : List ℕ) → Split (now (edges .entry)) e stops (extent .parts .ups) (extent .parts .low) (extent .parts .ins) → Places (row (now (edges .entry)) 0) e (now (places .entry)) → Standing stops (now (sources .entry)) (extent .barriers) → Sown (Listed (row (now (edges .entry)) 0) (row (now (edges .entry)) 1) e) (now (sources .entry)) (extent .barriers) (now (masks .entry)) → Leveled (Listed (row (now (edges .entry)) 0) (row (now (edges .entry)) 1) e) (Clear stops) (Clear stops) (now (sources .entry)) (extent .barriers) (now (levels .entry)) → Spread (Listed (row (now (edges .entry)) 0) (row (now (edges .entry)) 1) e) stops (now (sources .entry)) (extent .barriers) (now (masks .exit))) ⌝ }
+    ensures { λ _. ⌜ length (now (masks .exit)) ≡ 192 ⌝ }
+{
+    if lone(places, sources, extent.barriers) {
+        settle(sources, levels, masks);
+        return;
+    }
+    proceed(edges, extent.parts, masks);
+}
+
 // From the stops: the masks of the nodes that may be passed and their levels, and the masks of all nodes.
 pub fn starts(
     edges: &[[u8; Chart::EDGES]; Parts::ROWS],
@@ -133,7 +190,7 @@ pub fn starts(
     let parts = extent.parts;
     depart(edges, places, nodes, total, masks);
     fewest(edges, places, extent, nodes, masks, levels);
-    proceed(edges, parts, masks);
+    onward(edges, places, extent, nodes, levels, masks);
     *all = *masks;
     clear(nodes, total, masks);
     feed(

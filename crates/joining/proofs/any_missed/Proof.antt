@@ -1,23 +1,17 @@
 -- `joining::any_missed` meets its contract: after x turns the first x nodes are asked.
 -- Assumes nothing.
-use mathlib.Core.Path.{_≡_, refl, _∙_}
-use mathlib.Core.Bool.{Bool, _&&_}
-use mathlib.Core.List.{List}
-use Prim.Native.Nat.{ℕ, _≤_, _-_}
+use mathlib.Core.Path.{_≡_, refl}
+use Prim.Native.Nat.{_≤_, _-_}
 use native.Mathlib.Omega.{arith}
-use native.Mathlib.Numerals.{add-one}
-use lib.Dec.{eqb}
-use lib.ListN.{getD}
 use borrow.Author.Needs.{needs}
 use Rattle.lists.specs.Range.{any}
+use Rattle.joining.specs.Joined.{missing}
+use Rattle.joining.proofs.Joining.{missing-more}
 use Rattle.joining.proofs.any_missed.Statement.{statement}
 use Rattle.joining.proofs.any_missed.Tie as tie
 
-abbrev lost : List ℕ → List ℕ → ℕ → Bool
-lost stops masks x = eqb (getD stops x 0) 0 && eqb (getD masks x 0) 0
-
 abbrev Inv-loop : tie.InvT-loop
-Inv-loop stops masks n found₀ x₀ found x = (x ≤ n) × (found ≡ any x (lost stops masks))
+Inv-loop stops masks n found₀ x₀ found x = (x ≤ n) × (found ≡ missing stops masks x)
 
 abbrev μ-loop : tie.MeasureT-loop
 μ-loop stops masks n found₀ x₀ found x = n - x
@@ -48,11 +42,10 @@ loop-less : tie.Need-loop-less Inv-loop μ-loop
 loop-less c = omega arith
 
 loop-again : tie.Need-loop-again Inv-loop μ-loop
-unfolding any
 loop-again c =
-    let missed = c .before in
-    let l = missed .before .before .before .before in
-    (omega arith, c .either .ensures ∙ rw (missed .missed .ensures, l .loop .inv .1, add-one (l .loop .x)))
+    let l = c .before .before .before .before .before in
+    let args = l .before .args in
+    (omega arith, missing-more (args .stops .now) (args .masks .now) (l .loop .x) (l .loop .inv .1) (c .before .missed .ensures) (c .either .ensures))
 
 returns : tie.Need-returns Inv-loop μ-loop
 returns c =

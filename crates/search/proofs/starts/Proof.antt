@@ -2,7 +2,7 @@
 -- Assumes nothing.
 use native.Mathlib.Omega.{arith}
 use borrow.Author.Needs.{needs}
-use Rattle.search.proofs.Finding.{sown-fits, marked-starts}
+use Rattle.search.proofs.Finding.{marked-starts}
 use Rattle.search.proofs.starts.Statement.{statement}
 use Rattle.search.proofs.starts.Tie as tie
 
@@ -11,10 +11,10 @@ abbrev start : (c : tie.After-depart) → tie.Start
 start c = c .before .before .before
 
 -- where the sources' edges have been followed, and all edges
-abbrev left : (c : tie.After-proceed) → tie.After-depart
-left c = c .before .before .before .before .before
+abbrev left : (c : tie.After-onward) → tie.After-depart
+left c = c .before .before .before .before .before .before
 
-abbrev gone : (c : tie.After-clear) → tie.After-proceed
+abbrev gone : (c : tie.After-clear) → tie.After-onward
 gone c = c .before .before .before
 
 depart-requires : tie.Need-depart-requires
@@ -27,12 +27,12 @@ fewest-requires c κs =
     let ((few, ready), nodes) = start (c .before .before) .pre in
     ((few, ready), nodes)
 
-proceed-requires : tie.Need-proceed-requires
-proceed-requires c κs =
-    let departed = c .before .before .before .before in
+onward-requires : tie.Need-onward-requires
+onward-requires c κs =
+    let departed = c .before .before .before .before .before in
     let ((few, ready), nodes) = start departed .pre in
     let w = departed .depart .ensures _ _ _ _ _ (ready .split) (ready .begins) in
-    ((_, _, ready .split), (w .long, sown-fits few w))
+    ((few, nodes), (_, _, ready .split, w))
 
 clear-requires : tie.Need-clear-requires
 clear-requires c κs =
@@ -50,17 +50,15 @@ feed-requires c κs =
     let p = gone (c .before .before .before .before) in
     let ((few, ready), nodes) = start (left p) .pre in
     let C = ready .split .come in
-    let w = left p .depart .ensures _ _ _ _ _ (ready .split) (ready .begins) in
-    ((omega arith, omega (arith, C .few, ready .split .few), p .proceed .ensures _ _ _ _ (ready .split) w .long), (C .node-s, C .node-t))
+    ((omega arith, omega (arith, C .few, ready .split .few), p .onward .ensures .1), (C .node-s, C .node-t))
 
 returns : tie.Need-returns
 returns c = λ e stops T P S.
     let cleared = c .before .before .before .before .before in
     let p = gone cleared in
-    let w = left p .depart .ensures e stops _ _ _ T P in (
-      marked-starts T S (p .proceed .ensures e stops _ _ T w) (cleared .clear .ensures) (c .feed .ensures),
-      p .before .before .fewest .ensures e stops T P S w,
-    )
+    let w = left p .depart .ensures e stops _ _ _ T P in
+    let v = p .before .before .before .fewest .ensures e stops T P S w in
+    (marked-starts T S (p .onward .ensures .0 e stops T P S w v) (cleared .clear .ensures) (c .feed .ensures), v)
 
 pub starts-spec : {M : Type 1} → statement M
 starts-spec =
@@ -68,7 +66,7 @@ starts-spec =
     (tie.spec
     depart-requires
     fewest-requires
-    proceed-requires
+    onward-requires
     clear-requires
     index-1-feed
     index-1-feed-2

@@ -1,0 +1,21 @@
+-- `joining::any_apart` meets its contract, whichever the direction of the masks.
+-- Assumes nothing.
+use borrow.Author.Needs.{needs}
+use Rattle.joining.proofs.Joining.{apart-told}
+use Rattle.joining.proofs.any_apart.Statement.{statement}
+use Rattle.joining.proofs.any_apart.Tie as tie
+
+joined-requires : tie.Need-joined-requires
+joined-requires c κs = search needs
+
+ones-requires : tie.Need-ones-requires
+ones-requires c κs = search needs
+
+returns : tie.Need-returns
+returns c = λ d R W B w.
+    let joined = c .before in
+    let start = joined .before in
+    rw (c .ones .ensures .0) (apart-told W d _ B (start .args .source) (start .pre .0 .1) w (joined .joined .result) (joined .joined .ensures))
+
+pub any-apart-spec : {M : Type 1} → statement M
+any-apart-spec = tie.close (tie.spec joined-requires ones-requires returns)
