@@ -11,7 +11,7 @@ use lib.ListN.{length, getD}
 use borrow.Author.Tests.{le-ltb, lt-ltb, eq-eqb, ne-eqb, ltb-true, ltb-false, eqb-true, eqb-false}
 use Rattle.lists.specs.Truth.{bad, and-both}
 use Rattle.chart.specs.Scope.{singleByte, loopByte}
-use Rattle.listing.specs.Tree.{Block, end, plain, barrier, loop, branch, around, nodeCount, constructCount, first}
+use Rattle.listing.specs.Tree.{Block, end, nodeCount, constructCount, first}
 use Rattle.listing.specs.Grammar.{plainLetter, barrierLetter, loopLetter, branchLetter, nowaitLetter, openBrace, closeBrace, Item, one-plain, one-barrier, one-loop, one-branch, one-around, put, Read, upTo, stopped, after, pick, stands, braced, letterKind, followed, itemBy, blockOf}
 use Rattle.listing_tables.specs.Reads.{aheadOf}
 

@@ -5,7 +5,6 @@ use mathlib.Core.Bool.{Bool, true, false, cond}
 use mathlib.Core.List.{List, [], _∷_}
 use Prim.Native.Nat.{ℕ, suc, _+_, _≤_, _<_}
 use native.Mathlib.Omega.{arith}
-use native.Mathlib.Numerals.{add-one}
 use Rattle.listing.specs.Tree.{stop, closes, cell, two}
 use Rattle.listing.specs.Flow.{two-same}
 use Rattle.listing_records.specs.Stored.{Stored}

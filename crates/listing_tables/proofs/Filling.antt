@@ -1,6 +1,6 @@
 -- The records of an item, from those of its parts.
 -- Assumes nothing.
-use mathlib.Core.Path.{_≡_, refl, ap, sym, _∙_}
+use mathlib.Core.Path.{_≡_, refl, sym}
 use mathlib.Core.Bool.{Bool, true, false, cond}
 use mathlib.Core.List.{List, [], _∷_, _++_, append-nil}
 use Prim.Native.Nat.{ℕ, suc, _+_, _*_}
@@ -10,7 +10,7 @@ use native.Mathlib.Numerals.{add-one}
 use lib.ListN.{take}
 use Rattle.encoding.specs.Bytes.{fieldBytes}
 use Rattle.encoding.specs.Encode.{flat}
-use Rattle.listing.specs.Tree.{Block, end, plain, barrier, loop, branch, around, nodeCount, constructCount, first, simple, stop, opens, closes, Cell, cell, two, cells, Part, constructs}
+use Rattle.listing.specs.Tree.{Block, end, plain, barrier, loop, branch, around, nodeCount, constructCount, first, simple, stop, opens, Cell, cell, two, cells, constructs}
 use Rattle.listing.specs.Grammar.{Item, one-plain, one-barrier, one-loop, one-branch, one-around, put}
 use Rattle.listing.specs.Flow.{two-same}
 use Rattle.listing_records.specs.Stored.{Stored, StoredParts}
@@ -94,16 +94,16 @@ module _ (spot : Spot) where
       )
 
   -- number is m, as a byte
-  pub construct-filled : (i : Item) (kind : ℕ) (w : Bool) (b : Block) (number j n : ℕ) (C C0 C1 : List ℕ) {e0 e1 e2 : ℕ} {N E N0 E0 N1 E1 N2 E2 : List ℕ}
-      → i ≡ one-around kind w b → number ≡ m → j ≡ k + 1 + nodeCount b → k + n ≡ j + 1 + cond w 1 0
-      → take (4 * (m + 1)) C0 ≡ take (4 * m) C ++ (kind ∷ (o ∷ fieldBytes 0 []))
+  pub construct-filled : (i : Item) (kind byte : ℕ) (w : Bool) (b : Block) (number j n : ℕ) (C C0 C1 : List ℕ) {e0 e1 e2 : ℕ} {N E N0 E0 N1 E1 N2 E2 : List ℕ}
+      → i ≡ one-around kind w b → byte ≡ kind → number ≡ m → j ≡ k + 1 + nodeCount b → k + n ≡ j + 1 + cond w 1 0
+      → take (4 * (m + 1)) C0 ≡ take (4 * m) C ++ (byte ∷ (o ∷ fieldBytes 0 []))
       → Stored (cell k opens number o (two (k + 1) (k + 1)) ∷ []) k (k + 1) e e0 N E N0 E0
       → Stored (cells b number (m + 1) (k + 1) j) (k + 1) (k + 1 + nodeCount b) e0 e1 N0 E0 N1 E1
       → StoredParts (constructs b number (m + 1)) (m + 1) (m + 1 + constructCount b) C0 C1
       → Stored (endCells w o m j t) j (k + n) e1 e2 N1 E1 N2 E2
       → Filled (put i end) spot e2 N E C N2 E2 C1
   unfolding put cells nodeCount constructs constructCount first flat
-  construct-filled i kind w b number j n C C0 C1 {e0} {e1} {e2} {N} {E} {N0} {E0} {N1} {E1} {N2} {E2} is qm qj qn p0 h0 h1 p1 h2 =
+  construct-filled i kind byte w b number j n C C0 C1 {e0} {e1} {e2} {N} {E} {N0} {E0} {N1} {E1} {N2} {E2} is qb qm qj qn p0 h0 h1 p1 h2 =
       rw is (go w qn h2)
     where
       begin : Cell
@@ -121,7 +121,7 @@ module _ (spot : Spot) where
       listed : StoredParts (record { kind = kind; parent = o } ∷ (constructs b m (suc m) ++ [])) m (m + suc (constructCount b + 0)) C C1
       listed =
           let count : m + suc (constructCount b + 0) ≡ m + 1 + constructCount b = omega arith in
-          rw (append-nil (constructs b m (suc m)), count, sym (add-one m)) (parts-joined (record { kind = kind; parent = o } ∷ []) (constructs b m (m + 1)) m (m + 1) (m + 1 + constructCount b) C C0 C1 p0 (rw qm at p1))
+          rw (append-nil (constructs b m (suc m)), count, sym (add-one m)) (parts-joined (record { kind = kind; parent = o } ∷ []) (constructs b m (m + 1)) m (m + 1) (m + 1 + constructCount b) C C0 C1 (rw qb at p0) (rw qm at p1))
 
       go : (w : Bool) → k + n ≡ j + 1 + cond w 1 0 → Stored (endCells w o m j t) j (k + n) e1 e2 N1 E1 N2 E2
           → Filled (put (one-around kind w b) end) spot e2 N E C N2 E2 C1

@@ -4,7 +4,7 @@ use mathlib.Core.Path.{_≡_, refl, ap, sym, _∙_}
 use mathlib.Core.List.{List, [], _∷_, _++_, map, append-assoc, append-nil}
 use Prim.Native.Nat.{ℕ, _+_, _*_}
 use native.Mathlib.Omega.{arith}
-use lib.ListN.{length, take, length-append}
+use lib.ListN.{take, length-append}
 use Rattle.encoding.specs.Encode.{nodeRecord, edgeRecord, constructRecord, flat}
 use Rattle.scratch.proofs.Putting.{chained}
 use Rattle.listing.specs.Tree.{Cell, Part}

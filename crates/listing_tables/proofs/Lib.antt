@@ -3,4 +3,5 @@ pub mod Begins
 pub mod Filling
 pub mod Ending
 pub mod Parts
+pub mod Calls
 pub mod Turns
