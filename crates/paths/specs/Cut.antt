@@ -1,28 +1,25 @@
 -- The edges of one region as two columns: those edges of the chart, in their order, whose scope lies in the region. They are the region's edges,
--- and they rise, so that the sort and the search need know of no cut.
+-- so that the search need know of no cut.
 -- Assumes nothing.
 use mathlib.Core.Path.{_≡_, refl, ap, sym, _∙_, subst}
-use mathlib.Core.Logic.{inl, inr}
 use mathlib.Core.Bool.{Bool, true, _&&_}
 use mathlib.Core.List.{List, [], _∷_, map}
-use Prim.Native.Nat.{ℕ, zero, suc, _+_, _-_, _≤_, _<_}
+use Prim.Native.Nat.{ℕ, zero, suc, _<_}
 use native.Mathlib.Omega.{arith}
-use native.Mathlib.Decide.{decLt}
 use lib.Dec.{eqb}
 use lib.ListN.{length, getD}
 use lib.Seq.{ext-getD}
 use borrow.Author.Tests.{eqb-true, eq-eqb}
 use Rattle.lists.specs.Truth.{and-both, both-and}
-use Rattle.lists.specs.Range.{count, any-at, at-any, count-most}
-use Rattle.lists.specs.Select.{select, select-length, select-passes, select-at, select-number}
-use Rattle.lists.specs.Counting.{count-up, count-all}
+use Rattle.lists.specs.Range.{count, any-at, at-any}
+use Rattle.lists.specs.Select.{select, select-length, select-passes, select-at}
+use Rattle.lists.specs.Counting.{count-all}
 use Rattle.chart.specs.Format.{outside, Edge as Edge·Edge, Decoded, noEdge, edgeAt}
 use Rattle.chart.specs.Scope.{leavingAt}
 use Rattle.chart.specs.Nested.{liesWithin}
 use Rattle.chart.specs.Reading.{edgeIn, regionOf}
-use Rattle.chart.proofs.Facts.{TablesFit}
 use Rattle.paths.specs.Path.{Edge}
-use Rattle.paths.specs.Graph.{Listed, Rising}
+use Rattle.paths.specs.Graph.{Listed}
 
 -- Edge i is one of the region p.
 abbrev pub keeps : Decoded → ℕ → ℕ → Bool
@@ -43,9 +40,6 @@ pub record CutColumns (D : Decoded) (p : ℕ) (froms tos : List ℕ) (e : ℕ) :
   pub to : (j : ℕ) → j < e → getD tos j 0 ≡ edgeAt (D .edges) (getD (cut D p) j 0) .to
 
 module _ {D : Decoded} {p : ℕ} {froms tos : List ℕ} {e : ℕ} (C : CutColumns D p froms tos e) where
-  pub cut-most : e ≤ length (D .edges)
-  cut-most = omega (arith, C .total, select-length (length (D .edges)) (keeps D p), count-most (length (D .edges)) (keeps D p))
-
   in-cut : {j : ℕ} → j < e → j < length (cut D p)
   in-cut l = omega (arith, C .total)
 
@@ -78,49 +72,6 @@ module _ {D : Decoded} {p : ℕ} {froms tos : List ℕ} {e : ℕ} (C : CutColumn
         key = C .from (count (i .0) (keeps D p)) l ∙ ap (λ (k : ℕ). edgeAt (D .edges) k .from) (s .1) ∙ qx;
         value = C .to (count (i .0) (keeps D p)) l ∙ ap (λ (k : ℕ). edgeAt (D .edges) k .to) (s .1) ∙ qy;
       }
-
-  -- the numbers rise
-  cut-rises : (i j : ℕ) → i ≤ j → j < e → getD (cut D p) i 0 ≤ getD (cut D p) j 0
-  cut-rises i j l m = go (decLt (getD (cut D p) j 0) (getD (cut D p) i 0))
-    where
-      at-i : count (getD (cut D p) i 0) (keeps D p) ≡ i
-      at-i = select-number (length (D .edges)) (keeps D p) i (in-cut (omega arith))
-
-      at-j : count (getD (cut D p) j 0) (keeps D p) ≡ j
-      at-j = select-number (length (D .edges)) (keeps D p) j (in-cut m)
-
-      go : Dec (getD (cut D p) j 0 < getD (cut D p) i 0) → getD (cut D p) i 0 ≤ getD (cut D p) j 0
-      go (no n) = omega arith
-      go (yes h) =
-          let f = keeps D p in
-          let x = getD (cut D p) j 0 in
-          let y = getD (cut D p) i 0 in
-          let q : x + (y - x) ≡ y = omega arith in
-          let up : count x f ≤ count y f = subst (λ (z : ℕ). count x f ≤ count z f) q (count-up f x (y - x)) in
-          let same : i ≡ j = omega (arith, up, at-i, at-j) in
-          let z : y ≡ x = ap (λ (k : ℕ). getD (cut D p) k 0) same in
-          absurd (omega (arith, z, h))
-
-  module _ (F : TablesFit D) where
-    risen : (i k : ℕ) → i + k < length (D .edges) → edgeAt (D .edges) i .from ≤ edgeAt (D .edges) (i + k) .from
-    risen i zero l = let q : i + 0 ≡ i = omega arith in subst (λ (n : ℕ). edgeAt (D .edges) i .from ≤ edgeAt (D .edges) n .from) (sym q) (omega arith)
-    risen i (suc k) l =
-        let q : suc (i + k) ≡ i + suc k = omega arith in
-        let r = risen i k (omega arith) in
-        subst (λ (n : ℕ). edgeAt (D .edges) i .from ≤ edgeAt (D .edges) n .from) q (elim (F .edges .rising (i + k) (omega arith)) [
-          | inl h ↦ omega (arith, r, h)
-          | inr h ↦ omega (arith, r, h .0)
-        ])
-
-    pub cut-rising : Rising froms e
-    cut-rising i j l m =
-        let a = getD (cut D p) i 0 in
-        let b = getD (cut D p) j 0 in
-        let h = cut-rises i j l m in
-        let q : a + (b - a) ≡ b = omega (arith, h) in
-        let below = select-passes (length (D .edges)) (keeps D p) j (in-cut m) .0 in
-        let r = subst (λ (n : ℕ). edgeAt (D .edges) a .from ≤ edgeAt (D .edges) n .from) q (risen a (b - a) (omega (arith, q, below))) in
-        omega (arith, r, C .from i (omega arith), C .from j m)
 
 -- in the table of the region they stand in the same order
 map-long : (f : ℕ → Edge·Edge) (l : List ℕ) → length (map f l) ≡ length l
