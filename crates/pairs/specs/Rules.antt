@@ -122,7 +122,7 @@ module _ {R : Region} (W : WellFormed R) where
         ])
 
 -- The answer, read off the masks of two nodes: for all teams, and for those of a size.
-ruled-by : {R : Region} {marks : List (List ℕ)} {sets : Sets} → Marks R marks sets → (a b : ℕ) → a < R .nodes → b < R .nodes
+pub ruled-by : {R : Region} {marks : List (List ℕ)} {sets : Sets} → Marks R marks sets → (a b : ℕ) → a < R .nodes → b < R .nodes
     → answer R a b ≡ ruledBy sets (profileAt marks a) (profileAt marks b)
 unfolding profileAt ruledBy answer
 ruled-by M a b la lb =

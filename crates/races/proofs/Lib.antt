@@ -1,3 +1,4 @@
 pub mod Bytes
-pub mod Sharing
+pub mod Meeting
 pub mod Outcome
+pub mod Sharing

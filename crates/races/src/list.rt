@@ -1,4 +1,4 @@
-// A list of accesses: row 20 of the refusals, and the fields of one.
+// Row 20 of the refusals, of a list of accesses.
 ghost use mathlib.Core.Path.{_≡_};
 ghost use Prim.Native.Nat.{_+_, _*_, _≤_, _<_};
 ghost use lib.ListN.{length};
@@ -11,31 +11,18 @@ use chart::cursor::wide;
 use chart::format::Chart;
 use loading::closed::load_closed;
 use pairs::numbers::bad_number;
-
-// Bytes of an access.
-pub const BYTES: usize = 4;
-
-// How many a list may have.
-const MOST: usize = 1024;
-
-// The variable of access i.
-pub fn variable_at(accesses: &[u8], i: usize) -> usize
-    requires { ⌜ 4 * i + 3 < length (now accesses) ⌝ }
-    ensures { λ r. ⌜ r ≡ accessAt (now (accesses .entry)) i .variable ⌝ }
-{
-    let at = BYTES * i;
-    wide(accesses[at + 2]) + 256 * wide(accesses[at + 3])
-}
+use same_variable::MOST;
+use same_variable::RECORD;
 
 // Row 20, of access i by itself.
 fn bad_access(accesses: &[u8], i: usize, n: usize, closed: &[u8; Chart::NODES]) -> bool
     requires { ⌜ (4 * i + 3 < length (now accesses)) × (n ≤ 192) ⌝ }
     ensures { λ r. ⌜ ((R : Region) → WellFormed R → R .nodes ≡ n → Closed R (now (closed .entry)) → r ≡ badAccess R (accessAt (now (accesses .entry)) i)) ⌝ }
 {
-    if accesses[BYTES * i + 1] > 1 {
+    if accesses[RECORD * i + 1] > 1 {
         return true;
     }
-    bad_number(wide(accesses[BYTES * i]), n, closed)
+    bad_number(wide(accesses[RECORD * i]), n, closed)
 }
 
 // Row 20.
@@ -43,10 +30,10 @@ pub fn bad_accesses(s: &[u8], chart: Chart, accesses: &[u8]) -> bool
     requires { ⌜ Accepted (now s) chart × WellFormed (reading (now s) chart) ⌝ }
     ensures { λ r. ⌜ r ≡ badAccesses (reading (now (s .entry)) chart) (now (accesses .entry)) ⌝ }
 {
-    if accesses.len() % BYTES != 0 {
+    if accesses.len() % RECORD != 0 {
         return true;
     }
-    let n = accesses.len() / BYTES;
+    let n = accesses.len() / RECORD;
     if n > MOST {
         return true;
     }

@@ -26,7 +26,7 @@ has-or a b j = same-truth _ _
     (λ h. elim (or-either (has a j) (has b j) h) [ inl p ↦ eq-eqb _ 1 (or-left a b j (eqb-true _ 1 p)) | inr p ↦ eq-eqb _ 1 (or-right a b j (eqb-true _ 1 p)) ])
 
 -- a bit as a number
-bit-is : (m j : ℕ) → m / 2 ^ j % 2 ≡ cond (has m j) 1 0
+pub bit-is : (m j : ℕ) → m / 2 ^ j % 2 ≡ cond (has m j) 1 0
 bit-is m j = elim (truth (has m j)) [ inl h ↦ rw h (eqb-true _ 1 h) | inr h ↦ rw h (let d = eqb-false _ 1 h in low d) ]
   where
     low : (m / 2 ^ j % 2 ≡ 1 → ⊥) → m / 2 ^ j % 2 ≡ 0
@@ -48,6 +48,15 @@ has-xor a b j =
     go true false = refl
     go false true = refl
     go false false = refl
+
+-- the members of a set that are not in another
+pub has-without : (a b j : ℕ) → has (bitXor a (bitAnd a b)) j ≡ (has a j && not (has b j))
+unfolding xor
+has-without a b j = has-xor a (bitAnd a b) j ∙ ap (xor (has a j)) (has-and a b j) ∙ go (has a j) (has b j)
+  where
+    go : (x y : Bool) → xor x (x && y) ≡ (x && not y)
+    go true y = refl
+    go false y = refl
 
 -- the number whose bits the three sets have
 ranked : (t m k d c : Bool) → let two = t && m in let rest = xor t two in let three = rest && k in let left = xor rest three in let four = left && d in

@@ -95,7 +95,7 @@ fn ahead(p: Planes, alone: bool, lacks: bool, lacking: u64) -> Planes
 }
 
 // The nodes that are not closed and share a bit with the mask, in this row of the table of masks.
-fn sharing(mask: u64, row: usize, nodes: &NodeSets) -> Words
+pub fn sharing(mask: u64, row: usize, nodes: &NodeSets) -> Words
     requires { ⌜ row < 3 ⌝ }
     ensures { λ r. ⌜ ((closed : List ℕ) (marks : List (List ℕ)) → InSets closed marks (now (nodes .entry)) → Sharing closed (getD marks row []) mask r) ⌝ }
 {

@@ -27,7 +27,7 @@ write-races-requires : tie.Need-write-races-requires
 write-races-requires c κs =
     let m = c .before .before .before in
     let S = m .before .before .survey .ensures .1 _ _ (m .chart .given .1) in
-    (S .accepted, S .marked)
+    (S .accepted, (_, S .marked))
 
 returns : tie.Need-returns
 unfolding checkedOf

@@ -9,13 +9,12 @@ use lib.ListN.{length}
 use Rattle.lists.specs.Triangle.{pairCount}
 use Rattle.chart.specs.Region.{Region}
 use Rattle.chart.specs.Checked.{reading}
-use Rattle.chart.proofs.Records.{nodes-length}
 use Rattle.output.specs.Output.{outputRows, writtenBy}
 use Rattle.output.proofs.Outputs.{had-room, kept, put}
 use Rattle.accesses.specs.Access.{total, badAccesses}
 use Rattle.accesses.specs.Races.{races}
 use Rattle.accesses.specs.RaceLaws.{few-accesses, races-length}
-use Rattle.races.proofs.Bytes.{nodes-fit, few-pairs}
+use Rattle.race_pairs.proofs.Rows.{few-pairs}
 use Rattle.races.proofs.Outcome.{list-refused, list-passed}
 use borrow.Author.Needs.{needs}
 use Rattle.races.proofs.write_races.Statement.{statement}
@@ -67,21 +66,15 @@ enum-known-refusal c = search needs
 enum-known-size : tie.Need-enum-known-size
 enum-known-size c = search needs
 
-fill-names-requires : tie.Need-fill-names-requires
-fill-names-requires c κs = search needs
-
-sets-for-requires : tie.Need-sets-for-requires
-sets-for-requires c κs = search needs
-
-fill-races-requires : tie.Need-fill-races-requires
-fill-races-requires c κs =
-    let z = c .before .before .before .before .before .before in
+put-races-requires : tie.Need-put-races-requires
+put-races-requires c κs =
+    let z = c .before .before in
     let r = z .before .before in
-    let e = start (r .before .before) in
-    let n = nodes-length _ (e .args .chart) (e .pre .0 .laid) in (
-      e .pre .0 .laid .nodes-most,
+    let e = start (r .before .before) in (
+      e .pre .0,
+      e .pre .1,
+      good (r .before),
       omega (arith, races-length (read e) (e .args .accesses .now), had-room [] [] (length (e .args .out .now)) _ (sym (answers r) ∙ z .size .given .1) .1),
-      λ j. omega (arith, n, nodes-fit (read e) (e .args .accesses .now) (e .pre .1 .well-formed) (omega (arith, n, e .pre .0 .laid .two-nodes)) (good (r .before)) j),
     )
 
 returns-2 : tie.Need-returns-2
@@ -99,16 +92,13 @@ same-length c = search needs
 returns-3 : tie.Need-returns-3
 returns-3 c =
     let f = c .before .before in
-    let any = f .before .before .before in
-    let k = any .before in
-    let z = k .before .before .before in
+    let z = f .before .before .before in
     let r = z .before .before in
     let e = start (r .before .before) in
     let list = e .args .accesses .now in
     let h = z .size .given .1 in
     let p = list-passed (read e) list (e .args .out .now) (good (r .before)) in
-    let filled = f .fill-races .ensures (read e) (any .sets-for .ensures .1 _ _ (e .pre .1), any .sets-for .ensures .0) (k .fill-names .ensures) (nodes-length _ (e .args .chart) (e .pre .0 .laid)) in
-    (sym h ∙ answers r ∙ sym (p .0), filled ∙ put _ _ (races (read e) list) _ (sym (answers r) ∙ h) ∙ sym (p .1))
+    (sym h ∙ answers r ∙ sym (p .0), f .put-races .ensures ∙ put _ _ (races (read e) list) _ (sym (answers r) ∙ h) ∙ sym (p .1))
 
 pub write-races-spec : {M : Type 1} → statement M
 write-races-spec =
@@ -121,9 +111,7 @@ write-races-spec =
     room-for-requires
     enum-known-refusal
     enum-known-size
-    fill-names-requires
-    sets-for-requires
-    fill-races-requires
+    put-races-requires
     returns-2
     same-length
     returns-3)

@@ -1,0 +1,28 @@
+-- `race_lines::keep` meets its contract.
+-- Assumes nothing.
+use mathlib.Core.Path.{sym, subst}
+use borrow.Author.Needs.{needs}
+use Rattle.pairs.specs.declared.rules.Profile.{Profile}
+use Rattle.race_lines.specs.Lines.{Met}
+use Rattle.race_lines.proofs.keep.Statement.{statement}
+use Rattle.race_lines.proofs.keep.Tie as tie
+
+returns : tie.Need-returns
+returns c = ((λ z. absurd (c .if1 .taken z)), λ shut marks I M. M)
+
+same-requires : tie.Need-same-requires
+same-requires c κs = search needs
+
+returns-2 : tie.Need-returns-2
+returns-2 c = ((λ z. sym (c .before .same .ensures (c .if2 .taken))), λ shut marks I M. M)
+
+met-nodes-requires : tie.Need-met-nodes-requires
+met-nodes-requires c κs = search needs
+
+returns-3 : tie.Need-returns-3
+returns-3 c =
+    let (own, met) = c .met-nodes .ensures in
+    ((λ z. own), λ shut marks I M. subst (λ (x : Profile). Met shut marks x (c .met-nodes .result .met)) (sym own) (met shut marks I))
+
+pub keep-spec : {M : Type 1} → statement M
+keep-spec = tie.close (tie.spec returns same-requires returns-2 met-nodes-requires returns-3)

@@ -1,0 +1,11 @@
+-- `race_lines::without` meets its contract.
+-- Assumes nothing.
+use Rattle.sheets.proofs.Ranks.{has-without}
+use Rattle.race_lines.proofs.without.Statement.{statement}
+use Rattle.race_lines.proofs.without.Tie as tie
+
+returns : tie.Need-returns
+returns c = λ j. has-without (c .args .set) (c .args .other) j
+
+pub without-spec : {M : Type 1} → statement M
+without-spec = tie.close (tie.spec returns)
