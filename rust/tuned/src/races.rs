@@ -1,6 +1,6 @@
 //! Races. Most pairs of accesses have different variables: a row is zeros, put there at once, and then only
-//! the accesses of its own variable are looked at, which are brought together before. What two writes at two
-//! nodes make is one look-up.
+//! the accesses of its own variable are looked at, which are brought together before; for a read only the
+//! writes among them. What two nodes make is one look-up.
 
 use crate::answers::Marked;
 use crate::bits::{members, Masks, Nodes};
@@ -12,7 +12,7 @@ const MOST: usize = 1024;
 /// Slots for the variables of a list, twice as many.
 const SLOTS: usize = 2 * MOST;
 
-const SYNCHRONIZATION: u8 = 1;
+/// Half of it is that of a synchronization race.
 const DATA: u8 = 2;
 
 /// Places of accesses, each below `MOST`.
@@ -24,16 +24,22 @@ struct Beside {
     /// Its place in the list.
     index: u16,
     node: u8,
-    /// 255 for a write.
-    write: u8,
 }
 
-/// The accesses, those of one variable side by side, in the order of the list.
+/// The accesses, or the writes alone, those of one variable side by side, in the order of the list.
 struct Together {
     all: [Beside; MOST],
-    /// By place in the list, where the access stands here, and where those of its variable end.
-    place: Places,
+    /// By place in the list, where those of the access's variable from it on stand here, and where they end.
+    from: Places,
     end: Places,
+}
+
+/// The variables of a list.
+struct Variables {
+    /// By place in the list, the number of the variable.
+    of: Places,
+    /// By that number, how many accesses the variables before it have.
+    first: Places,
 }
 
 impl Marked<'_> {
@@ -57,24 +63,20 @@ impl Marked<'_> {
         let length = count * (count + 1) / 2;
         let mut rest = out.get_mut(..length).ok_or(11u8)?;
         let races = self.races_of_writes(&named)?;
-        let together = Together::of(records);
-        for (i, (place, end)) in together
-            .place
-            .iter()
-            .zip(&together.end)
-            .enumerate()
-            .take(count)
-        {
+        let variables = Variables::of(records);
+        let (all, writes) = (
+            variables.together(records, |_| 1),
+            variables.together(records, u16::from),
+        );
+        for (i, &[node, write, ..]) in records.iter().enumerate().take(MOST) {
             let (row, later) = take(&mut rest).split_at_mut(count - i);
             rest = later;
             row.fill(0);
-            let own = &together.all[usize::from(*place)..usize::from(*end)];
-            let &[first, ..] = own else { continue };
-            let from = usize::from(first.node) * self.size();
-            let races = &races[from..from + self.size()];
-            for other in own {
-                let race = races[usize::from(other.node)] & (first.write | other.write);
-                row[usize::from(other.index) - i] = race;
+            let line = &races[usize::from(node) * self.size()..][..self.size()];
+            if write == 0 {
+                writes.fill(i, line, row);
+            } else {
+                all.fill(i, line, row);
             }
         }
         Ok(length as i64)
@@ -88,11 +90,16 @@ impl Marked<'_> {
         self.write_sheet(&mut sheet[..n * n])?;
         let names = self.names();
         for node in members(nodes) {
+            let line = &mut sheet[node * n..(node + 1) * n];
+            for entry in &mut *line {
+                *entry = if *entry == 0 { DATA } else { 0 };
+            }
             let own = names[node];
-            for (entry, names) in sheet[node * n..(node + 1) * n].iter_mut().zip(&names) {
-                let shared = names & own != 0;
-                let race = if shared { SYNCHRONIZATION } else { DATA };
-                *entry = if *entry == 0 { race } else { 0 };
+            if own == 0 {
+                continue;
+            }
+            for (entry, names) in line.iter_mut().zip(&names) {
+                *entry >>= u8::from(names & own != 0);
             }
         }
         Ok(sheet)
@@ -127,9 +134,9 @@ impl Marked<'_> {
     }
 }
 
-impl Together {
+impl Variables {
     #[inline(always)]
-    fn of(records: &[[u8; 4]]) -> Together {
+    fn of(records: &[[u8; 4]]) -> Variables {
         // By slot a variable's number, by the first access to it, and one more; by variable its accesses.
         let mut slots = [0u16; SLOTS];
         let (mut variable, mut counts) = ([0u16; MOST], [0u16; MOST]);
@@ -152,41 +159,49 @@ impl Together {
             variable[i] = variable[own];
             counts[usize::from(variable[i])] += 1;
         }
-        Together::sorted(records, &variable, &counts)
+        let mut sum = 0;
+        for count in &mut counts {
+            sum += *count;
+            *count = sum - *count;
+        }
+        Variables {
+            of: variable,
+            first: counts,
+        }
     }
 
-    /// Accesses by the numbers of their variables, of which each has so many.
+    /// The accesses that count 1 by their write byte.
     #[inline(always)]
-    fn sorted(records: &[[u8; 4]], variable: &Places, counts: &Places) -> Together {
-        let mut next = [0u16; MOST];
-        let mut sum = 0;
-        for (next, count) in next.iter_mut().zip(counts) {
-            *next = sum;
-            sum += count;
-        }
-        let first = next;
-        let beside = Beside {
-            index: 0,
-            node: 0,
-            write: 0,
-        };
+    fn together(&self, records: &[[u8; 4]], counted: impl Fn(u8) -> u16) -> Together {
+        let mut next = self.first;
+        let beside = Beside { index: 0, node: 0 };
         let mut together = Together {
             all: [beside; MOST],
-            place: [0; MOST],
+            from: [0; MOST],
             end: [0; MOST],
         };
-        for (i, &[node, write, ..]) in records.iter().enumerate() {
-            let own = usize::from(variable[i]);
-            let place = next[own];
-            next[own] += 1;
-            together.place[i] = place;
-            together.end[i] = first[own] + counts[own];
+        for (i, (&[node, write, ..], &own)) in records.iter().zip(&self.of).enumerate() {
+            let place = next[usize::from(own)];
+            next[usize::from(own)] += counted(write);
+            together.from[i] = place;
             together.all[usize::from(place) % MOST] = Beside {
                 index: i as u16,
                 node,
-                write: write.wrapping_neg(),
             };
         }
+        for (end, &own) in together.end.iter_mut().zip(&self.of).take(records.len()) {
+            *end = next[usize::from(own)];
+        }
         together
+    }
+}
+
+impl Together {
+    /// Writes the bytes of row i, by the line of its node, where its access has others.
+    #[inline(always)]
+    fn fill(&self, i: usize, line: &[u8], row: &mut [u8]) {
+        for other in &self.all[usize::from(self.from[i])..usize::from(self.end[i])] {
+            row[usize::from(other.index) - i] = line[usize::from(other.node)];
+        }
     }
 }
