@@ -12,19 +12,20 @@ use lib.Bits.{bitOr}
 use lib.ListN.{length, set, length-set}
 use borrow.Author.Tests.{eqb-true, eq-eqb, ne-eqb}
 use Rattle.lists.specs.Truth.{truth, clash}
-use Rattle.lists.specs.Mask.{Mask, maskOf, mask-of, mask-carry, mask-either}
+use Rattle.lists.specs.Mask.{Mask, maskOf, mask-of, mask-carry}
 use Rattle.lists.specs.Bits.{has, has-of, mask-next}
 use Rattle.lists.specs.Common.{mask-none, mask-one}
 use Rattle.lists.specs.Store.{stored}
 use Rattle.chart.specs.Format.{outside, decode, constructAt}
 use Rattle.chart.specs.Region.{Kind, single, master, critical, loop, ordered, sections, section, parallel, Region}
-use Rattle.chart.specs.Scope.{singleByte, masterByte, loopByte, orderedByte, sectionsByte, sectionByte, parallelByte, kindOf, Encloses, here, up, parentOf}
+use Rattle.chart.specs.Scope.{singleByte, masterByte, loopByte, orderedByte, sectionsByte, sectionByte, parallelByte, kindOf, parentOf}
 use Rattle.chart.specs.Nested.{countsIn}
 use Rattle.chart.specs.Nesting.{kinds}
 use Rattle.chart.specs.Checked.{reading}
 use Rattle.chart.specs.declared.format.Chart.{Chart}
 use Rattle.chart.proofs.Records.{constructs-length}
-use Rattle.chart.proofs.Tree.{Below, outside-encloses}
+use Rattle.chart.proofs.Around.{around-next, around-at}
+use Rattle.chart.proofs.Tree.{Below}
 use Rattle.chart.proofs.Constructs.{kind-below}
 use Rattle.chart.proofs.Tables.{loop-above, sections-above}
 use Rattle.chart.proofs.RegionFacts.{Counts}
@@ -45,28 +46,11 @@ no-bit {k = k} f = mask-carry (λ b l h. absurd h) f (mask-none k)
 pub held-at : {R : Region} {Counts : ℕ → Type 0} {done : ℕ} {held : List ℕ} → Chains R Counts done held → done ≤ 48 → (p : ℕ) → Below done p
     → Mask (HeldIn R Counts p) (R .constructs) (maskAt held p)
 unfolding maskAt
-held-at K most p (inl q) = rw (eq-eqb p outside q) (no-bit (λ d l h. outside-encloses q (h .1 .0)))
-held-at K most p (inr l) = rw (ne-eqb p outside (λ q. omega arith)) (K .is-held p l)
+held-at {R} {Counts} {held = held} K most p b = around-at {Gives = λ c d. Counts c × Gives R c d (R .kind c)} held (K .is-held) most p b
 
 pub index-below : {bound p : ℕ} → bound ≤ 48 → Below bound p → (p ≡ outside → ⊥) → p < 48
 index-below l (inl q) d = absurd (d q)
 index-below l (inr h) d = omega arith
-
-pub first : {parent : ℕ → ℕ} {p c : ℕ} → Encloses parent p c → Encloses parent (parent p) c ⊎ (c ≡ p)
-first (here n) = inr refl
-first (up n e) = inl e
-
--- one construct more
-next-held : (R : Region) (Counts : ℕ → Type 0) (c : ℕ) {m own : ℕ} → c ≢ outside → Mask (HeldIn R Counts (R .parent c)) (R .constructs) m
-    → Mask (λ d. Counts c × Gives R c d (R .kind c)) (R .constructs) own → Mask (HeldIn R Counts c) (R .constructs) (bitOr m own)
-next-held R Counts c n v w = mask-carry to from (mask-either v w)
-  where
-    to : (d : ℕ) → d < R .constructs → HeldIn R Counts (R .parent c) d ⊎ (Counts c × Gives R c d (R .kind c)) → HeldIn R Counts c d
-    to d l (inl (k, (e, g))) = (k, (up n e, g))
-    to d l (inr g) = (c, (here n, g))
-
-    from : (d : ℕ) → d < R .constructs → HeldIn R Counts c d → HeldIn R Counts (R .parent c) d ⊎ (Counts c × Gives R c d (R .kind c))
-    from d l (k, (e, g)) = elim (first e) [ inl u ↦ inl (k, (u, g)) | inr q ↦ inr (subst (λ (k : ℕ). Counts k × Gives R k d (R .kind k)) q g) ]
 
 -- the byte of a kind, so that kinds that are equal have equal bytes
 unfoldable byteOf : Kind → ℕ
@@ -205,7 +189,7 @@ module _ (s : List ℕ) (chart : Chart) (A : Accepted s chart) where
         record {
           long = length-set held c _ ∙ K .long;
           is-held = stored (λ j m. Mask (HeldIn R Member j) (R .constructs) m) held c _ (omega (arith, K .long))
-              (next-held R Member c (λ q. omega arith) (held-at K (omega arith) (R .parent c) (parent-lower c l)) (own-is members q)) (K .is-held);
+              (around-next {Gives = λ k d. Member k × Gives R k d (R .kind k)} c (λ q. omega arith) (held-at K (omega arith) (R .parent c) (parent-lower c l)) (own-is members q)) (K .is-held);
         }
 
   -- the byte of a kind

@@ -23,7 +23,7 @@ use Rattle.chart.proofs.Records.{nodes-length, constructs-length}
 use Rattle.chart.proofs.Scopes.{role-marks, marks-role, lies-number, lies-parent}
 use Rattle.chart.proofs.Reading.{Frame, begin, end, marks}
 use Rattle.chart.proofs.Facts.{NodeFits, frame-construct}
-use Rattle.chart.proofs.Tree.{Below, below-more}
+use Rattle.chart.proofs.Tree.{Below, first-step, below-more}
 use Rattle.chart.proofs.Tables.{lies, node-fit}
 use Rattle.chart.proofs.RegionFacts.{Counts, counts-open}
 use Rattle.answers.specs.Unexcluded.{Returns}
@@ -34,7 +34,7 @@ use Rattle.profiles.specs.declared.chains.Sets.{Sets}
 use Rattle.profiles.specs.Marks.{Holds, Held, OfKind, Kinds, Marks}
 use Rattle.profiles.specs.Chains.{Gives, HeldIn, Chains, maskAt}
 use Rattle.profiles.proofs.Facts.{few, is-read}
-use Rattle.profiles.proofs.Constructs.{no-bit, held-at, first, parent-lower}
+use Rattle.profiles.proofs.Constructs.{no-bit, held-at, parent-lower}
 
 three : (marks : List (List ℕ)) → length marks ≡ 3 → (a b c : List ℕ) → set (set (set marks 0 a) 1 b) 2 c ≡ a ∷ b ∷ c ∷ []
 three [] l a b c = absurd (omega arith)
@@ -184,9 +184,9 @@ module _ (s : List ℕ) (chart : Chart) (A : Accepted s chart) where
         where
           to : (d : ℕ) → d < R .constructs → HeldIn R Member (R .parent (number x)) d ⊎ (HeldIn R Member (number x) d × (R .kind d ≡ section)) → Around x d ⊎ Frames x d
           to d m (inl h) = inl (rw up h)
-          to d m (inr ((c, (e, (n, g))), z)) = elim (first e) [
-            | inl a ↦ inl (rw up (c, (a, (n, g))))
-            | inr q ↦ inr (gives-own d (R .kind (number x)) (subst Member q n) refl z (subst (λ (c : ℕ). Gives R c d (R .kind c)) q g))
+          to d m (inr ((c, (e, (n, g))), z)) = elim (first-step e) [
+            | inl q ↦ inr (gives-own d (R .kind (number x)) (subst Member (sym q) n) refl z (subst (λ (c : ℕ). Gives R c d (R .kind c)) (sym q) g))
+            | inr a ↦ inl (rw up (c, (a, (n, g))))
           ]
 
           from : (d : ℕ) → d < R .constructs → Around x d ⊎ Frames x d → HeldIn R Member (R .parent (number x)) d ⊎ (HeldIn R Member (number x) d × (R .kind d ≡ section))
