@@ -54,8 +54,8 @@ fn steps(team: &Team, state: &State) -> Vec<(Vec<Entry>, State)> {
     let entry = |thread: usize, after: &State| [thread as u8, after.nodes[thread]];
     let mut opened = Vec::new();
     team.release(state, &mut opened);
-    let opening = |after: &State| (0..team.threads).map(|x| entry(x, after)).collect();
-    let mut steps: Vec<_> = opened.into_iter().map(|x| (opening(&x), x)).collect();
+    let released = |after: &State| (0..team.threads).map(|x| entry(x, after)).collect();
+    let mut steps: Vec<_> = opened.into_iter().map(|x| (released(&x), x)).collect();
     for thread in 0..team.threads {
         let mut moved = Vec::new();
         team.thread_steps(state, thread, &mut moved);

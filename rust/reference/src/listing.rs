@@ -94,9 +94,9 @@ fn read(text: &[u8]) -> Result<Made, u8> {
                 open.extend(made.close(closed, &mut bytes)?);
             }
             letter => {
-                let opening = made.open(letter).ok_or(14u8)?;
+                let part = made.open(letter).ok_or(14u8)?;
                 opened(&mut bytes, open.len())?;
-                open.push(opening);
+                open.push(part);
             }
         }
     }

@@ -183,8 +183,8 @@ impl<'a> Run<'a> {
     /// "A thread steps to the begin of some section that no thread has taken in that meeting"; "once all are
     /// taken, the begin leads straight to the end".
     fn leave_sections_begin(&self, thread: usize, sections: usize, to: usize) -> Option<Thread> {
-        let meeting = self.threads[thread].counts[sections] + 1;
-        let untaken = self.untaken(sections, meeting);
+        let instance = self.threads[thread].counts[sections] + 1;
+        let untaken = self.untaken(sections, instance);
         if untaken.is_empty() {
             let ends = to == self.chart.end_of(sections);
             return ends.then(|| self.left(thread, sections, to));
@@ -219,12 +219,12 @@ impl<'a> Run<'a> {
     }
 
     /// The sections that nobody has taken in a meeting: "in a meeting that some thread is past, all are taken".
-    fn untaken(&self, sections: usize, meeting: u64) -> Vec<usize> {
+    fn untaken(&self, sections: usize, instance: u64) -> Vec<usize> {
         let count = |x: &Thread| x.counts[sections];
-        if self.threads.iter().any(|x| count(x) > meeting) {
+        if self.threads.iter().any(|x| count(x) > instance) {
             return Vec::new();
         }
-        let has_taken = |x: &Thread, section: usize| count(x) == meeting && x.taken[section];
+        let has_taken = |x: &Thread, section: usize| count(x) == instance && x.taken[section];
         let is_free = |&section: &usize| !self.threads.iter().any(|x| has_taken(x, section));
         let own = self.chart.sections_of(sections).into_iter();
         own.filter(is_free).collect()

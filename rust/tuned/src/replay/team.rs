@@ -168,8 +168,8 @@ impl<'m, const M: usize> Team<'m, M> {
 
     /// What nobody has taken in a meeting of a sections construct.
     #[inline(always)]
-    fn untaken(&self, steps: &Steps, c: usize, meeting: u64) -> u64 {
-        match meeting.cmp(&self.most[c]) {
+    fn untaken(&self, steps: &Steps, c: usize, instance: u64) -> u64 {
+        match instance.cmp(&self.most[c]) {
             Ordering::Less => 0,
             Ordering::Equal => steps.parts[c] & !self.dealt[c],
             Ordering::Greater => steps.parts[c],
@@ -179,13 +179,13 @@ impl<'m, const M: usize> Team<'m, M> {
     /// From the begin of a sections construct, to a section that is left or straight to its end.
     #[inline(always)]
     fn enter_sections(&mut self, steps: &Steps, t: usize, c: usize, to: u8) -> bool {
-        let meeting = self.counts[c][t] + 1;
-        let untaken = self.untaken(steps, c, meeting);
+        let instance = self.counts[c][t] + 1;
+        let untaken = self.untaken(steps, c, instance);
         let section = untaken & steps.section[usize::from(to)];
         if section == 0 && (untaken != 0 || to != steps.end[c]) {
             return false;
         }
-        if meeting > self.most[c] {
+        if instance > self.most[c] {
             self.dealt[c] = 0;
         }
         self.leave(t, c);
