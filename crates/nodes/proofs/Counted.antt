@@ -10,10 +10,11 @@ use lib.Dec.{eqb, ltb, leb}
 use lib.ListN.{length, getD, set}
 use lib.Seq.{getD-set-same, getD-set-other}
 use borrow.Author.Tests.{eq-eqb, ne-eqb}
-use Rattle.lists.specs.Range.{count-most, count-more}
+use Rattle.lists.specs.Range.{any, any-none, none-passes, count-most, count-more}
 use Rattle.chart.specs.Format.{Decoded, decode, nodeAt}
-use Rattle.chart.specs.Scope.{barrierNode}
-use Rattle.chart.specs.Refusal.{barrierOf, tooManyIn}
+use Rattle.chart.specs.Scope.{barrierNode, parallelByte}
+use Rattle.chart.specs.Nested.{isParallel}
+use Rattle.chart.specs.Refusal.{anyOf, barrierOf, tooManyIn}
 use Rattle.chart.specs.Checked.{Laid}
 use Rattle.chart.specs.declared.format.Chart.{Chart}
 use Rattle.chart.proofs.Records.{nodes-length}
@@ -49,3 +50,9 @@ pub many : (s : List ℕ) (chart : Chart) {found : List ℕ} → Laid s chart �
     → (p : ℕ) → ltb 64 (getD found p 0) ≡ tooManyIn (decode s .nodes) p
 unfolding tooManyIn barrierOf
 many s chart L C p = rw (nodes-length s chart L) (ap (ltb 64) (C .at p))
+
+-- without a parallel no region has too many
+pub none-crowded : (D : Decoded) → anyOf (D .constructs) parallelByte ≡ false
+    → any (length (D .constructs)) (λ c. isParallel (D .constructs) c && tooManyIn (D .nodes) c) ≡ false
+unfolding anyOf isParallel
+none-crowded D h = any-none (length (D .constructs)) (λ c. isParallel (D .constructs) c && tooManyIn (D .nodes) c) (λ c l. rw (none-passes (length (D .constructs)) _ h c l))

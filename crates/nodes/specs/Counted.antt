@@ -1,14 +1,14 @@
 -- What the checks note of a chart's nodes: for each number the nodes that have it, counted by their kinds; and the parts of row 5.
 -- Assumes nothing.
 use mathlib.Core.Path.{_≡_}
-use mathlib.Core.Bool.{Bool, _&&_, not}
+use mathlib.Core.Bool.{Bool, _&&_, _||_, not, cond}
 use mathlib.Core.List.{List}
 use Prim.Native.Nat.{ℕ}
-use lib.Dec.{eqb}
+use lib.Dec.{eqb, ltb, leb}
 use lib.ListN.{length, getD}
 use Rattle.lists.specs.Range.{count}
 use Rattle.chart.specs.Format.{outside, Decoded, nodeAt}
-use Rattle.chart.specs.Scope.{barrierNode}
+use Rattle.chart.specs.Scope.{barrierNode, beginNode, endNode}
 use Rattle.chart.specs.Refusal.{badNode}
 
 -- For each number how many of the first n nodes have it and are of a kind that passes.
@@ -27,3 +27,11 @@ aloneAt D x = badNode (D .constructs) (nodeAt (D .nodes) x .kind) (nodeAt (D .no
 -- Node x is a barrier that names a region.
 abbrev pub namesRegion : Decoded → ℕ → Bool
 namesRegion D x = eqb (nodeAt (D .nodes) x .kind) barrierNode && not (eqb (nodeAt (D .nodes) x .number) outside)
+
+-- A node that may be bad by itself, by its bytes and how many constructs there are: a bad one, and any barrier that names a construct.
+unfoldable pub doubtful : ℕ → ℕ → ℕ → Bool
+doubtful constructs kind number =
+    ltb endNode kind || cond (eqb number outside) (leb beginNode kind) (leb constructs number || eqb kind barrierNode)
+
+abbrev pub doubtfulAt : Decoded → ℕ → Bool
+doubtfulAt D x = doubtful (length (D .constructs)) (nodeAt (D .nodes) x .kind) (nodeAt (D .nodes) x .number)

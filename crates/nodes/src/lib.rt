@@ -4,13 +4,14 @@ ghost use mathlib.Core.Bool.{_&&_, not, cond};
 ghost use Prim.Native.Nat.{ℕ, _+_, _-_, _≤_, _<_};
 ghost use lib.Dec.{eqb, leb};
 ghost use lib.ListN.{getD, length};
-ghost use Rattle.lists.specs.Range.{any};
+ghost use Rattle.lists.specs.Range.{any, count};
 ghost use Rattle.chart.specs.Format.{outside, decode};
 ghost use Rattle.chart.specs.Scope.{barrierNode, beginNode, endNode};
 ghost use Rattle.chart.specs.Nested.{isParallel};
-ghost use Rattle.chart.specs.Refusal.{badNode, badNodes, badFrames, tooManyIn, badBarriers};
+ghost use Rattle.chart.specs.Refusal.{badNode, badNodes, badFrames, barrierOf, tooManyIn, badBarriers};
 ghost use Rattle.chart.specs.Checked.{Laid};
-ghost use Rattle.nodes.specs.Counted.{Counted, isFrame, aloneAt};
+ghost use Rattle.nodes.specs.Counted.{Counted, isFrame, aloneAt, doubtful as Counted·doubtful, doubtfulAt};
+use bits::either;
 use chart::cursor::wide;
 use chart::format::Chart;
 use chart::format::Construct;
@@ -58,6 +59,41 @@ fn bad_each(s: &[u8], chart: Chart) -> bool
     false
 }
 
+// Whether a node may be bad by itself: a bad one, or a barrier that names a construct, be it a parallel or not. Only bytes are compared, so
+// that many nodes are taken at once.
+fn doubtful(node: Node, constructs: u8) -> bool
+    ensures { λ r. ⌜ r ≡ Counted·doubtful constructs (node .kind) (node .number) ⌝ }
+{
+    let kind = node.kind;
+    let number = node.number;
+    if Node::END < kind {
+        return true;
+    }
+    if number == Construct::NONE {
+        return Node::BEGIN <= kind;
+    }
+    if constructs <= number {
+        return true;
+    }
+    kind == Node::BARRIER
+}
+
+// Whether some node may be. No turn leaves the loop or reads a construct.
+fn any_doubtful(s: &[u8], chart: Chart) -> bool
+    requires { ⌜ Laid (now s) chart ⌝ }
+    ensures { λ r. ⌜ r ≡ any (length (decode (now (s .entry)) .nodes)) (doubtfulAt (decode (now (s .entry)))) ⌝ }
+{
+    let n = chart.nodes;
+    let constructs = (chart.constructs % 256) as u8;
+    let mut found = false;
+    let mut x = 0;
+    while x < n {
+        found = either(found, doubtful(Node::read(s, chart, x), constructs));
+        x += 1;
+    }
+    found
+}
+
 // A barrier that names a region, as none may at either end of the chart.
 fn names_region(node: Node) -> bool
     ensures { λ r. ⌜ r ≡ (eqb (node .kind) barrierNode && not (eqb (node .number) outside)) ⌝ }
@@ -69,7 +105,7 @@ fn names_region(node: Node) -> bool
     number != Construct::NONE
 }
 
-// Row 5.
+// Row 5. Nodes are asked one by one only where one is doubtful, as none is in most charts.
 pub fn bad_nodes(s: &[u8], chart: Chart) -> bool
     requires { ⌜ Laid (now s) chart ⌝ }
     ensures { λ r. ⌜ r ≡ badNodes (decode (now (s .entry))) ⌝ }
@@ -82,6 +118,9 @@ pub fn bad_nodes(s: &[u8], chart: Chart) -> bool
     }
     if names_region(Node::read(s, chart, chart.nodes - 1)) {
         return true;
+    }
+    if !any_doubtful(s, chart) {
+        return false;
     }
     bad_each(s, chart)
 }
@@ -97,6 +136,20 @@ fn count_if(holds: bool, number: u8, found: &mut [u8; NUMBERS])
     }
 }
 
+// A begin or an end counts for its number; of any other node the kind alone is asked.
+fn count_frame(node: Node, begins: &mut [u8; NUMBERS], ends: &mut [u8; NUMBERS])
+    requires { ⌜ (length (now begins) ≡ 256) × ((c : ℕ) → getD (now begins) c 0 < 192) × (length (now ends) ≡ 256) × ((c : ℕ) → getD (now ends) c 0 < 192) ⌝ }
+    ensures { λ _. ⌜ (length (now (begins .exit)) ≡ 256) × ((c : ℕ) → getD (now (begins .exit)) c 0 ≡ getD (now (begins .entry)) c 0 + cond (isFrame beginNode (node .kind) && eqb (node .number) c) 1 0) ⌝ }
+    ensures { λ _. ⌜ (length (now (ends .exit)) ≡ 256) × ((c : ℕ) → getD (now (ends .exit)) c 0 ≡ getD (now (ends .entry)) c 0 + cond (isFrame endNode (node .kind) && eqb (node .number) c) 1 0) ⌝ }
+{
+    let kind = node.kind;
+    let number = node.number;
+    if Node::BEGIN <= kind {
+        count_if(kind == Node::BEGIN, number, begins);
+        count_if(kind == Node::END, number, ends);
+    }
+}
+
 // How many begins and how many ends each construct has.
 fn count_frames(s: &[u8], chart: Chart, begins: &mut [u8; NUMBERS], ends: &mut [u8; NUMBERS])
     requires { ⌜ Laid (now s) chart × Counted (decode (now s)) (isFrame beginNode) 0 (now begins) × Counted (decode (now s)) (isFrame endNode) 0 (now ends) ⌝ }
@@ -105,9 +158,7 @@ fn count_frames(s: &[u8], chart: Chart, begins: &mut [u8; NUMBERS], ends: &mut [
     let n = chart.nodes;
     let mut x = 0;
     while x < n {
-        let node = Node::read(s, chart, x);
-        count_if(node.kind == Node::BEGIN, node.number, begins);
-        count_if(node.kind == Node::END, node.number, ends);
+        count_frame(Node::read(s, chart, x), begins, ends);
         x += 1;
     }
 }
@@ -143,6 +194,35 @@ pub fn bad_frames(s: &[u8], chart: Chart) -> bool
         return true;
     }
     not_ones(&ends, c)
+}
+
+// What a node counts for the outermost region: one if it is a barrier there.
+fn outermost(node: Node) -> u8
+    ensures { λ r. ⌜ r ≡ cond (leb barrierNode (node .kind) && eqb (node .number) outside) 1 0 ⌝ }
+{
+    let number = node.number;
+    if node.kind < Node::BARRIER {
+        return 0;
+    }
+    if number != Construct::NONE {
+        return 0;
+    }
+    1
+}
+
+// How many barriers the outermost region has. No turn branches, so that many nodes are taken at once.
+fn count_outermost(s: &[u8], chart: Chart) -> u8
+    requires { ⌜ Laid (now s) chart ⌝ }
+    ensures { λ r. let nodes = decode (now (s .entry)) .nodes in ⌜ r ≡ count (length nodes) (barrierOf nodes outside) ⌝ }
+{
+    let n = chart.nodes;
+    let mut found = 0u8;
+    let mut x = 0;
+    while x < n {
+        found += outermost(Node::read(s, chart, x));
+        x += 1;
+    }
+    found
 }
 
 // How many barriers each region has, its begin and its end among them, if the number is a region's.
@@ -186,7 +266,7 @@ fn crowded(s: &[u8], chart: Chart, found: &[u8; NUMBERS]) -> bool
     false
 }
 
-// Row 8.
+// Row 8. Barriers are counted by regions only where there is a parallel.
 pub fn bad_barriers(s: &[u8], chart: Chart) -> bool
     requires { ⌜ Laid (now s) chart ⌝ }
     ensures { λ r. ⌜ r ≡ badBarriers (decode (now (s .entry))) ⌝ }
@@ -198,10 +278,13 @@ pub fn bad_barriers(s: &[u8], chart: Chart) -> bool
     if Node::read(s, chart, n - 1).kind != Node::BARRIER {
         return true;
     }
-    let mut found = [0u8; NUMBERS];
-    count_barriers(s, chart, &mut found);
-    if Chart::BARRIERS < wide(found[Chart::OUTERMOST]) {
+    if Chart::BARRIERS < wide(count_outermost(s, chart)) {
         return true;
     }
+    if !Construct::occurs(s, chart, Construct::PARALLEL) {
+        return false;
+    }
+    let mut found = [0u8; NUMBERS];
+    count_barriers(s, chart, &mut found);
     crowded(s, chart, &found)
 }

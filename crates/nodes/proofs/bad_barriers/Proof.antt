@@ -1,11 +1,11 @@
 -- `nodes::bad_barriers` meets its contract.
 -- Assumes nothing.
-use mathlib.Core.Path.{_≡_, refl, ap, _∙_}
+use mathlib.Core.Path.{_≡_, refl, sym, ap, _∙_}
 use mathlib.Core.Bool.{_&&_, _||_}
 use native.Mathlib.Omega.{arith}
 use lib.Dec.{ltb}
 use lib.ListN.{length}
-use borrow.Author.Tests.{eq-eqb, ne-eqb, lt-ltb, le-ltb}
+use borrow.Author.Tests.{eq-eqb, ne-eqb, lt-ltb, le-ltb, not-true}
 use borrow.Author.Needs.{needs}
 use Rattle.lists.specs.Range.{any, count}
 use Rattle.lists.specs.Store.{zeros}
@@ -13,7 +13,7 @@ use Rattle.chart.specs.Format.{outside, decode}
 use Rattle.chart.specs.Nested.{isParallel}
 use Rattle.chart.specs.Refusal.{badBarriers, isBarrier, tooManyIn}
 use Rattle.chart.proofs.Records.{nodes-length}
-use Rattle.nodes.proofs.Counted.{many}
+use Rattle.nodes.proofs.Counted.{none-crowded}
 use Rattle.nodes.proofs.bad_barriers.Statement.{statement}
 use Rattle.nodes.proofs.bad_barriers.Tie as tie
 
@@ -60,36 +60,49 @@ left c =
       eq-eqb _ _ (c .if2 .left),
     )
 
-count-barriers-requires : tie.Need-count-barriers-requires
-unfolding count
-count-barriers-requires c κs =
-    let e = c .before .before .before .before .before .before .before .before in
-    (e .pre, record { long = refl; at = zeros 256 })
-
-array-read-wide : tie.Need-array-read-wide
-array-read-wide c = search needs
+count-outermost-requires : tie.Need-count-outermost-requires
+count-outermost-requires c κs = search needs
 
 wide-requires : tie.Need-wide-requires
 wide-requires c κs = search needs
 
 -- the test of the outermost region, in terms of the decoded chart
 outermost : (c : tie.After-wide) →
-    let e = c .before .before .before .before .before .before .before .before .before .before in
+    let e = c .before .before .before .before .before .before .before .before .before in
     ltb 64 (c .wide .result) ≡ tooManyIn (decode (e .args .s .now) .nodes) outside
-outermost c =
-    let e = c .before .before .before .before .before .before .before .before .before .before in
-    ap (ltb 64) (c .wide .ensures .0) ∙ many _ (e .args .chart) (e .pre) (c .before .count-barriers .ensures) outside
+unfolding tooManyIn
+outermost c = ap (ltb 64) (c .wide .ensures .0 ∙ c .before .count-outermost .ensures)
 
 returns-3 : tie.Need-returns-3
-returns-3 c = rw (left (c .before .before .before .before), ← outermost (c .before), lt-ltb _ _ (c .if3 .taken))
+returns-3 c = rw (left (c .before .before .before), ← outermost (c .before), lt-ltb _ _ (c .if3 .taken))
+
+-- with not too many barriers in the outermost region, what is left of the row
+inner : (c : tie.Else3) →
+    let e = c .before .before .before .before .before .before .before .before .before .before in
+    let D = decode (e .args .s .now) in
+    badBarriers D ≡ any (length (D .constructs)) (λ p. isParallel (D .constructs) p && tooManyIn (D .nodes) p)
+inner c = rw (left (c .before .before .before), ← outermost (c .before), le-ltb _ _ (c .if3 .left))
+
+occurs-requires : tie.Need-occurs-requires
+occurs-requires c κs = search needs
+
+returns-4 : tie.Need-returns-4
+returns-4 c =
+    let o = c .before in
+    let e = o .before .before .before .before .before .before .before .before .before .before .before in
+    rw (inner (o .before)) (sym (none-crowded (decode (e .args .s .now)) (sym (o .occurs .ensures) ∙ not-true _ (c .if4 .taken))))
+
+count-barriers-requires : tie.Need-count-barriers-requires
+unfolding count
+count-barriers-requires c κs =
+    let e = c .before .before .before .before .before .before .before .before .before .before .before .before .before in
+    (e .pre, record { long = refl; at = zeros 256 })
 
 crowded-requires : tie.Need-crowded-requires
 crowded-requires c κs = search needs
 
-returns-4 : tie.Need-returns-4
-returns-4 c =
-    let l = c .before .before in
-    rw (left (l .before .before .before .before), ← outermost (l .before), le-ltb _ _ (l .if3 .left)) (c .crowded .ensures)
+returns-5 : tie.Need-returns-5
+returns-5 c = rw (inner (c .before .before .before .before .before .before)) (c .crowded .ensures)
 
 pub bad-barriers-spec : {M : Type 1} → statement M
 bad-barriers-spec =
@@ -100,9 +113,11 @@ bad-barriers-spec =
     sub-read
     read-requires-2
     returns-2
-    count-barriers-requires
-    array-read-wide
+    count-outermost-requires
     wide-requires
     returns-3
+    occurs-requires
+    returns-4
+    count-barriers-requires
     crowded-requires
-    returns-4)
+    returns-5)

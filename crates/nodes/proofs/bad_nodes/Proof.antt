@@ -6,6 +6,7 @@ use mathlib.Core.List.{List}
 use Prim.Native.Nat.{ℕ, _-_}
 use native.Mathlib.Omega.{arith}
 use lib.ListN.{length}
+use borrow.Author.Tests.{not-true}
 use borrow.Author.Needs.{needs}
 use Rattle.lists.specs.Range.{any}
 use Rattle.chart.specs.Format.{decode}
@@ -14,6 +15,7 @@ use Rattle.chart.specs.Checked.{Laid}
 use Rattle.chart.specs.declared.format.Chart.{Chart}
 use Rattle.chart.proofs.Records.{nodes-length}
 use Rattle.nodes.specs.Counted.{aloneAt, namesRegion}
+use Rattle.nodes.proofs.Alone.{none-bad}
 use Rattle.nodes.proofs.Outer.{parts}
 use Rattle.nodes.proofs.bad_nodes.Statement.{statement}
 use Rattle.nodes.proofs.bad_nodes.Tie as tie
@@ -65,15 +67,30 @@ returns-3 c =
     let e = a .before .before .before .before .before .before in
     rw (row _ (e .args .chart) (e .pre), sym (first (a .before)) ∙ a .if2 .left, sym (last (c .before)) ∙ c .if3 .taken)
 
-bad-each-requires : tie.Need-bad-each-requires
-bad-each-requires c κs = search needs
+any-doubtful-requires : tie.Need-any-doubtful-requires
+any-doubtful-requires c κs = search needs
+
+-- with no region named at either end, what is left of the row
+left : (c : tie.Else3) →
+    let e = c .before .before .before .before .before .before .before .before .before .before in
+    let D = decode (e .args .s .now) in
+    badNodes D ≡ any (length (D .nodes)) (aloneAt D)
+left c =
+    let a = c .before .before .before .before in
+    let e = a .before .before .before .before .before .before in
+    rw (row _ (e .args .chart) (e .pre), sym (first (a .before)) ∙ a .if2 .left, sym (last (c .before)) ∙ c .if3 .left)
 
 returns-4 : tie.Need-returns-4
 returns-4 c =
-    let b = c .before in
-    let a = b .before .before .before .before in
-    let e = a .before .before .before .before .before .before in
-    rw (row _ (e .args .chart) (e .pre), sym (first (a .before)) ∙ a .if2 .left, sym (last (b .before)) ∙ b .if3 .left) (c .bad-each .ensures)
+    let d = c .before in
+    let e = d .before .before .before .before .before .before .before .before .before .before .before in
+    rw (left (d .before)) (sym (none-bad (decode (e .args .s .now)) (sym (d .any-doubtful .ensures) ∙ not-true _ (c .if4 .taken))))
+
+bad-each-requires : tie.Need-bad-each-requires
+bad-each-requires c κs = search needs
+
+returns-5 : tie.Need-returns-5
+returns-5 c = rw (left (c .before .before .before)) (c .bad-each .ensures)
 
 pub bad-nodes-spec : {M : Type 1} → statement M
 bad-nodes-spec =
@@ -88,5 +105,7 @@ bad-nodes-spec =
     read-requires-2
     names-region-requires-2
     returns-3
+    any-doubtful-requires
+    returns-4
     bad-each-requires
-    returns-4)
+    returns-5)

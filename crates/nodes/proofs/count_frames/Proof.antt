@@ -22,17 +22,12 @@ loop-holds c = (omega arith, c .before .pre .1, c .before .pre .2)
 read-requires : tie.Need-read-requires Inv-loop μ-loop
 read-requires c κs = (c .before .before .before .pre .0, omega arith)
 
-count-if-requires : tie.Need-count-if-requires Inv-loop μ-loop
-count-if-requires c κs =
+count-frame-requires : tie.Need-count-frame-requires Inv-loop μ-loop
+count-frame-requires c κs =
     let l = c .before .before .before .before in
-    let C = l .loop .inv .1 in
-    (C .long, λ i. omega (arith, counted-most _ C i, l .before .before .pre .0 .nodes-most))
-
-count-if-requires-2 : tie.Need-count-if-requires-2 Inv-loop μ-loop
-count-if-requires-2 c κs =
-    let l = c .before .before .before .before .before .before .before in
-    let C = l .loop .inv .2 in
-    (C .long, λ i. omega (arith, counted-most _ C i, l .before .before .pre .0 .nodes-most))
+    let (x, B, E) = l .loop .inv in
+    let most = l .before .before .pre .0 .nodes-most in
+    (B .long, λ i. omega (arith, counted-most _ B i, most), E .long, λ i. omega (arith, counted-most _ E i, most))
 
 add-x : tie.Need-add-x Inv-loop μ-loop
 add-x c = omega arith
@@ -42,12 +37,12 @@ loop-less c = omega arith
 
 loop-again : tie.Need-loop-again Inv-loop μ-loop
 loop-again c =
-    let b = c .before .before .before in
-    let r = b .before .before .before in
+    let r = c .before .before .before in
     let l = r .before .before in
     let D = decode (l .before .before .args .s .now) in
     let k = r .read .ensures in
-    (omega arith, count-on D (l .loop .inv .1) (k .0) (k .1) (b .count-if .ensures .0) (b .count-if .ensures .1), count-on D (l .loop .inv .2) (k .0) (k .1) (c .count-if2 .ensures .0) (c .count-if2 .ensures .1))
+    let f = c .count-frame .ensures in
+    (omega arith, count-on D (l .loop .inv .1) (k .0) (k .1) (f .0 .0) (f .0 .1), count-on D (l .loop .inv .2) (k .0) (k .1) (f .1 .0) (f .1 .1))
 
 returns : tie.Need-returns Inv-loop μ-loop
 returns c =
@@ -65,8 +60,7 @@ count-frames-spec =
     μ-loop
     loop-holds
     read-requires
-    count-if-requires
-    count-if-requires-2
+    count-frame-requires
     add-x
     loop-less
     loop-again
