@@ -1,8 +1,8 @@
 -- Filling a table of scopes; two such tables, shut at start and finish, tell row 9 of one edge; and edges are ordered by one number.
 -- Assumes nothing.
-use mathlib.Core.Bool.{true, false, _||_, _&&_, not}
+use mathlib.Core.Bool.{Bool, true, false, _||_, _&&_, not, cond}
 use mathlib.Core.Logic.{_⊎_, inl, inr, _≢_}
-use mathlib.Core.Path.{_≡_, refl, ap, subst, _∙_}
+use mathlib.Core.Path.{_≡_, refl, sym, ap, subst, _∙_}
 use mathlib.Core.List.{List}
 use Prim.Native.Nat.{ℕ, _+_, _*_, _-_, _≤_, _<_}
 use native.Mathlib.Omega.{arith}
@@ -10,44 +10,92 @@ use native.Mathlib.Decide.{ℕ-discrete, decLt}
 use lib.Dec.{ltb, eqb}
 use lib.ListN.{length, getD, set, replicate, length-set, getD-replicate}
 use lib.Seq.{getD-set-same, getD-set-other}
-use borrow.Author.Count.{below-none, below-more}
+use borrow.Author.Count.{below-none}
 use borrow.Author.Tests.{le-leb, lt-leb, lt-ltb, ltb-true, eq-eqb, ne-eqb, eqb-true}
 use Rattle.lists.specs.Truth.{same-truth, and-both, both-and, or-cases, or-left, or-right}
 use Rattle.chart.specs.Format.{Decoded, nodeAt}
-use Rattle.chart.specs.Scope.{beginNode, endNode, scopeAt}
+use Rattle.chart.specs.Scope.{beginNode, endNode, scope, liesIn, scopeAt}
 use Rattle.chart.specs.Refusal.{badNodes, badEdge, rises}
 use Rattle.chart.proofs.Facts.{nodes-fit, frame-construct}
-use Rattle.edges.specs.Tables.{noLeaving, noArriving, ScopeTable, EdgeScopes}
+use Rattle.edges.specs.Tables.{noLeaving, noArriving, ScopesOf, NoFrame, FilledTo, ScopeTable, EdgeScopes}
 
 -- what row 5 leaves of a begin or an end: its number is that of a construct
 pub frame-below : (D : Decoded) (x : ℕ) → badNodes D ≡ false → x < length (D .nodes) → beginNode ≤ nodeAt (D .nodes) x .kind → nodeAt (D .nodes) x .number < length (D .constructs)
 frame-below D x h l k = frame-construct (nodes-fit D h .alone x l) k
 
--- the table when the first n nodes are in it
-pub record ScopesTo (own none : ℕ) (D : Decoded) (n : ℕ) (table : List ℕ) : Type 0 where
-  pub long : length table ≡ 256
-  pub at : (x : ℕ) → x < n → (getD table x 0 ≡ scopeAt own (D .nodes) (D .constructs) x) × (getD table x 0 < 256)
-  pub past : (x : ℕ) → n ≤ x → x < 256 → getD table x 0 ≡ none
+-- any other node has its number as its scope
+pub number-scope : (own : ℕ) (D : Decoded) (x : ℕ) → NoFrame D x → nodeAt (D .nodes) x .number ≡ scopeAt own (D .nodes) (D .constructs) x
+unfolding scopeAt scope liesIn
+number-scope own D x k = rw (lt-ltb _ beginNode k) (go (eqb (nodeAt (D .nodes) x .kind) own))
+  where
+    go : (b : Bool) → nodeAt (D .nodes) x .number ≡ cond b (nodeAt (D .nodes) x .number) (nodeAt (D .nodes) x .number)
+    go true = refl
+    go false = refl
 
-pub scopes-none : (own none : ℕ) (D : Decoded) → ScopesTo own none D 0 (replicate 256 none)
-scopes-none own none D = record { long = refl; at = below-none _; past = λ x h m. getD-replicate 256 x none 0 m }
+pub scopes-none : (P : ℕ → Type 0) (own none : ℕ) (D : Decoded) → ScopesOf P own none D 0 (replicate 256 none)
+scopes-none P own none D = record { long = refl; at = below-none _; byte = below-none _; past = λ x h m. getD-replicate 256 x none 0 m }
+
+-- a store at x, the only node that may be new
+stored : {P Q : ℕ → Type 0} {own none : ℕ} {D : Decoded} {n m x v : ℕ} {table : List ℕ} → x < 256 → x < m → n ≤ m → ((y : ℕ) → y < m → y ≢ x → y < n)
+    → ScopesOf P own none D n table → ((y : ℕ) → y ≢ x → Q y → P y) → (Q x → v ≡ scopeAt own (D .nodes) (D .constructs) x) → v < 256
+    → ScopesOf Q own none D m (set table x v)
+stored {P} {Q} {own} {none} {D} {n} {m} {x} {v} {table} l h grown old T weaker here b = record {
+  long = length-set table x v ∙ T .long;
+  at = λ y k q. at y k q (ℕ-discrete y x);
+  byte = λ y k. byte y k (ℕ-discrete y x);
+  past = λ y k z. other y (λ q. omega arith) ∙ T .past y (omega arith) z;
+}
+  where
+    same : getD (set table x v) x 0 ≡ v
+    same = getD-set-same table x v 0 (omega (arith, T .long))
+
+    other : (y : ℕ) → y ≢ x → getD (set table x v) y 0 ≡ getD table y 0
+    other y q = getD-set-other table x y v 0 q
+
+    at : (y : ℕ) → y < m → Q y → Dec (y ≡ x) → getD (set table x v) y 0 ≡ scopeAt own (D .nodes) (D .constructs) y
+    at y k q (yes e) = rw e (same ∙ here (subst Q e q))
+    at y k q (no e) = other y e ∙ T .at y (old y k e) (weaker y e q)
+
+    byte : (y : ℕ) → y < m → Dec (y ≡ x) → getD (set table x v) y 0 < 256
+    byte y k (yes e) = rw e (omega (arith, same, b))
+    byte y k (no e) = omega (arith, other y e, T .byte y (old y k e))
 
 -- one node more
-pub scopes-more : {own none : ℕ} {D : Decoded} {x v : ℕ} {table : List ℕ} → x < 256 → ScopesTo own none D x table → v ≡ scopeAt own (D .nodes) (D .constructs) x → v < 256
-    → ScopesTo own none D (x + 1) (set table x v)
-scopes-more {own} {none} {D} {x} {v} {table} l T e b = record {
-  long = length-set table x v ∙ T .long;
-  at = below-more (λ y. (getD (set table x v) y 0 ≡ scopeAt own (D .nodes) (D .constructs) y) × (getD (set table x v) y 0 < 256)) x
-      (λ y h. let k = getD-set-other table x y v 0 (λ q. omega arith) in (k ∙ T .at y h .0, omega (arith, k, T .at y h .1)))
-      (let k = getD-set-same table x v 0 (omega (arith, T .long)) in (k ∙ e, omega (arith, k, b)));
-  past = λ y h m. getD-set-other table x y v 0 (λ q. omega arith) ∙ T .past y (omega arith) m;
-}
+pub scopes-more : {P : ℕ → Type 0} {own none : ℕ} {D : Decoded} {x v : ℕ} {table : List ℕ} → x < 256 → ScopesOf P own none D x table
+    → (P x → v ≡ scopeAt own (D .nodes) (D .constructs) x) → v < 256 → ScopesOf P own none D (x + 1) (set table x v)
+scopes-more l T = stored l (omega arith) (omega arith) (λ y k e. omega arith) T (λ y e p. p)
 
-pub scopes-all : {own none : ℕ} {D : Decoded} {n : ℕ} {table : List ℕ} → n ≡ length (D .nodes) → ScopesTo own none D n table → ScopeTable own none D table
-scopes-all e T = record {
+-- before the first begin or end
+pub filled-none : {own none : ℕ} {D : Decoded} {n : ℕ} {table : List ℕ} → ScopesOf (NoFrame D) own none D n table → ScopesOf (FilledTo D 0) own none D n table
+filled-none {D = D} T = record { long = T .long; at = λ y k q. T .at y k (go y q); byte = T .byte; past = T .past }
+  where
+    go : (y : ℕ) → FilledTo D 0 y → NoFrame D y
+    go y (inl z) = absurd (below-none (λ _. ⊥) y z)
+    go y (inr z) = z
+
+-- past a node that is neither
+pub filled-same : {own none : ℕ} {D : Decoded} {n x : ℕ} {table : List ℕ} → NoFrame D x → ScopesOf (FilledTo D x) own none D n table → ScopesOf (FilledTo D (x + 1)) own none D n table
+filled-same {D = D} {x = x} h T = record { long = T .long; at = λ y k q. T .at y k (go y q (ℕ-discrete y x)); byte = T .byte; past = T .past }
+  where
+    go : (y : ℕ) → FilledTo D (x + 1) y → Dec (y ≡ x) → FilledTo D x y
+    go y q (yes e) = inr (subst (NoFrame D) (sym e) h)
+    go y (inl z) (no e) = inl (omega arith)
+    go y (inr z) (no e) = inr z
+
+-- one begin or end more
+pub filled-more : {own none : ℕ} {D : Decoded} {n x v : ℕ} {table : List ℕ} → x < 256 → x < n → ScopesOf (FilledTo D x) own none D n table
+    → v ≡ scopeAt own (D .nodes) (D .constructs) x → v < 256 → ScopesOf (FilledTo D (x + 1)) own none D n (set table x v)
+filled-more {D = D} {x = x} l h T e = stored l h (omega arith) (λ y k q. k) T go (λ q. e)
+  where
+    go : (y : ℕ) → y ≢ x → FilledTo D (x + 1) y → FilledTo D x y
+    go y q (inl z) = inl (omega arith)
+    go y q (inr z) = inr z
+
+pub filled-all : {own none : ℕ} {D : Decoded} {n x : ℕ} {table : List ℕ} → x ≡ n → n ≡ length (D .nodes) → ScopesOf (FilledTo D x) own none D n table → ScopeTable own none D table
+filled-all f e T = record {
   long = T .long;
-  at = λ x h. T .at x (omega arith) .0;
-  byte = λ x h. T .at x (omega arith) .1;
+  at = λ x h. T .at x (omega arith) (inl (omega arith));
+  byte = λ x h. T .byte x (omega arith);
   past = λ x h m. T .past x (omega arith) m;
 }
 

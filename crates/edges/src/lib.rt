@@ -8,7 +8,7 @@ ghost use Rattle.chart.specs.Format.{decode};
 ghost use Rattle.chart.specs.Scope.{beginNode, endNode, scopeAt};
 ghost use Rattle.chart.specs.Refusal.{badNodes, rises, badEdgeAt, framesSection, joinsSections, badEdges};
 ghost use Rattle.chart.specs.Checked.{Laid};
-ghost use Rattle.edges.specs.Tables.{noLeaving, noArriving, ScopeTable, EdgeScopes};
+ghost use Rattle.edges.specs.Tables.{noLeaving, noArriving, ScopesOf, NoFrame, FilledTo, ScopeTable, EdgeScopes};
 use chart::cursor::wide;
 use chart::format::Chart;
 use chart::format::Construct;
@@ -47,18 +47,53 @@ fn widened(scope: u8) -> u16
     scope as u16
 }
 
-// The scopes of all nodes, by number, on leaving and on arriving; a number that no node has gets a scope that no other has.
-fn fill_scopes(s: &[u8], chart: Chart, leave: &mut [u16; BYTES], arrive: &mut [u16; BYTES])
-    requires { ⌜ Laid (now s) chart × (badNodes (decode (now s)) ≡ false) ⌝ }
-    ensures { λ _. ⌜ ScopeTable beginNode noLeaving (decode (now (s .entry))) (now (leave .exit)) × ScopeTable endNode noArriving (decode (now (s .entry))) (now (arrive .exit)) ⌝ }
+// The number of each node as its scope, on leaving and on arriving, which it is but for begins and ends; a number that no node has gets a
+// scope that no other has. No turn branches, so that several nodes are taken at once.
+fn fill_numbers(s: &[u8], chart: Chart, leave: &mut [u16; BYTES], arrive: &mut [u16; BYTES])
+    requires { ⌜ Laid (now s) chart ⌝ }
+    ensures { λ _.
+        let D = decode (now (s .entry)) in
+        ⌜ ScopesOf (NoFrame D) beginNode noLeaving D (chart .nodes) (now (leave .exit)) × ScopesOf (NoFrame D) endNode noArriving D (chart .nodes) (now (arrive .exit)) ⌝ }
 {
     *leave = [NO_LEAVING; BYTES];
     *arrive = [NO_ARRIVING; BYTES];
     let n = chart.nodes;
     let mut x = 0;
     while x < n {
-        leave[x] = widened(scope(s, chart, x, Node::BEGIN));
-        arrive[x] = widened(scope(s, chart, x, Node::END));
+        let number = widened(Node::read(s, chart, x).number);
+        leave[x] = number;
+        arrive[x] = number;
+        x += 1;
+    }
+}
+
+// The scopes of node x in place of its number, if it is a begin or an end.
+fn fill_frame(s: &[u8], chart: Chart, x: usize, leave: &mut [u16; BYTES], arrive: &mut [u16; BYTES])
+    requires { ⌜ Laid (now s) chart × (x < chart .nodes) × (badNodes (decode (now s)) ≡ false) ⌝ }
+    requires { let D = decode (now s) in
+        ⌜ ScopesOf (FilledTo D x) beginNode noLeaving D (chart .nodes) (now leave) × ScopesOf (FilledTo D x) endNode noArriving D (chart .nodes) (now arrive) ⌝ }
+    ensures { λ _.
+        let D = decode (now (s .entry)) in
+        ⌜ ScopesOf (FilledTo D (x + 1)) beginNode noLeaving D (chart .nodes) (now (leave .exit)) × ScopesOf (FilledTo D (x + 1)) endNode noArriving D (chart .nodes) (now (arrive .exit)) ⌝ }
+{
+    if Node::BEGIN <= Node::read(s, chart, x).kind {
+        let from = widened(scope(s, chart, x, Node::BEGIN));
+        let to = widened(scope(s, chart, x, Node::END));
+        leave[x] = from;
+        arrive[x] = to;
+    }
+}
+
+// The scopes of all nodes, by number, on leaving and on arriving; a number that no node has gets a scope that no other has.
+fn fill_scopes(s: &[u8], chart: Chart, leave: &mut [u16; BYTES], arrive: &mut [u16; BYTES])
+    requires { ⌜ Laid (now s) chart × (badNodes (decode (now s)) ≡ false) ⌝ }
+    ensures { λ _. ⌜ ScopeTable beginNode noLeaving (decode (now (s .entry))) (now (leave .exit)) × ScopeTable endNode noArriving (decode (now (s .entry))) (now (arrive .exit)) ⌝ }
+{
+    fill_numbers(s, chart, leave, arrive);
+    let n = chart.nodes;
+    let mut x = 0;
+    while x < n {
+        fill_frame(s, chart, x, leave, arrive);
         x += 1;
     }
 }
