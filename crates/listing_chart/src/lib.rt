@@ -28,7 +28,7 @@ use listing_tables::Spot;
 use listing_tables::ahead;
 use listing_tables::fill_block;
 use nesting::bad_constructs;
-use nodes::bad_barriers;
+use node_counts::bad_barriers;
 use nodes::bad_nodes;
 use output::Written;
 use scratch::put_part;

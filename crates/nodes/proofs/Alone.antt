@@ -14,7 +14,7 @@ use Rattle.lists.specs.Range.{any, any-none, none-passes}
 use Rattle.chart.specs.Format.{outside, Construct, Decoded, nodeAt}
 use Rattle.chart.specs.Scope.{barrierNode, beginNode, endNode}
 use Rattle.chart.specs.Refusal.{badNode}
-use Rattle.nodes.specs.Counted.{doubtful, doubtfulAt, aloneAt}
+use Rattle.nodes.specs.Parts.{doubtful, doubtfulAt, aloneAt}
 
 -- the turn of a loop that asks all
 pub any-next : (n : ℕ) (f : ℕ → Bool) → any (n + 1) f ≡ (any n f || f n)

@@ -1,3 +1,2 @@
 pub mod Alone
-pub mod Counted
 pub mod Outer

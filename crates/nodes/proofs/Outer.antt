@@ -12,7 +12,7 @@ use Rattle.lists.specs.Truth.{and-both, both-and, or-cases, or-left, or-right, 
 use Rattle.lists.specs.Range.{any, any-or, any-at, at-any}
 use Rattle.chart.specs.Format.{Decoded}
 use Rattle.chart.specs.Refusal.{badOuter, badNodeAt, badNodes}
-use Rattle.nodes.specs.Counted.{aloneAt, namesRegion}
+use Rattle.nodes.specs.Parts.{aloneAt, namesRegion}
 
 -- the test of the first and the last of n, by the two of them
 either : (n : ℕ) (f : ℕ → Bool) → 2 ≤ n → any n (λ x. (eqb x 0 || eqb x (n - 1)) && f x) ≡ (f 0 || f (n - 1))

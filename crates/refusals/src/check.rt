@@ -9,8 +9,8 @@ use chart::format::Checked;
 use chart::format::Refusal;
 use edges::bad_edges;
 use nesting::bad_constructs;
-use nodes::bad_barriers;
-use nodes::bad_frames;
+use node_counts::bad_barriers;
+use node_counts::bad_frames;
 use nodes::bad_nodes;
 
 // Rows 5 to 9.

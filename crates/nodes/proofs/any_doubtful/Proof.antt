@@ -8,7 +8,7 @@ use borrow.Author.Needs.{needs}
 use Rattle.lists.specs.Range.{any}
 use Rattle.chart.specs.Format.{decode}
 use Rattle.chart.proofs.Records.{nodes-length, constructs-length}
-use Rattle.nodes.specs.Counted.{doubtfulAt}
+use Rattle.nodes.specs.Parts.{doubtfulAt}
 use Rattle.nodes.proofs.Alone.{any-next}
 use Rattle.nodes.proofs.any_doubtful.Statement.{statement}
 use Rattle.nodes.proofs.any_doubtful.Tie as tie

@@ -10,7 +10,7 @@ use borrow.Author.Needs.{needs}
 use Rattle.lists.specs.Range.{any, at-any, any-more}
 use Rattle.chart.specs.Format.{decode}
 use Rattle.chart.proofs.Records.{nodes-length}
-use Rattle.nodes.specs.Counted.{aloneAt}
+use Rattle.nodes.specs.Parts.{aloneAt}
 use Rattle.nodes.proofs.bad_each.Statement.{statement}
 use Rattle.nodes.proofs.bad_each.Tie as tie
 

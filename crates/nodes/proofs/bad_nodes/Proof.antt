@@ -14,7 +14,7 @@ use Rattle.chart.specs.Refusal.{badNodes}
 use Rattle.chart.specs.Checked.{Laid}
 use Rattle.chart.specs.declared.format.Chart.{Chart}
 use Rattle.chart.proofs.Records.{nodes-length}
-use Rattle.nodes.specs.Counted.{aloneAt, namesRegion}
+use Rattle.nodes.specs.Parts.{aloneAt, namesRegion}
 use Rattle.nodes.proofs.Alone.{none-bad}
 use Rattle.nodes.proofs.Outer.{parts}
 use Rattle.nodes.proofs.bad_nodes.Statement.{statement}

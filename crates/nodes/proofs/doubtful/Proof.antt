@@ -1,7 +1,7 @@
 -- `nodes::doubtful` meets its contract.
 -- Assumes nothing.
 use borrow.Author.Tests.{lt-ltb, le-ltb, lt-leb, le-leb, eq-eqb, ne-eqb}
-use Rattle.nodes.specs.Counted.{doubtful}
+use Rattle.nodes.specs.Parts.{doubtful}
 use Rattle.nodes.proofs.doubtful.Statement.{statement}
 use Rattle.nodes.proofs.doubtful.Tie as tie
 

@@ -1,13 +1,13 @@
--- `nodes::count_frame` meets its contract.
+-- `node_counts::count_frame` meets its contract.
 -- Assumes nothing.
 use native.Mathlib.Omega.{arith}
 use borrow.Author.Tests.{ne-eqb}
 use borrow.Author.Needs.{needs}
 use Rattle.chart.specs.Scope.{beginNode, endNode}
-use Rattle.nodes.specs.Counted.{isFrame}
-use Rattle.nodes.proofs.Counted.{uncounted}
-use Rattle.nodes.proofs.count_frame.Statement.{statement}
-use Rattle.nodes.proofs.count_frame.Tie as tie
+use Rattle.node_counts.specs.Counted.{isFrame}
+use Rattle.node_counts.proofs.Counted.{uncounted}
+use Rattle.node_counts.proofs.count_frame.Statement.{statement}
+use Rattle.node_counts.proofs.count_frame.Tie as tie
 
 count-if-requires : tie.Need-count-if-requires
 count-if-requires c κs = search needs

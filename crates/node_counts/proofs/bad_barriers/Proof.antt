@@ -1,4 +1,4 @@
--- `nodes::bad_barriers` meets its contract.
+-- `node_counts::bad_barriers` meets its contract.
 -- Assumes nothing.
 use mathlib.Core.Path.{_≡_, refl, sym, ap, _∙_}
 use mathlib.Core.Bool.{_&&_, _||_}
@@ -13,9 +13,9 @@ use Rattle.chart.specs.Format.{outside, decode}
 use Rattle.chart.specs.Nested.{isParallel}
 use Rattle.chart.specs.Refusal.{badBarriers, isBarrier, tooManyIn}
 use Rattle.chart.proofs.Records.{nodes-length}
-use Rattle.nodes.proofs.Counted.{none-crowded}
-use Rattle.nodes.proofs.bad_barriers.Statement.{statement}
-use Rattle.nodes.proofs.bad_barriers.Tie as tie
+use Rattle.node_counts.proofs.Counted.{none-crowded}
+use Rattle.node_counts.proofs.bad_barriers.Statement.{statement}
+use Rattle.node_counts.proofs.bad_barriers.Tie as tie
 
 read-requires : tie.Need-read-requires
 read-requires c κs = let e = c .before in (e .pre, omega (arith, e .pre .two-nodes))

@@ -1,4 +1,4 @@
--- `nodes::crowded` meets its contract.
+-- `node_counts::crowded` meets its contract.
 -- Assumes nothing.
 use mathlib.Core.Path.{_≡_, refl, sym, ap, _∙_}
 use mathlib.Core.Bool.{Bool, false, _&&_}
@@ -11,8 +11,8 @@ use Rattle.chart.specs.Format.{decode}
 use Rattle.chart.specs.Nested.{isParallel}
 use Rattle.chart.specs.Refusal.{tooManyIn}
 use Rattle.chart.proofs.Records.{constructs-length}
-use Rattle.nodes.proofs.crowded.Statement.{statement}
-use Rattle.nodes.proofs.crowded.Tie as tie
+use Rattle.node_counts.proofs.crowded.Statement.{statement}
+use Rattle.node_counts.proofs.crowded.Tie as tie
 
 abbrev bad : List ℕ → ℕ → Bool
 bad s c = isParallel (decode s .constructs) c && tooManyIn (decode s .nodes) c

@@ -1,4 +1,4 @@
--- `nodes::bad_frames` meets its contract.
+-- `node_counts::bad_frames` meets its contract.
 -- Assumes nothing.
 use mathlib.Core.Bool.{Bool, not}
 use mathlib.Core.Path.{_≡_, refl, sym, ap, _∙_}
@@ -15,9 +15,9 @@ use Rattle.chart.specs.Refusal.{badFrame, badFrames, framesIn}
 use Rattle.chart.specs.Checked.{Laid}
 use Rattle.chart.specs.declared.format.Chart.{Chart}
 use Rattle.chart.proofs.Records.{nodes-length, constructs-length}
-use Rattle.nodes.specs.Counted.{Counted, isFrame}
-use Rattle.nodes.proofs.bad_frames.Statement.{statement}
-use Rattle.nodes.proofs.bad_frames.Tie as tie
+use Rattle.node_counts.specs.Counted.{Counted, isFrame}
+use Rattle.node_counts.proofs.bad_frames.Statement.{statement}
+use Rattle.node_counts.proofs.bad_frames.Tie as tie
 
 -- the counts of a kind decide its half of row 7
 decides : (s : List ℕ) (chart : Chart) (kind : ℕ) (found : List ℕ) → Laid s chart → Counted (decode s) (isFrame kind) (chart .nodes) found

@@ -1,4 +1,4 @@
--- `nodes::count_outermost` meets its contract: after x turns the barriers among the first x nodes are counted.
+-- `node_counts::count_outermost` meets its contract: after x turns the barriers among the first x nodes are counted.
 -- Assumes nothing.
 use mathlib.Core.Path.{_≡_, refl, ap, _∙_}
 use Prim.Native.Nat.{ℕ, _+_, _≤_, _-_}
@@ -9,8 +9,8 @@ use Rattle.lists.specs.Range.{count, count-most, count-more}
 use Rattle.chart.specs.Format.{outside, decode}
 use Rattle.chart.specs.Refusal.{barrierOf}
 use Rattle.chart.proofs.Records.{nodes-length}
-use Rattle.nodes.proofs.count_outermost.Statement.{statement}
-use Rattle.nodes.proofs.count_outermost.Tie as tie
+use Rattle.node_counts.proofs.count_outermost.Statement.{statement}
+use Rattle.node_counts.proofs.count_outermost.Tie as tie
 
 abbrev Inv-loop : tie.InvT-loop
 Inv-loop s chart n found₀ x₀ found x = (x ≤ chart .nodes) × (found ≡ count x (barrierOf (decode s .nodes) outside))

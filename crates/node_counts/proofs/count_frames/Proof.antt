@@ -1,14 +1,14 @@
--- `nodes::count_frames` meets its contract.
+-- `node_counts::count_frames` meets its contract.
 -- Assumes nothing.
 use mathlib.Core.Path.{_≡_, subst}
 use Prim.Native.Nat.{ℕ, _≤_, _-_}
 use native.Mathlib.Omega.{arith}
 use Rattle.chart.specs.Format.{decode}
 use Rattle.chart.specs.Scope.{beginNode, endNode}
-use Rattle.nodes.specs.Counted.{Counted, isFrame}
-use Rattle.nodes.proofs.Counted.{count-on, counted-most}
-use Rattle.nodes.proofs.count_frames.Statement.{statement}
-use Rattle.nodes.proofs.count_frames.Tie as tie
+use Rattle.node_counts.specs.Counted.{Counted, isFrame}
+use Rattle.node_counts.proofs.Counted.{count-on, counted-most}
+use Rattle.node_counts.proofs.count_frames.Statement.{statement}
+use Rattle.node_counts.proofs.count_frames.Tie as tie
 
 abbrev Inv-loop : tie.InvT-loop
 Inv-loop s chart begins₀ ends₀ n x₀ begins ends x = (x ≤ chart .nodes) × Counted (decode s) (isFrame beginNode) x begins × Counted (decode s) (isFrame endNode) x ends

@@ -1,4 +1,4 @@
--- `nodes::count_barriers` meets its contract.
+-- `node_counts::count_barriers` meets its contract.
 -- Assumes nothing.
 use mathlib.Core.Path.{_≡_, subst}
 use Prim.Native.Nat.{ℕ, _≤_, _-_}
@@ -6,10 +6,10 @@ use native.Mathlib.Omega.{arith}
 use lib.Dec.{leb}
 use Rattle.chart.specs.Format.{decode}
 use Rattle.chart.specs.Scope.{barrierNode}
-use Rattle.nodes.specs.Counted.{Counted}
-use Rattle.nodes.proofs.Counted.{count-on, counted-most}
-use Rattle.nodes.proofs.count_barriers.Statement.{statement}
-use Rattle.nodes.proofs.count_barriers.Tie as tie
+use Rattle.node_counts.specs.Counted.{Counted}
+use Rattle.node_counts.proofs.Counted.{count-on, counted-most}
+use Rattle.node_counts.proofs.count_barriers.Statement.{statement}
+use Rattle.node_counts.proofs.count_barriers.Tie as tie
 
 abbrev Inv-loop : tie.InvT-loop
 Inv-loop s chart found₀ n x₀ found x = (x ≤ chart .nodes) × Counted (decode s) (leb barrierNode) x found

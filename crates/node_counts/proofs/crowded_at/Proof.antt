@@ -1,4 +1,4 @@
--- `nodes::crowded_at` meets its contract.
+-- `node_counts::crowded_at` meets its contract.
 -- Assumes nothing.
 use mathlib.Core.Path.{_≡_, ap, sym, _∙_}
 use native.Mathlib.Omega.{arith}
@@ -9,9 +9,9 @@ use Rattle.lists.specs.Truth.{and-false, and-true}
 use Rattle.chart.specs.Format.{decode}
 use Rattle.chart.specs.Nested.{isParallel}
 use Rattle.chart.specs.Refusal.{tooManyIn}
-use Rattle.nodes.proofs.Counted.{many}
-use Rattle.nodes.proofs.crowded_at.Statement.{statement}
-use Rattle.nodes.proofs.crowded_at.Tie as tie
+use Rattle.node_counts.proofs.Counted.{many}
+use Rattle.node_counts.proofs.crowded_at.Statement.{statement}
+use Rattle.node_counts.proofs.crowded_at.Tie as tie
 
 element-copy-out-wide : tie.Need-element-copy-out-wide
 element-copy-out-wide c =

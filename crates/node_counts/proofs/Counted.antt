@@ -18,7 +18,7 @@ use Rattle.chart.specs.Refusal.{anyOf, barrierOf, tooManyIn}
 use Rattle.chart.specs.Checked.{Laid}
 use Rattle.chart.specs.declared.format.Chart.{Chart}
 use Rattle.chart.proofs.Records.{nodes-length}
-use Rattle.nodes.specs.Counted.{Counted}
+use Rattle.node_counts.specs.Counted.{Counted}
 
 -- one more at i
 pub counted : (l : List ℕ) (holds : Bool) (number i c : ℕ) → holds ≡ true → i ≡ number → i < length l

@@ -1,4 +1,4 @@
--- `nodes::not_ones` meets its contract.
+-- `node_counts::not_ones` meets its contract.
 -- Assumes nothing.
 use mathlib.Core.List.{List}
 use mathlib.Core.Bool.{Bool, false, not}
@@ -9,8 +9,8 @@ use lib.ListN.{getD}
 use lib.Dec.{eqb}
 use borrow.Author.Tests.{eq-eqb, ne-eqb}
 use Rattle.lists.specs.Range.{any, at-any, any-more}
-use Rattle.nodes.proofs.not_ones.Statement.{statement}
-use Rattle.nodes.proofs.not_ones.Tie as tie
+use Rattle.node_counts.proofs.not_ones.Statement.{statement}
+use Rattle.node_counts.proofs.not_ones.Tie as tie
 
 abbrev other : List ℕ → ℕ → Bool
 other found k = not (eqb (getD found k 0) 1)

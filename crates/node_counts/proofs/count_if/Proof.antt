@@ -1,13 +1,13 @@
--- `nodes::count_if` meets its contract.
+-- `node_counts::count_if` meets its contract.
 -- Assumes nothing.
 use mathlib.Core.Path.{_∙_}
 use Prim.Native.Nat.{_+_}
 use native.Mathlib.Omega.{arith}
 use lib.ListN.{getD, length-set}
 use borrow.Author.Needs.{needs}
-use Rattle.nodes.proofs.Counted.{counted, uncounted}
-use Rattle.nodes.proofs.count_if.Statement.{statement}
-use Rattle.nodes.proofs.count_if.Tie as tie
+use Rattle.node_counts.proofs.Counted.{counted, uncounted}
+use Rattle.node_counts.proofs.count_if.Statement.{statement}
+use Rattle.node_counts.proofs.count_if.Tie as tie
 
 wide-requires : tie.Need-wide-requires
 wide-requires c κs = search needs

@@ -1,8 +1,8 @@
--- `nodes::outermost` meets its contract.
+-- `node_counts::outermost` meets its contract.
 -- Assumes nothing.
 use borrow.Author.Tests.{lt-leb, le-leb, eq-eqb, ne-eqb}
-use Rattle.nodes.proofs.outermost.Statement.{statement}
-use Rattle.nodes.proofs.outermost.Tie as tie
+use Rattle.node_counts.proofs.outermost.Statement.{statement}
+use Rattle.node_counts.proofs.outermost.Tie as tie
 
 returns : tie.Need-returns
 returns c = rw (lt-leb _ _ (c .if1 .taken))
