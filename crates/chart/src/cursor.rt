@@ -1,7 +1,7 @@
 // A reading position in the bytes of a chart, and the records that stand there.
 ghost use mathlib.Core.Path.{_≡_};
 ghost use mathlib.Core.Bool.{cond};
-ghost use Prim.Native.Nat.{_+_, _*_, _-_, _≤_, _<_};
+ghost use Prim.Native.Nat.{_+_, _*_, _-_, _/_, _%_, _≤_, _<_};
 ghost use lib.Dec.{eqb};
 ghost use lib.ListN.{getD, length};
 ghost use Rattle.chart.specs.Format.{field, constructBytes, decode, nodeAt, edgeAt, constructAt};
@@ -75,6 +75,17 @@ impl Cursor {
         low + 256 * high
     }
 
+    // The four bytes at the cursor as one number, lowest first. Loops that read records so are taken several at a time by the compiler,
+    // those that read single bytes of records are not.
+    pub fn word(self, s: &[u8]) -> u32
+        requires { ⌜ self .at + 3 < length (now s) ⌝ }
+        ensures { λ r. ⌜ (r % 256 ≡ getD (now (s .entry)) (self .at) 0) × (r / 256 % 256 ≡ getD (now (s .entry)) (self .at + 1) 0) ⌝ }
+    {
+        let at = self.at;
+        let low = two_bytes(s[at], s[at + 1]);
+        low + 65536 * two_bytes(s[at + 2], s[at + 3])
+    }
+
     // The filter of the construct at the cursor.
     pub fn filter(self, s: &[u8], edition: usize) -> usize
         requires { ⌜ self .at + 5 < length (now s) ⌝ }
@@ -85,6 +96,13 @@ impl Cursor {
         }
         self.field(s, 4)
     }
+}
+
+// Two bytes as one number, the lower one first.
+fn two_bytes(low: u8, high: u8) -> u32
+    ensures { λ r. ⌜ (r ≡ low + 256 * high) × (low < 256) × (high < 256) ⌝ }
+{
+    (low as u32) + 256 * (high as u32)
 }
 
 // The bytes of c construct records.
@@ -142,10 +160,10 @@ impl Node {
         requires { ⌜ Laid (now s) chart × (x < chart .nodes) ⌝ }
         ensures { λ r. ⌜ (r .kind ≡ nodeAt (decode (now (s .entry)) .nodes) x .kind) × (r .number ≡ nodeAt (decode (now (s .entry)) .nodes) x .number) ⌝ }
     {
-        let cursor = Cursor::node(x);
+        let word = Cursor::node(x).word(s);
         Node {
-            kind: cursor.byte(s, 0),
-            number: cursor.byte(s, 1),
+            kind: (word % 256) as u8,
+            number: (word / 256 % 256) as u8,
         }
     }
 }

@@ -21,13 +21,11 @@ use output::room_for;
 // What is written for a barrier, and for a node outside the region.
 const NO_DISTANCE: u8 = 255;
 
-// The byte of node x.
-fn distance_byte(x: usize, closed: &[u8; Chart::NODES], levels: &[u8; Chart::NODES]) -> u8
-    requires { ⌜ x < 192 ⌝ }
-    ensures { λ r. ⌜ r ≡ cond (eqb (getD (now (closed .entry)) x 0) 0) (getD (now (levels .entry)) x 0) 255 ⌝ }
+// The byte of a node. Both numbers are handed over, so that nothing is read in a branch and several nodes are taken at once.
+fn distance_byte(level: u8, closed: u8) -> u8
+    ensures { λ r. ⌜ r ≡ cond (eqb closed 0) level 255 ⌝ }
 {
-    let level = levels[x];
-    if closed[x] == 0 {
+    if closed == 0 {
         return level;
     }
     NO_DISTANCE
@@ -45,7 +43,7 @@ fn fill_distances(
 {
     let mut x = 0;
     while x < n {
-        out[x] = distance_byte(x, closed, levels);
+        out[x] = distance_byte(levels[x], closed[x]);
         x += 1;
     }
 }

@@ -1,10 +1,10 @@
 -- What rows 1 to 9 leave: a chart that `check` passes is accepted, its tables fit, and each of its regions is well formed.
 -- Assumes nothing.
 use mathlib.Core.Path.{_≡_, ap, sym, subst}
-use mathlib.Core.Logic.{inl}
+use mathlib.Core.Logic.{inl, inr}
 use mathlib.Core.List.{List}
 use mathlib.Core.Option.{none}
-use Prim.Native.Nat.{ℕ, _≤_}
+use Prim.Native.Nat.{ℕ, _≤_, _<_}
 use native.Mathlib.Omega.{arith}
 use lib.ListN.{length}
 use Rattle.chart.specs.Format.{outside, decode}
@@ -14,6 +14,7 @@ use Rattle.chart.specs.Checked.{Laid, countsOf, readFor, checked, reading}
 use Rattle.chart.specs.declared.format.Chart.{Chart}
 use Rattle.chart.specs.declared.format.Checked.the-variants.{Passed}
 use Rattle.chart.proofs.Records.{constructs-length}
+use Rattle.chart.proofs.Constructs.{parallel-below}
 use Rattle.chart.proofs.Rows.{both-pass}
 use Rattle.chart.proofs.Facts.{Named, TablesFit}
 use Rattle.chart.proofs.Accepted.{laid, tables-fit, well-formed-tables}
@@ -61,3 +62,10 @@ module _ (s : List ℕ) (chart : Chart) (A : Accepted s chart) where
 
   pub well-formed : WellFormed (reading s chart)
   well-formed = well-formed-tables (decode s) few-constructs tables (chart .region) (A .named)
+
+  -- the region by one byte
+  pub region-byte : chart .region < 256
+  region-byte = elim (A .named) [
+    | inl q ↦ omega (arith, q)
+    | inr p ↦ omega (arith, parallel-below (decode s .constructs) (chart .region) p, few-constructs)
+  ]

@@ -11,13 +11,14 @@ ghost use Rattle.answers.specs.Numbers.{asked};
 ghost use Rattle.loading.specs.Tables.{Accepted, Closed};
 use crate::cut::within;
 use crate::load::load_stops;
+use crate::load::region_byte;
 use crate::load::stop;
 use chart::cursor::wide;
 use chart::format::Chart;
 use chart::format::Node;
 
 // 1 for a node whose number has no flag, and for a barrier.
-fn shut(node: Node, region: usize, flags: &[u8; 256]) -> u8
+fn shut(node: Node, region: u8, flags: &[u8; 256]) -> u8
     ensures { λ r. ⌜ r ≡ cond (eqb (getD (now (flags .entry)) (node .number) 0) 0) 1 (cond (leb 1 (node .kind) && eqb (node .number) region) 1 0) ⌝ }
 {
     if flags[wide(node.number)] == 0 {
@@ -35,7 +36,7 @@ fn close_region(s: &[u8], chart: Chart, closed: &mut [u8; Chart::NODES])
     within(s, chart, &mut places);
     *closed = [0u8; Chart::NODES];
     let n = chart.nodes;
-    let region = chart.region;
+    let region = region_byte(chart);
     let mut x = 0;
     while x < n {
         closed[x] = shut(Node::read(s, chart, x), region, &places);
@@ -61,8 +62,8 @@ pub fn closed_at(s: &[u8], chart: Chart, x: usize) -> u8
     ensures { λ r. ⌜ r ≡ cond (asked (reading (now (s .entry)) chart) x) 0 1 ⌝ }
 {
     let node = Node::read(s, chart, x);
-    let region = chart.region;
-    if region == Chart::OUTERMOST {
+    let region = region_byte(chart);
+    if chart.region == Chart::OUTERMOST {
         return stop(node, region);
     }
     let mut places = [0u8; 256];

@@ -12,14 +12,22 @@ use chart::cursor::wide;
 use chart::format::Chart;
 use chart::format::Node;
 
+// The region by the byte that its nodes have for a number: on bytes alone the compiler takes several nodes at a time.
+pub fn region_byte(chart: Chart) -> u8
+    requires { ⌜ chart .region < 256 ⌝ }
+    ensures { λ r. ⌜ r ≡ chart .region ⌝ }
+{
+    (chart.region % 256) as u8
+}
+
 // 1 for a barrier of the region, its begin and its end among them, 0 for any other node.
-pub fn stop(node: Node, region: usize) -> u8
+pub fn stop(node: Node, region: u8) -> u8
     ensures { λ r. ⌜ r ≡ cond (leb 1 (node .kind) && eqb (node .number) region) 1 0 ⌝ }
 {
     if node.kind == Node::PLAIN {
         return 0;
     }
-    if wide(node.number) == region {
+    if node.number == region {
         return 1;
     }
     0
@@ -32,7 +40,7 @@ pub fn load_stops(s: &[u8], chart: Chart, stops: &mut [u8; Chart::NODES])
 {
     *stops = [0u8; Chart::NODES];
     let n = chart.nodes;
-    let region = chart.region;
+    let region = region_byte(chart);
     let mut x = 0;
     while x < n {
         stops[x] = stop(Node::read(s, chart, x), region);
@@ -84,6 +92,24 @@ fn frame(node: Node, kind: u8, x: usize, frames: &mut [u8; Chart::BARRIERS])
     }
 }
 
+// One node more, by one test where it is neither.
+fn frame_either(
+    node: Node,
+    x: usize,
+    begins: &mut [u8; Chart::BARRIERS],
+    ends: &mut [u8; Chart::BARRIERS],
+)
+    requires { ⌜ (x < 192) × (length (now begins) ≡ 64) × (length (now ends) ≡ 64) × (2 ≤ node .kind → node .kind ≤ 3 → node .number < 64) ⌝ }
+    ensures { λ _. ⌜ now (begins .exit) ≡ cond (eqb (node .kind) beginNode) (set (now (begins .entry)) (node .number) x) (now (begins .entry)) ⌝ }
+    ensures { λ _. ⌜ now (ends .exit) ≡ cond (eqb (node .kind) endNode) (set (now (ends .entry)) (node .number) x) (now (ends .entry)) ⌝ }
+{
+    if node.kind < Node::BEGIN {
+        return;
+    }
+    frame(node, Node::BEGIN, x, begins);
+    frame(node, Node::END, x, ends);
+}
+
 // For each construct its begin, and its end.
 pub fn frames(
     s: &[u8],
@@ -99,9 +125,7 @@ pub fn frames(
     let n = chart.nodes;
     let mut x = 0;
     while x < n {
-        let node = Node::read(s, chart, x);
-        frame(node, Node::BEGIN, x, begins);
-        frame(node, Node::END, x, ends);
+        frame_either(Node::read(s, chart, x), x, begins, ends);
         x += 1;
     }
 }

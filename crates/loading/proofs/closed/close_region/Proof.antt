@@ -10,6 +10,7 @@ use Rattle.lists.specs.Store.{stored}
 use Rattle.chart.specs.Checked.{reading}
 use Rattle.chart.proofs.Records.{nodes-length}
 use Rattle.answers.specs.Numbers.{asked}
+use Rattle.loading.proofs.Accepted.{region-byte}
 use Rattle.loading.proofs.Cutting.{closed-turn}
 use Rattle.loading.proofs.closed.close_region.Statement.{statement}
 use Rattle.loading.proofs.closed.close_region.Tie as tie
@@ -24,17 +25,20 @@ abbrev μ-loop : tie.MeasureT-loop
 within-requires : tie.Need-within-requires Inv-loop μ-loop
 within-requires c κs = c .before .before .pre
 
+region-byte-requires : tie.Need-region-byte-requires Inv-loop μ-loop
+region-byte-requires c κs = let e = c .before .before .before .before in region-byte _ (e .args .chart) (e .pre .0)
+
 loop-holds : tie.Need-loop-holds Inv-loop μ-loop
 loop-holds c = (omega arith, length-replicate {A = ℕ} 192 0, λ y l. absurd (omega arith))
 
 read-requires : tie.Need-read-requires Inv-loop μ-loop
-read-requires c κs = (c .before .before .before .before .before .before .pre .0 .laid, omega arith)
+read-requires c κs = (c .before .before .before .before .before .before .before .pre .0 .laid, omega arith)
 
 shut-requires : tie.Need-shut-requires Inv-loop μ-loop
 shut-requires c κs = search needs
 
 element-write-closed : tie.Need-element-write-closed Inv-loop μ-loop
-element-write-closed c = omega (arith, c .before .before .before .before .before .before .before .before .before .pre .0 .laid .nodes-most)
+element-write-closed c = omega (arith, c .before .before .before .before .before .before .before .before .before .before .pre .0 .laid .nodes-most)
 
 add-x : tie.Need-add-x Inv-loop μ-loop
 add-x c = omega arith
@@ -46,7 +50,7 @@ loop-again : tie.Need-loop-again Inv-loop μ-loop
 loop-again c =
     let read = c .before .before in
     let l = read .before .before in
-    let loaded = l .before .before in
+    let loaded = l .before .before .before in
     let start = loaded .before .before .before in
     let (A, inner) = start .pre in
     let (below, long, closed) = l .loop .inv in
@@ -55,13 +59,13 @@ loop-again c =
       length-set (l .loop .closed) _ _ ∙ long,
       stored (λ y v. v ≡ cond (asked R y) 0 1) (l .loop .closed) (l .loop .x) _ (omega (arith, A .laid .nodes-most))
           (closed-turn _ (start .args .chart) A inner (l .loop .x) _ _ _ _ (omega (arith, nodes-length _ (start .args .chart) (A .laid)))
-          (read .read .ensures .0) (read .read .ensures .1) (loaded .within .ensures) (c .shut .ensures)) closed,
+          (read .read .ensures .0) (read .read .ensures .1) (loaded .within .ensures) (rw (l .before .region-byte .ensures) at (c .shut .ensures))) closed,
     )
 
 returns : tie.Need-returns Inv-loop μ-loop
 returns c =
     let l = c .before in
-    let start = l .before .before .before .before .before in
+    let start = l .before .before .before .before .before .before in
     let (A, inner) = start .pre in
     record { at = λ y m. l .loop .inv .2 y (omega (arith, nodes-length _ (start .args .chart) (A .laid))) }
 
@@ -72,6 +76,7 @@ close-region-spec =
     Inv-loop
     μ-loop
     within-requires
+    region-byte-requires
     loop-holds
     read-requires
     shut-requires

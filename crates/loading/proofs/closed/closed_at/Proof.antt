@@ -6,6 +6,7 @@ use borrow.Author.Needs.{needs}
 use lib.ListN.{length}
 use Rattle.chart.specs.Format.{decode}
 use Rattle.chart.proofs.Records.{nodes-length}
+use Rattle.loading.proofs.Accepted.{region-byte}
 use Rattle.loading.proofs.Loading.{stop-byte}
 use Rattle.loading.proofs.Cutting.{stop-closed, closed-turn}
 use Rattle.loading.proofs.closed.closed_at.Statement.{statement}
@@ -13,6 +14,9 @@ use Rattle.loading.proofs.closed.closed_at.Tie as tie
 
 read-requires : tie.Need-read-requires
 read-requires c κs = (c .before .pre .0 .laid, c .before .pre .1)
+
+region-byte-requires : tie.Need-region-byte-requires
+region-byte-requires c κs = let e = c .before .before in region-byte _ (e .args .chart) (e .pre .0)
 
 stop-requires : tie.Need-stop-requires
 stop-requires c κs = search needs
@@ -26,13 +30,14 @@ below c = let e = start c in omega (arith, nodes-length _ (e .args .chart) (e .p
 
 returns : tie.Need-returns
 returns c =
-    let r = c .before .before in
+    let b = c .before .before .before in
+    let r = b .before in
     let e = start r in
     rw (stop-closed _ (e .args .chart) (e .args .x) (c .before .if1 .taken) (below r))
-    (stop-byte _ (e .args .chart) (e .pre .0) (e .args .x) _ _ _ (r .read .ensures .0) (r .read .ensures .1) (c .stop .ensures))
+    (stop-byte _ (e .args .chart) (e .pre .0) (e .args .x) _ _ _ (r .read .ensures .0) (r .read .ensures .1) (rw (b .region-byte .ensures) at (c .stop .ensures)))
 
 within-requires : tie.Need-within-requires
-within-requires c κs = (start (c .before .before) .pre .0, c .before .if1 .left)
+within-requires c κs = (start (c .before .before .before .before) .pre .0, c .before .if1 .left)
 
 shut-requires : tie.Need-shut-requires
 shut-requires c κs = search needs
@@ -41,9 +46,11 @@ returns-2 : tie.Need-returns-2
 returns-2 c =
     let w = c .before .before in
     let o = w .before .before in
-    let r = o .before in
+    let b = o .before .before in
+    let r = b .before in
     let e = start r in
-    closed-turn _ (e .args .chart) (e .pre .0) (o .if1 .left) (e .args .x) _ _ _ _ (below r) (r .read .ensures .0) (r .read .ensures .1) (w .within .ensures) (c .shut .ensures)
+    closed-turn _ (e .args .chart) (e .pre .0) (o .if1 .left) (e .args .x) _ _ _ _ (below r) (r .read .ensures .0) (r .read .ensures .1) (w .within .ensures)
+    (rw (b .region-byte .ensures) at (c .shut .ensures))
 
 pub closed-at-spec : {M : Type 1} → statement M
-closed-at-spec = tie.close (tie.spec read-requires stop-requires returns within-requires shut-requires returns-2)
+closed-at-spec = tie.close (tie.spec read-requires region-byte-requires stop-requires returns within-requires shut-requires returns-2)

@@ -22,25 +22,17 @@ loop-holds c = (omega arith, framing-none _ _, framing-none _ _)
 read-requires : tie.Need-read-requires Inv-loop μ-loop
 read-requires c κs = (c .before .before .before .before .before .pre .laid, omega arith)
 
--- the number of a begin or an end is that of a construct
-index : (c : tie.After-read Inv-loop μ-loop) (kind : ℕ) → 2 ≤ kind → kind ≤ 3 → c .read .result .kind ≡ kind → c .read .result .number < 64
-index c kind low high e =
-    let l = c .before .before in
+frame-either-requires : tie.Need-frame-either-requires Inv-loop μ-loop
+frame-either-requires c κs =
+    let r = c .before .before in
+    let l = r .before .before in
     let A = l .before .before .before .before .pre in
-    let r = c .read .ensures in
-    omega (arith, r .1, frame-below _ _ A kind low high (l .loop .x) (omega arith) (sym (r .0) ∙ e), constructs-length _ _ (A .laid), A .laid .constructs-most)
-
-frame-requires : tie.Need-frame-requires Inv-loop μ-loop
-frame-requires c κs =
-    let l = c .before .before .before in
-    let A = l .before .before .before .before .pre in
-    (omega (arith, A .laid .nodes-most), l .loop .inv .1 .long, index (c .before) _ (omega arith) (omega arith))
-
-frame-requires-2 : tie.Need-frame-requires-2 Inv-loop μ-loop
-frame-requires-2 c κs =
-    let l = c .before .before .before .before .before in
-    let A = l .before .before .before .before .pre in
-    (omega (arith, A .laid .nodes-most), l .loop .inv .2 .long, index (c .before .before .before) _ (omega arith) (omega arith))
+    let (is, numbered) = r .read .ensures in (
+      omega (arith, A .laid .nodes-most),
+      l .loop .inv .1 .long,
+      l .loop .inv .2 .long,
+      λ low high. omega (arith, numbered, frame-below _ _ A _ low high (l .loop .x) (omega arith) (sym is), constructs-length _ _ (A .laid), A .laid .constructs-most),
+    )
 
 add-x : tie.Need-add-x Inv-loop μ-loop
 add-x c = omega arith
@@ -50,12 +42,12 @@ loop-less c = omega arith
 
 loop-again : tie.Need-loop-again Inv-loop μ-loop
 loop-again c =
-    let l = c .before .before .before .before .before .before in
+    let l = c .before .before .before .before .before in
     let A = l .before .before .before .before .pre in
-    let r = c .before .before .before .before .read .ensures in (
+    let r = c .before .before .before .read .ensures in (
       omega arith,
-      framing-more _ _ A _ (omega arith) (omega arith) (l .loop .x) _ _ _ _ (omega arith) (r .0) (r .1) (l .loop .inv .1) (c .before .before .frame .ensures),
-      framing-more _ _ A _ (omega arith) (omega arith) (l .loop .x) _ _ _ _ (omega arith) (r .0) (r .1) (l .loop .inv .2) (c .frame2 .ensures),
+      framing-more _ _ A _ (omega arith) (omega arith) (l .loop .x) _ _ _ _ (omega arith) (r .0) (r .1) (l .loop .inv .1) (c .frame-either .ensures .0),
+      framing-more _ _ A _ (omega arith) (omega arith) (l .loop .x) _ _ _ _ (omega arith) (r .0) (r .1) (l .loop .inv .2) (c .frame-either .ensures .1),
     )
 
 returns : tie.Need-returns Inv-loop μ-loop
@@ -75,8 +67,7 @@ frames-spec =
     μ-loop
     loop-holds
     read-requires
-    frame-requires
-    frame-requires-2
+    frame-either-requires
     add-x
     loop-less
     loop-again

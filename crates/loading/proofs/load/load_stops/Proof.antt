@@ -8,6 +8,7 @@ use lib.ListN.{length, length-set, length-replicate}
 use Rattle.lists.specs.Store.{Written, written-none, written-more, written-all}
 use Rattle.chart.specs.Format.{decode}
 use Rattle.chart.proofs.Records.{nodes-length}
+use Rattle.loading.proofs.Accepted.{region-byte}
 use Rattle.loading.proofs.Loading.{stopOf, stop-byte, stop-past}
 use Rattle.loading.proofs.load.load_stops.Statement.{statement}
 use Rattle.loading.proofs.load.load_stops.Tie as tie
@@ -18,17 +19,20 @@ Inv-loop s chart stops₀ n region x₀ stops x = (x ≤ chart .nodes) × (lengt
 abbrev μ-loop : tie.MeasureT-loop
 μ-loop s chart stops₀ n region x₀ stops x = chart .nodes - x
 
+region-byte-requires : tie.Need-region-byte-requires Inv-loop μ-loop
+region-byte-requires c κs = let e = c .before .before in region-byte _ (e .args .chart) (e .pre)
+
 loop-holds : tie.Need-loop-holds Inv-loop μ-loop
 loop-holds c = (omega arith, length-replicate {A = ℕ} 192 0, written-none _ 192)
 
 read-requires : tie.Need-read-requires Inv-loop μ-loop
-read-requires c κs = (c .before .before .before .before .pre .laid, omega arith)
+read-requires c κs = (c .before .before .before .before .before .pre .laid, omega arith)
 
 stop-requires : tie.Need-stop-requires Inv-loop μ-loop
 stop-requires c κs = search needs
 
 element-write-stops : tie.Need-element-write-stops Inv-loop μ-loop
-element-write-stops c = omega (arith, c .before .before .before .before .before .before .pre .laid .nodes-most)
+element-write-stops c = omega (arith, c .before .before .before .before .before .before .before .pre .laid .nodes-most)
 
 add-x : tie.Need-add-x Inv-loop μ-loop
 add-x c = omega arith
@@ -39,18 +43,19 @@ loop-less c = omega arith
 loop-again : tie.Need-loop-again Inv-loop μ-loop
 loop-again c =
     let l = c .before .before .before in
-    let start = l .before .before .before in
+    let start = l .before .before .before .before in
     let (below, long, stops) = l .loop .inv in
     let fits = start .pre .laid .nodes-most in (
       omega arith,
       length-set (l .loop .stops) _ _ ∙ long,
-      written-more _ (omega arith) (stop-byte _ (start .args .chart) (start .pre) (l .loop .x) _ _ _ (c .before .read .ensures .0) (c .before .read .ensures .1) (c .stop .ensures)) stops,
+      written-more _ (omega arith) (stop-byte _ (start .args .chart) (start .pre) (l .loop .x) _ _ _ (c .before .read .ensures .0) (c .before .read .ensures .1)
+          (rw (l .before .region-byte .ensures) at (c .stop .ensures))) stops,
     )
 
 returns : tie.Need-returns Inv-loop μ-loop
 returns c =
     let l = c .before in
-    let start = l .before .before .before in
+    let start = l .before .before .before .before in
     let (below, long, stops) = l .loop .inv in
     let nodes = decode (start .args .s .now) .nodes in
     let q : length nodes ≡ l .loop .x = omega (arith, nodes-length _ (start .args .chart) (start .pre .laid)) in
@@ -62,6 +67,7 @@ load-stops-spec =
     (tie.spec
     Inv-loop
     μ-loop
+    region-byte-requires
     loop-holds
     read-requires
     stop-requires
