@@ -1,15 +1,8 @@
 -- `distances::distance_byte` meets its contract.
 -- Assumes nothing.
-use borrow.Author.Needs.{needs}
 use borrow.Author.Tests.{eq-eqb, ne-eqb}
 use Rattle.distances.proofs.distance_byte.Statement.{statement}
 use Rattle.distances.proofs.distance_byte.Tie as tie
-
-element-copy-out-level : tie.Need-element-copy-out-level
-element-copy-out-level c = search needs
-
-element-copy-out-if1 : tie.Need-element-copy-out-if1
-element-copy-out-if1 c = search needs
 
 returns : tie.Need-returns
 returns c = rw (eq-eqb _ _ (c .if1 .taken))
@@ -18,4 +11,4 @@ returns-2 : tie.Need-returns-2
 returns-2 c = rw (ne-eqb _ _ (c .if1 .left))
 
 pub distance-byte-spec : {M : Type 1} → statement M
-distance-byte-spec = tie.close (tie.spec element-copy-out-level element-copy-out-if1 returns returns-2)
+distance-byte-spec = tie.close (tie.spec returns returns-2)

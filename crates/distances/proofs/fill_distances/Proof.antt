@@ -3,6 +3,7 @@
 use mathlib.Core.Path.{_≡_, subst}
 use Prim.Native.Nat.{ℕ, _-_, _≤_}
 use native.Mathlib.Omega.{arith}
+use borrow.Author.Needs.{needs}
 use Rattle.distances.proofs.Filling.{byteAt, Filled, filled-none, filled-more, filled-all}
 use Rattle.distances.proofs.fill_distances.Statement.{statement}
 use Rattle.distances.proofs.fill_distances.Tie as tie
@@ -16,11 +17,17 @@ abbrev μ-loop : tie.MeasureT-loop
 loop-holds : tie.Need-loop-holds Inv-loop μ-loop
 loop-holds c = (omega arith, filled-none _ _)
 
+element-copy-out-distance-byte : tie.Need-element-copy-out-distance-byte Inv-loop μ-loop
+element-copy-out-distance-byte c = let l = c .before in omega (arith, l .before .before .pre)
+
+element-copy-out-distance-byte-2 : tie.Need-element-copy-out-distance-byte-2 Inv-loop μ-loop
+element-copy-out-distance-byte-2 c = let l = c .before .before in omega (arith, l .before .before .pre)
+
 distance-byte-requires : tie.Need-distance-byte-requires Inv-loop μ-loop
-distance-byte-requires c κs = let l = c .before in omega (arith, l .before .before .pre)
+distance-byte-requires c κs = search needs
 
 slice-write-out : tie.Need-slice-write-out Inv-loop μ-loop
-slice-write-out c = let l = c .before .before in omega (arith, l .before .before .pre, l .loop .inv .1 .long)
+slice-write-out c = let l = c .before .before .before .before in omega (arith, l .before .before .pre, l .loop .inv .1 .long)
 
 add-x : tie.Need-add-x Inv-loop μ-loop
 add-x c = omega arith
@@ -30,7 +37,7 @@ loop-less c = omega arith
 
 loop-again : tie.Need-loop-again Inv-loop μ-loop
 loop-again c =
-    let l = c .before .before in
+    let l = c .before .before .before .before in
     let e = l .before .before in
     (omega arith, filled-more _ (omega (arith, e .pre, l .loop .inv .1 .long)) (c .distance-byte .ensures) (l .loop .inv .1))
 
@@ -51,6 +58,8 @@ fill-distances-spec =
     Inv-loop
     μ-loop
     loop-holds
+    element-copy-out-distance-byte
+    element-copy-out-distance-byte-2
     distance-byte-requires
     slice-write-out
     add-x
