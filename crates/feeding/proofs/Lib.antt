@@ -1,3 +1,4 @@
 pub mod Feeding
+pub mod Sowing
 pub mod Storing
 pub mod Writing

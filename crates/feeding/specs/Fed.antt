@@ -5,8 +5,9 @@ use mathlib.Core.Logic.{_⊎_}
 use mathlib.Core.List.{List}
 use Prim.Native.Nat.{ℕ, _+_, _^_, _<_}
 use lib.ListN.{length, getD}
-use Rattle.lists.specs.Mask.{Has, Sub}
+use Rattle.lists.specs.Mask.{Has, Sub, Mask}
 use Rattle.sweeps.specs.Sweep.{Between}
+use Rattle.levels.specs.Steps.{Leads}
 
 -- An edge leads to y from a node that has bit b.
 pub record Via (L : ℕ → ℕ → Type 0) (from : List ℕ) (y b : ℕ) : Type 0 where
@@ -27,6 +28,11 @@ pub record Leaves (keys values places sources : List ℕ) (n x y : ℕ) : Type 0
   pub source : ℕ
   pub below : source < n
   pub edge : Between keys values (getD places (getD sources source 0) 0) (getD places (getD sources source 0 + 1) 0) x y
+
+-- The bits of the first n sources stand at the nodes to which their edges lead.
+pub record Sowed (values places sources : List ℕ) (n : ℕ) (masks : List ℕ) : Type 0 where
+  pub long : length masks ≡ 192
+  pub mask : (y : ℕ) → Mask (λ b. Leads values places (getD sources b 0) y) n (getD masks y 0)
 
 -- Each of the first n sources has its own bit at its node.
 pub record Owned (sources : List ℕ) (n : ℕ) (own : List ℕ) : Type 0 where

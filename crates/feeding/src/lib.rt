@@ -1,16 +1,19 @@
 // What comes along edges once: the sources' bits, from their nodes to those to which their edges lead, and what masks bring to the stops;
 // and levels, as they begin and as they are told.
 ghost use mathlib.Core.Path.{_≡_};
+ghost use mathlib.Core.List.{[], _∷_};
 ghost use Prim.Native.Nat.{ℕ, _+_, _≤_, _<_};
 ghost use lib.ListN.{getD, length};
 ghost use Rattle.sweeps.specs.Sweep.{Between};
-ghost use Rattle.feeding.specs.Fed.{Fed, Leaves, Owned, Stored};
+ghost use Rattle.feeding.specs.Fed.{Fed, Leaves, Owned, Sowed, Stored};
+ghost use Rattle.feeding.specs.Levels.{Each, Begins};
 
-pub mod levels;
+pub mod telling;
 
 use bits::bit;
 use chart::cursor::wide;
 use chart::format::Chart;
+use sweeps::levels::NONE;
 
 // Along the edges from place a up to place b.
 pub fn feed(
@@ -54,6 +57,54 @@ pub fn leave(
     while b < total {
         let x = wide(sources[b]);
         feed(keys, values, places[x], places[x + 1], from, masks);
+        b += 1;
+    }
+}
+
+// A source's bit along its edges, from place a up to place b. A node that one leads to has level 1.
+fn sow_edges(
+    values: &[u8; Chart::EDGES],
+    a: usize,
+    b: usize,
+    own: u64,
+    masks: &mut [u64; Chart::NODES],
+    levels: &mut [u8; Chart::NODES],
+)
+    requires { ⌜ (a ≤ b) × (b ≤ 1024) × (0 < own) × (length (now masks) ≡ 192) × Each Begins (now masks) (now levels) ⌝ }
+    requires { ⌜ ((j : ℕ) → getD (now values) j 0 < 192) ⌝ }
+    ensures { λ _. ⌜ Fed (Between [] (now (values .entry)) a b) (own ∷ []) (now (masks .entry)) (now (masks .exit)) ⌝ }
+    ensures { λ _. ⌜ Each Begins (now (masks .exit)) (now (levels .exit)) ⌝ }
+{
+    let mut j = a;
+    while j < b {
+        let y = wide(values[j]);
+        masks[y] = masks[y] | own;
+        levels[y] = 1;
+        j += 1;
+    }
+}
+
+// The bits of the sources, at the nodes to which their edges lead, and levels to start from.
+pub fn sow(
+    values: &[u8; Chart::EDGES],
+    places: &[usize; Chart::PLACES],
+    sources: &[u8; Chart::BARRIERS],
+    total: usize,
+    masks: &mut [u64; Chart::NODES],
+    levels: &mut [u8; Chart::NODES],
+)
+    requires { ⌜ (total ≤ 64) × ((x : ℕ) → x < 192 → (getD (now places) x 0 ≤ getD (now places) (x + 1) 0) × (getD (now places) (x + 1) 0 ≤ 1024)) ⌝ }
+    requires { ⌜ ((j : ℕ) → getD (now values) j 0 < 192) ⌝ }
+    requires { ⌜ ((b : ℕ) → getD (now sources) b 0 < 192) ⌝ }
+    ensures { λ _. ⌜ Sowed (now (values .entry)) (now (places .entry)) (now (sources .entry)) total (now (masks .exit)) ⌝ }
+    ensures { λ _. ⌜ Each Begins (now (masks .exit)) (now (levels .exit)) ⌝ }
+{
+    *masks = [0u64; Chart::NODES];
+    *levels = [NONE; Chart::NODES];
+    let mut b = 0;
+    while b < total {
+        let x = wide(sources[b]);
+        sow_edges(values, places[x], places[x + 1], bit(b), masks, levels);
         b += 1;
     }
 }

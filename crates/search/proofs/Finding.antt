@@ -10,7 +10,7 @@ use lib.Bits.{bitOr}
 use lib.Pow.{pow-pos, pow-mono}
 use lib.ListN.{length, getD, replicate, length-replicate, List·getD-eq-default}
 use lib.Seq.{getD-set-other}
-use Rattle.lists.specs.Mask.{Has, Sub, Mask, has-none}
+use Rattle.lists.specs.Mask.{Has, Sub, Mask, mask-carry, has-none}
 use Rattle.lists.specs.Store.{zeros}
 use Rattle.paths.specs.Path.{Path, last, next}
 use Rattle.paths.specs.PathLaws.{append, final}
@@ -22,7 +22,7 @@ use Rattle.sweeps.specs.Sweep.{Between, Lies, Carried, Closed}
 use Rattle.sweeps.specs.SweepLaws.{Inner, carried, carried-long, masks-found}
 use Rattle.splitting.specs.Parts.{row, Come, Split}
 use Rattle.splitting.proofs.Splitting.{parted-inner, parted-turned}
-use Rattle.feeding.specs.Fed.{Fed, Leaves, Owned, Stored}
+use Rattle.feeding.specs.Fed.{Fed, Leaves, Owned, Sowed, Stored}
 use Rattle.levels.specs.Steps.{Leads, Bounded}
 use Rattle.search.specs.Search.{Standing, Sown, Spread, Marked}
 
@@ -186,13 +186,9 @@ leaves-turned w = record { source = w .source; below = w .below; edge = between-
 
 module _ {edges : List (List ℕ)} {e : ℕ} {stops : List ℕ} {ups low ins : ℕ} (T : Split edges e stops ups low ins) {sources : List ℕ} {total : ℕ} where
   -- forward, from any sources
-  pub sown-ahead : {places own s : List ℕ} → ((b : ℕ) → getD sources b 0 < 192) → Places (row edges 0) e places → Owned sources total own
-      → Fed (Leaves (row edges 0) (row edges 1) places sources total) own (replicate 192 0) s
+  pub sown-ahead : {places s : List ℕ} → Places (row edges 0) e places → Sowed (row edges 1) places sources total s
       → Sown (Listed (row edges 0) (row edges 1) e) sources total s
-  sown-ahead below P o f = record {
-    long = f .long ∙ length-replicate {A = ℕ} 192 0;
-    mask = seeds o f (λ x y w. leaves-listed T P below x y w .0) (listed-leaves T P below);
-  }
+  sown-ahead P w = record { long = w .long; mask = λ y. mask-carry (λ b l v. leads-listed T P _ y v) (λ b l v. listed-leads T P _ y v) (w .mask y) }
 
   pub spread-ahead : {s t : List ℕ} → Sown (Listed (row edges 0) (row edges 1) e) sources total s
       → Carried bitOr (Lies (row edges 2) (row edges 3) ups low) s t → Closed Sub (Lies (row edges 2) (row edges 3) ups low) t

@@ -10,6 +10,7 @@ ghost use lib.ListN.{getD, length};
 ghost use Rattle.paths.specs.Graph.{Listed, Places};
 ghost use Rattle.paths.specs.Found.{Clear, Leveled};
 ghost use Rattle.splitting.specs.Parts.{row, Split};
+ghost use Rattle.feeding.specs.Levels.{Each, Begins};
 ghost use Rattle.search.specs.Search.{Ready, Standing, Sown, Spread, Marked, Lone, Settled};
 
 pub mod nearest;
@@ -20,36 +21,28 @@ use chart::format::Chart;
 use feeding::clear;
 use feeding::feed;
 use feeding::leave;
-use feeding::levels::show;
+use feeding::sow;
 use feeding::stand;
+use feeding::telling::show;
 use splitting::Extent;
 use splitting::Parts;
 use sweeps::close::close;
 
-// The bits of the sources, at the nodes to which their edges lead.
+// The bits of the sources, at the nodes to which their edges lead, and levels to start from.
 fn depart(
     edges: &[[u8; Chart::EDGES]; Parts::ROWS],
     places: &[usize; Chart::PLACES],
     sources: &[u8; Chart::BARRIERS],
     total: usize,
     masks: &mut [u64; Chart::NODES],
+    levels: &mut [u8; Chart::NODES],
 )
     requires { ⌜ (total ≤ 64) × ((ups : ℕ) × (low : ℕ) × (ins : ℕ) × Ready (now edges) (now places) ups low ins) ⌝ }
     requires { ⌜ ((b : ℕ) → getD (now sources) b 0 < 192) ⌝ }
     ensures { λ _. ⌜ ((e : ℕ) (stops : List ℕ) (ups low ins : ℕ) → Split (now (edges .entry)) e stops ups low ins → Places (row (now (edges .entry)) 0) e (now (places .entry)) → Sown (Listed (row (now (edges .entry)) 0) (row (now (edges .entry)) 1) e) (now (sources .entry)) total (now (masks .exit))) ⌝ }
+    ensures { λ _. ⌜ Each Begins (now (masks .exit)) (now (levels .exit)) ⌝ }
 {
-    let mut own = [0u64; Chart::NODES];
-    stand(sources, total, &mut own);
-    *masks = [0u64; Chart::NODES];
-    leave(
-        &edges[Parts::FROM],
-        &edges[Parts::TO],
-        places,
-        sources,
-        total,
-        &own,
-        masks,
-    );
+    sow(&edges[Parts::TO], places, sources, total, masks, levels);
 }
 
 // On from there, past no stop.
@@ -81,7 +74,8 @@ pub fn ahead(
     requires { ⌜ ((b : ℕ) → getD (now sources) b 0 < 192) ⌝ }
     ensures { λ _. ⌜ ((e : ℕ) (stops : List ℕ) → Split (now (edges .entry)) e stops (parts .ups) (parts .low) (parts .ins) → Places (row (now (edges .entry)) 0) e (now (places .entry)) → Spread (Listed (row (now (edges .entry)) 0) (row (now (edges .entry)) 1) e) stops (now (sources .entry)) total (now (masks .exit))) ⌝ }
 {
-    depart(edges, places, sources, total, masks);
+    let mut levels = [0u8; Chart::NODES];
+    depart(edges, places, sources, total, masks, &mut levels);
     proceed(edges, parts, masks);
 }
 
@@ -188,8 +182,8 @@ pub fn starts(
 {
     let total = extent.barriers;
     let parts = extent.parts;
-    depart(edges, places, nodes, total, masks);
-    fewest(edges, places, extent, nodes, masks, levels);
+    depart(edges, places, nodes, total, masks, levels);
+    fewest(edges, places, extent, nodes, levels);
     onward(edges, places, extent, nodes, levels, masks);
     *all = *masks;
     clear(nodes, total, masks);

@@ -5,27 +5,22 @@ ghost use lib.ListN.{getD};
 ghost use Rattle.paths.specs.Graph.{Listed, Places};
 ghost use Rattle.paths.specs.Found.{Clear, Leveled};
 ghost use Rattle.splitting.specs.Parts.{row, Split};
+ghost use Rattle.feeding.specs.Levels.{Each, Begins};
 ghost use Rattle.search.specs.Search.{Ready, Standing, Sown};
 use chart::format::Chart;
-use feeding::levels::begin;
-use feeding::levels::tell;
 use feeding::mark;
+use feeding::telling::tell;
 use levels::search;
 use splitting::Extent;
 use splitting::Parts;
 use sweeps::levels::measure;
 
-// The levels of the nodes that may be passed, from the masks of the sources that have an edge to each node.
-fn swept(
-    edges: &[[u8; Chart::EDGES]; Parts::ROWS],
-    parts: Parts,
-    masks: &[u64; Chart::NODES],
-    levels: &mut [u8; Chart::NODES],
-)
+// The levels of the nodes that may be passed, from those of the nodes to which the sources' edges lead.
+fn swept(edges: &[[u8; Chart::EDGES]; Parts::ROWS], parts: Parts, levels: &mut [u8; Chart::NODES])
     requires { ⌜ ((e : ℕ) × (stops : List ℕ) × Split (now edges) e stops (parts .ups) (parts .low) (parts .ins)) ⌝ }
-    ensures { λ _. ⌜ ((e : ℕ) (stops sources : List ℕ) (total : ℕ) → Split (now (edges .entry)) e stops (parts .ups) (parts .low) (parts .ins) → Sown (Listed (row (now (edges .entry)) 0) (row (now (edges .entry)) 1) e) sources total (now (masks .entry)) → Leveled (Listed (row (now (edges .entry)) 0) (row (now (edges .entry)) 1) e) (Clear stops) (Clear stops) sources total (now (levels .exit))) ⌝ }
+    requires { ⌜ ((masks : List ℕ) × Each Begins masks (now levels)) ⌝ }
+    ensures { λ _. ⌜ ((e : ℕ) (stops sources masks : List ℕ) (total : ℕ) → Split (now (edges .entry)) e stops (parts .ups) (parts .low) (parts .ins) → Sown (Listed (row (now (edges .entry)) 0) (row (now (edges .entry)) 1) e) sources total masks → Each Begins masks (now (levels .entry)) → Leveled (Listed (row (now (edges .entry)) 0) (row (now (edges .entry)) 1) e) (Clear stops) (Clear stops) sources total (now (levels .exit))) ⌝ }
 {
-    begin(masks, levels);
     measure(
         &edges[Parts::PLAIN_FROM],
         &edges[Parts::PLAIN_TO],
@@ -71,16 +66,16 @@ pub fn fewest(
     places: &[usize; Chart::PLACES],
     extent: Extent,
     nodes: &[u8; Chart::BARRIERS],
-    masks: &[u64; Chart::NODES],
     levels: &mut [u8; Chart::NODES],
 )
     requires { ⌜ (extent .barriers ≤ 64) × Ready (now edges) (now places) (extent .parts .ups) (extent .parts .low) (extent .parts .ins) ⌝ }
     requires { ⌜ ((b : ℕ) → getD (now nodes) b 0 < 192) ⌝ }
-    ensures { λ _. ⌜ ((e : ℕ) (stops : List ℕ) → Split (now (edges .entry)) e stops (extent .parts .ups) (extent .parts .low) (extent .parts .ins) → Places (row (now (edges .entry)) 0) e (now (places .entry)) → Standing stops (now (nodes .entry)) (extent .barriers) → Sown (Listed (row (now (edges .entry)) 0) (row (now (edges .entry)) 1) e) (now (nodes .entry)) (extent .barriers) (now (masks .entry)) → Leveled (Listed (row (now (edges .entry)) 0) (row (now (edges .entry)) 1) e) (Clear stops) (Clear stops) (now (nodes .entry)) (extent .barriers) (now (levels .exit))) ⌝ }
+    requires { ⌜ ((masks : List ℕ) × Each Begins masks (now levels)) ⌝ }
+    ensures { λ _. ⌜ ((e : ℕ) (stops masks : List ℕ) → Split (now (edges .entry)) e stops (extent .parts .ups) (extent .parts .low) (extent .parts .ins) → Places (row (now (edges .entry)) 0) e (now (places .entry)) → Standing stops (now (nodes .entry)) (extent .barriers) → Sown (Listed (row (now (edges .entry)) 0) (row (now (edges .entry)) 1) e) (now (nodes .entry)) (extent .barriers) masks → Each Begins masks (now (levels .entry)) → Leveled (Listed (row (now (edges .entry)) 0) (row (now (edges .entry)) 1) e) (Clear stops) (Clear stops) (now (nodes .entry)) (extent .barriers) (now (levels .exit))) ⌝ }
 {
     if far(extent.parts, extent.barriers) {
         searched(edges, places, nodes, extent.barriers, levels);
         return;
     }
-    swept(edges, extent.parts, masks, levels);
+    swept(edges, extent.parts, levels);
 }

@@ -8,30 +8,31 @@ use Rattle.search.proofs.starts.Tie as tie
 
 -- where the function was called
 abbrev start : (c : tie.After-depart) → tie.Start
-start c = c .before .before .before
+start c = c .before .before .before .before
 
 -- where the sources' edges have been followed, and all edges
 abbrev left : (c : tie.After-onward) → tie.After-depart
-left c = c .before .before .before .before .before .before
+left c = c .before .before .before .before .before
 
 abbrev gone : (c : tie.After-clear) → tie.After-onward
 gone c = c .before .before .before
 
 depart-requires : tie.Need-depart-requires
 depart-requires c κs =
-    let ((few, ready), nodes) = c .before .before .pre in
+    let ((few, ready), nodes) = c .before .before .before .pre in
     ((few, (_, _, _, ready)), nodes)
 
 fewest-requires : tie.Need-fewest-requires
 fewest-requires c κs =
-    let ((few, ready), nodes) = start (c .before .before) .pre in
-    ((few, ready), nodes)
+    let departed = c .before in
+    let ((few, ready), nodes) = start departed .pre in
+    ((few, ready), (nodes, (_, departed .depart .ensures .1)))
 
 onward-requires : tie.Need-onward-requires
 onward-requires c κs =
-    let departed = c .before .before .before .before .before in
+    let departed = c .before .before .before .before in
     let ((few, ready), nodes) = start departed .pre in
-    let w = departed .depart .ensures _ _ _ _ _ (ready .split) (ready .begins) in
+    let w = departed .depart .ensures .0 _ _ _ _ _ (ready .split) (ready .begins) in
     ((few, nodes), (_, _, ready .split, w))
 
 clear-requires : tie.Need-clear-requires
@@ -56,8 +57,8 @@ returns : tie.Need-returns
 returns c = λ e stops T P S.
     let cleared = c .before .before .before .before .before in
     let p = gone cleared in
-    let w = left p .depart .ensures e stops _ _ _ T P in
-    let v = p .before .before .before .fewest .ensures e stops T P S w in
+    let w = left p .depart .ensures .0 e stops _ _ _ T P in
+    let v = p .before .before .before .fewest .ensures e stops _ T P S w (left p .depart .ensures .1) in
     (marked-starts T S (p .onward .ensures .0 e stops T P S w v) (cleared .clear .ensures) (c .feed .ensures), v)
 
 pub starts-spec : {M : Type 1} → statement M

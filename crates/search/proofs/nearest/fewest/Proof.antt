@@ -10,13 +10,13 @@ searched-requires : tie.Need-searched-requires
 searched-requires c κs = search needs
 
 returns : tie.Need-returns
-returns c = λ e stops T P S w. c .searched .ensures e stops _ _ _ T P S
+returns c = λ e stops masks T P S w B. c .searched .ensures e stops _ _ _ T P S
 
 swept-requires : tie.Need-swept-requires
 swept-requires c κs = search needs
 
 returns-2 : tie.Need-returns-2
-returns-2 c = λ e stops T P S w. c .swept .ensures e stops _ _ T w
+returns-2 c = λ e stops masks T P S w B. c .swept .ensures e stops _ masks _ T w B
 
 pub fewest-spec : {M : Type 1} → statement M
 fewest-spec = tie.close (tie.spec far-requires searched-requires returns swept-requires returns-2)

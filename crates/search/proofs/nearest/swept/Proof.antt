@@ -1,4 +1,4 @@
--- `search::nearest::swept` meets its contract: levels to start from, then sweeps.
+-- `search::nearest::swept` meets its contract: sweeps, then the levels as they are told.
 -- Assumes nothing.
 use native.Mathlib.Omega.{arith}
 use borrow.Author.Needs.{needs}
@@ -8,9 +8,6 @@ use Rattle.search.proofs.Leveling.{begins-fit, leveled-ahead}
 use Rattle.search.proofs.nearest.swept.Statement.{statement}
 use Rattle.search.proofs.nearest.swept.Tie as tie
 
-begin-requires : tie.Need-begin-requires
-begin-requires c κs = search needs
-
 index-1-measure : tie.Need-index-1-measure
 index-1-measure c = search needs
 
@@ -19,27 +16,24 @@ index-1-measure-2 c = search needs
 
 measure-requires : tie.Need-measure-requires
 measure-requires c κs =
-    let begun = c .before .before .before in
-    let (e, stops, T) = begun .before .before .pre in
+    let ((e, stops, T), (masks, B)) = c .before .before .before .pre in
     let P = T .plain in
-    let B = begun .begin .ensures in
     ((omega (arith, P .few, P .top, T .few), P .top, B .long), (P .node-s, (P .node-t, (begins-fit B, (ups-ahead P, downs-ahead P)))))
 
 tell-requires : tie.Need-tell-requires
 tell-requires c κs =
     let swept = c .before in
-    carried-long (swept .before .before .before .before .begin .ensures .long) (swept .measure .ensures .0)
+    carried-long (swept .before .before .before .before .pre .1 .1 .long) (swept .measure .ensures .0)
 
 returns : tie.Need-returns
-returns c = λ e stops sources total T w.
+returns c = λ e stops sources masks total T w B.
     let swept = c .before .before in
-    leveled-ahead T w (swept .before .before .before .before .begin .ensures) (swept .measure .ensures .0) (swept .measure .ensures .1) (c .tell .ensures)
+    leveled-ahead T w B (swept .measure .ensures .0) (swept .measure .ensures .1) (c .tell .ensures)
 
 pub swept-spec : {M : Type 1} → statement M
 swept-spec =
     tie.close
     (tie.spec
-    begin-requires
     index-1-measure
     index-1-measure-2
     measure-requires

@@ -1,4 +1,4 @@
--- `feeding::levels::tell` meets its contract: after y turns the first y levels are told.
+-- `feeding::telling::tell` meets its contract: after y turns the first y levels are told.
 -- Assumes nothing.
 use mathlib.Core.Path.{_≡_}
 use Prim.Native.Nat.{_≤_, _-_}
@@ -6,8 +6,8 @@ use native.Mathlib.Omega.{arith}
 use borrow.Author.Needs.{needs}
 use Rattle.feeding.specs.Levels.{Tells}
 use Rattle.feeding.proofs.Writing.{Writing, writing-none, writing-more, writing-all}
-use Rattle.feeding.proofs.levels.tell.Statement.{statement}
-use Rattle.feeding.proofs.levels.tell.Tie as tie
+use Rattle.feeding.proofs.telling.tell.Statement.{statement}
+use Rattle.feeding.proofs.telling.tell.Tie as tie
 
 abbrev Inv-loop : tie.InvT-loop
 Inv-loop levels₀ y₀ levels y = (y ≤ 192) × Writing Tells levels₀ y levels₀ levels

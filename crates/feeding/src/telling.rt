@@ -1,30 +1,9 @@
-// Levels as they begin, 1 where the sources' edges lead, and as they are told, 0 for none; and masks that they tell.
+// Levels as they are told, 0 for none, and masks that they tell.
 ghost use mathlib.Core.Path.{_≡_};
 ghost use lib.ListN.{length};
-ghost use Rattle.feeding.specs.Levels.{Each, Begins, Tells, Shows};
+ghost use Rattle.feeding.specs.Levels.{Each, Tells, Shows};
 use chart::format::Chart;
 use sweeps::levels::NONE;
-
-// The level of a node with this mask of sources that have an edge to it.
-fn first(mask: u64) -> u8
-    ensures { λ r. ⌜ Begins mask r ⌝ }
-{
-    if mask == 0 {
-        return NONE;
-    }
-    1
-}
-
-pub fn begin(masks: &[u64; Chart::NODES], levels: &mut [u8; Chart::NODES])
-    ensures { λ _. ⌜ Each Begins (now (masks .entry)) (now (levels .exit)) ⌝ }
-{
-    *levels = [0u8; Chart::NODES];
-    let mut y = 0;
-    while y < Chart::NODES {
-        levels[y] = first(masks[y]);
-        y += 1;
-    }
-}
 
 // A level as it is told: 0 for none.
 fn told(level: u8) -> u8

@@ -1,4 +1,4 @@
--- `feeding::levels::show` meets its contract: after y turns the first y masks are written.
+-- `feeding::telling::show` meets its contract: after y turns the first y masks are written.
 -- Assumes nothing.
 use mathlib.Core.Path.{_≡_}
 use Prim.Native.Nat.{_≤_, _-_}
@@ -6,8 +6,8 @@ use native.Mathlib.Omega.{arith}
 use borrow.Author.Needs.{needs}
 use Rattle.feeding.specs.Levels.{Shows}
 use Rattle.feeding.proofs.Writing.{Writing, writing-none, writing-more, writing-all}
-use Rattle.feeding.proofs.levels.show.Statement.{statement}
-use Rattle.feeding.proofs.levels.show.Tie as tie
+use Rattle.feeding.proofs.telling.show.Statement.{statement}
+use Rattle.feeding.proofs.telling.show.Tie as tie
 
 abbrev Inv-loop : tie.InvT-loop
 Inv-loop levels masks₀ y₀ masks y = (y ≤ 192) × Writing Shows levels y masks₀ masks
