@@ -15,9 +15,9 @@ use Rattle.unions.specs.declared.Words.{Words}
 use Rattle.nodesets.specs.Shared.{shared}
 use Rattle.profiles.specs.Marks.{startsIn, endsIn, heldIn}
 use Rattle.pairs.specs.declared.rules.Profile.{Profile}
-use Rattle.sheets.specs.Sheet.{SharedFrom}
-use Rattle.sheets.proofs.Ranks.{has-and, bit-is}
-use Rattle.sheets.proofs.RowSets.{three-words}
+use Rattle.sheet_rows.specs.Sheet.{SharedFrom}
+use Rattle.sheet_rows.proofs.Ranks.{has-and, bit-is}
+use Rattle.sheet_rows.proofs.RowSets.{three-words}
 use Rattle.race_rows.specs.Bytes.{lineRace}
 use Rattle.race_lines.specs.Lines.{meets, MetFrom, Met, Named, raceBy, LineOf}
 

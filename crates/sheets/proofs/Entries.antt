@@ -21,7 +21,7 @@ use Rattle.profiles.specs.declared.chains.Sets.{Sets}
 use Rattle.pairs.specs.Rules.{profileAt, answer-by}
 use Rattle.eights.specs.Eights.{covered}
 use Rattle.pairs.specs.declared.rules.Profile.{Profile}
-use Rattle.sheets.specs.Sheet.{rowOf}
+use Rattle.sheet_rows.specs.Sheet.{rowOf}
 
 -- what a flag says
 module _ {R : Region} {closed : List ℕ} (C : Closed R closed) (x : ℕ) (l : x < R .nodes) where

@@ -1,4 +1,4 @@
-// The sheet, row by row, from sets of nodes (`rows`).
+// The sheet, row by row, from sets of nodes (`sheet_rows`).
 ghost use mathlib.Core.Path.{_≡_};
 ghost use mathlib.Core.Bool.{true};
 ghost use mathlib.Core.List.{_++_};
@@ -11,11 +11,6 @@ ghost use Rattle.answers.specs.Numbers.{asked};
 ghost use Rattle.answers.specs.Sheet.{entry as entryOf, row, sheet};
 ghost use Rattle.loading.specs.Tables.{Accepted, Closed};
 ghost use Rattle.profiles.specs.Marks.{Marks};
-use crate::rows::NodeSets;
-use crate::rows::SETS;
-use crate::rows::gather_all;
-use crate::rows::keep_row;
-use crate::rows::work_row;
 use answers::Size;
 use chart::format::Chart;
 use eights::BYTES;
@@ -28,8 +23,11 @@ use pairs::rules::profile_of;
 use profiles::chains::Sets;
 use profiles::marks::MaskTable;
 use profiles::sizes::sets_for;
-
-pub mod rows;
+use sheet_rows::NodeSets;
+use sheet_rows::SETS;
+use sheet_rows::gather_all;
+use sheet_rows::keep_row;
+use sheet_rows::work_row;
 
 // The scratch row, copied.
 fn copy_row(last: &[u8; Chart::NODES], out: &mut [u8])

@@ -7,7 +7,7 @@ use native.Mathlib.Omega.{arith}
 use lib.ListN.{length, getD, length-set}
 use Rattle.pairs.specs.Rules.{profileAt}
 use Rattle.pairs.specs.declared.rules.Profile.{Profile}
-use Rattle.sheets.proofs.RowSets.{stored-row}
+use Rattle.sheet_rows.proofs.RowSets.{stored-row}
 use Rattle.race_lines.specs.Lines.{Met, LineOf}
 use Rattle.race_lines.proofs.fill_lines.Statement.{statement}
 use Rattle.race_lines.proofs.fill_lines.Tie as tie

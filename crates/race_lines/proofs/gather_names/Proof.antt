@@ -6,7 +6,7 @@ use Prim.Native.Nat.{ℕ, _*_, _-_, _≤_, _<_}
 use native.Mathlib.Omega.{arith}
 use lib.ListN.{length, getD, length-set}
 use Rattle.nodesets.specs.Gathered.{Gathered}
-use Rattle.sheets.proofs.RowSets.{stored-row}
+use Rattle.sheet_rows.proofs.RowSets.{stored-row}
 use Rattle.race_lines.proofs.gather_names.Statement.{statement}
 use Rattle.race_lines.proofs.gather_names.Tie as tie
 

@@ -1,6 +1,6 @@
 -- `race_lines::without` meets its contract.
 -- Assumes nothing.
-use Rattle.sheets.proofs.Ranks.{has-without}
+use Rattle.sheet_rows.proofs.Ranks.{has-without}
 use Rattle.race_lines.proofs.without.Statement.{statement}
 use Rattle.race_lines.proofs.without.Tie as tie
 

@@ -8,7 +8,7 @@ use lib.ListN.{length, getD}
 use Rattle.chart.specs.Region.{Region}
 use Rattle.chart.specs.Checked.{reading}
 use Rattle.chart.proofs.Records.{nodes-length}
-use Rattle.sheets.specs.Sheet.{rowOf}
+use Rattle.sheet_rows.specs.Sheet.{rowOf}
 use Rattle.lists.specs.Rows.{square, row-room, row-end, after, after-none, after-length, after-more, after-all, part-length}
 use Rattle.answers.specs.Answer.{answerFor}
 use Rattle.answers.specs.Sheet.{entry, row, sheet}

@@ -25,8 +25,8 @@ use Rattle.eights.specs.Eights.{covered, digit}
 use Rattle.eights.specs.declared.Planes.{Planes}
 use Rattle.pairs.specs.Rules.{profileAt, ruledBy, answerBy}
 use Rattle.pairs.specs.declared.rules.Profile.{Profile}
-use Rattle.sheets.specs.Sheet.{rowOf, byRules, bySize, InSets, SharedFrom, Sharing}
-use Rattle.sheets.proofs.Ranks.{has-and}
+use Rattle.sheet_rows.specs.Sheet.{rowOf, byRules, bySize, InSets, SharedFrom, Sharing}
+use Rattle.sheet_rows.proofs.Ranks.{has-and}
 
 -- three masks have a bit in common, whichever two are met first
 turned : (x m y : ℕ) → common (bitAnd x m) y ≡ true → common (bitAnd x y) m ≡ true

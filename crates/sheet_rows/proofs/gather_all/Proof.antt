@@ -1,4 +1,4 @@
--- `sheets::rows::gather_all` meets its contract. The loop's invariant: the sets passed are there.
+-- `sheet_rows::gather_all` meets its contract. The loop's invariant: the sets passed are there.
 -- Assumes nothing.
 use mathlib.Core.Path.{_≡_, refl, ap, sym, _∙_}
 use mathlib.Core.List.{List, []}
@@ -8,9 +8,9 @@ use lib.ListN.{length, getD, length-set}
 use lib.Seq.{getD-set-same, getD-set-other}
 use borrow.Author.Needs.{needs}
 use Rattle.nodesets.specs.Gathered.{Gathered}
-use Rattle.sheets.proofs.RowSets.{stored-row}
-use Rattle.sheets.proofs.rows.gather_all.Statement.{statement}
-use Rattle.sheets.proofs.rows.gather_all.Tie as tie
+use Rattle.sheet_rows.proofs.RowSets.{stored-row}
+use Rattle.sheet_rows.proofs.gather_all.Statement.{statement}
+use Rattle.sheet_rows.proofs.gather_all.Tie as tie
 
 abbrev Inv-loop : tie.InvT-loop
 Inv-loop marks closed nodes₀ k₀ nodes k =

@@ -1,9 +1,9 @@
--- `sheets::rows::planes` meets its contract.
+-- `sheet_rows::planes` meets its contract.
 -- Assumes nothing.
 use Rattle.eights.specs.Eights.{digit}
-use Rattle.sheets.proofs.Ranks.{planes-rank}
-use Rattle.sheets.proofs.rows.planes.Statement.{statement}
-use Rattle.sheets.proofs.rows.planes.Tie as tie
+use Rattle.sheet_rows.proofs.Ranks.{planes-rank}
+use Rattle.sheet_rows.proofs.planes.Statement.{statement}
+use Rattle.sheet_rows.proofs.planes.Tie as tie
 
 returns : tie.Need-returns
 unfolding digit

@@ -6,7 +6,7 @@ ghost use Prim.Native.Nat.{ℕ, _<_};
 ghost use lib.ListN.{length, getD};
 ghost use Rattle.lists.specs.Bits.{has};
 ghost use Rattle.eights.specs.Eights.{Spread, digit};
-ghost use Rattle.sheets.specs.Sheet.{byRules, bySize, rowOf, InSets, Sharing};
+ghost use Rattle.sheet_rows.specs.Sheet.{byRules, bySize, rowOf, InSets, Sharing};
 use bits::common;
 use chart::format::Chart;
 use eights::BYTES;

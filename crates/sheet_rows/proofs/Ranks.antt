@@ -14,7 +14,7 @@ use Rattle.lists.specs.Truth.{truth, same-truth, and-both, both-and, or-cases a
 use Rattle.lists.specs.Mask.{maskOf, mask-of, or-cases, or-left, or-right}
 use Rattle.lists.specs.Bits.{has}
 use Rattle.lists.specs.Common.{and-both as common-both, both-and as both-common}
-use Rattle.sheets.specs.Sheet.{byRules}
+use Rattle.sheet_rows.specs.Sheet.{byRules}
 
 pub has-and : (a b j : ℕ) → has (bitAnd a b) j ≡ (has a j && has b j)
 has-and a b j = same-truth _ _ (λ h. let (p, q) = common-both a b j (eqb-true _ 1 h) in both-and _ _ (eq-eqb _ 1 p) (eq-eqb _ 1 q))

@@ -1,13 +1,13 @@
--- `sheets::rows::work_row` meets its contract.
+-- `sheet_rows::work_row` meets its contract.
 -- Assumes nothing.
 use mathlib.Core.Path.{_≡_, refl, ap, sym, _∙_}
 use Prim.Native.Nat.{ℕ, _+_, _*_}
 use native.Mathlib.Omega.{arith}
 use lib.ListN.{getD}
-use Rattle.sheets.specs.Sheet.{rowOf}
-use Rattle.sheets.proofs.RowSets.{low-row, middle-row, high-row, three-words}
-use Rattle.sheets.proofs.rows.work_row.Statement.{statement}
-use Rattle.sheets.proofs.rows.work_row.Tie as tie
+use Rattle.sheet_rows.specs.Sheet.{rowOf}
+use Rattle.sheet_rows.proofs.RowSets.{low-row, middle-row, high-row, three-words}
+use Rattle.sheet_rows.proofs.work_row.Statement.{statement}
+use Rattle.sheet_rows.proofs.work_row.Tie as tie
 
 -- where all sets were found, and where the function was called
 abbrev start : tie.After-common → tie.Start

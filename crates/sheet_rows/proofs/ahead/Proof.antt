@@ -1,11 +1,11 @@
--- `sheets::rows::ahead` meets its contract.
+-- `sheet_rows::ahead` meets its contract.
 -- Assumes nothing.
 use mathlib.Core.Path.{sym, _∙_}
 use Rattle.eights.specs.Eights.{digit}
-use Rattle.sheets.specs.Sheet.{bySize}
-use Rattle.sheets.proofs.Ranks.{alone-digit, lacks-digit, ahead-digit}
-use Rattle.sheets.proofs.rows.ahead.Statement.{statement}
-use Rattle.sheets.proofs.rows.ahead.Tie as tie
+use Rattle.sheet_rows.specs.Sheet.{bySize}
+use Rattle.sheet_rows.proofs.Ranks.{alone-digit, lacks-digit, ahead-digit}
+use Rattle.sheet_rows.proofs.ahead.Statement.{statement}
+use Rattle.sheet_rows.proofs.ahead.Tie as tie
 
 returns : tie.Need-returns
 unfolding digit bySize

@@ -1,10 +1,10 @@
--- `sheets::rows::sharing` meets its contract.
+-- `sheet_rows::sharing` meets its contract.
 -- Assumes nothing.
 use mathlib.Core.Path.{_≡_, refl, ap, sym, _∙_}
 use native.Mathlib.Omega.{arith}
-use Rattle.sheets.proofs.RowSets.{sharing-by}
-use Rattle.sheets.proofs.rows.sharing.Statement.{statement}
-use Rattle.sheets.proofs.rows.sharing.Tie as tie
+use Rattle.sheet_rows.proofs.RowSets.{sharing-by}
+use Rattle.sheet_rows.proofs.sharing.Statement.{statement}
+use Rattle.sheet_rows.proofs.sharing.Tie as tie
 
 mul-k : tie.Need-mul-k
 mul-k c = omega arith

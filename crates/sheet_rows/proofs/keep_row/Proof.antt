@@ -1,10 +1,10 @@
--- `sheets::rows::keep_row` meets its contract.
+-- `sheet_rows::keep_row` meets its contract.
 -- Assumes nothing.
 use mathlib.Core.Path.{_≡_, refl, ap, sym, _∙_}
 use native.Mathlib.Omega.{arith}
 use borrow.Author.Needs.{needs}
-use Rattle.sheets.proofs.rows.keep_row.Statement.{statement}
-use Rattle.sheets.proofs.rows.keep_row.Tie as tie
+use Rattle.sheet_rows.proofs.keep_row.Statement.{statement}
+use Rattle.sheet_rows.proofs.keep_row.Tie as tie
 
 returns : tie.Need-returns
 returns c = (c .before .pre .1, λ z. absurd (c .if1 .taken z), λ shut marks I h. h)
