@@ -12,9 +12,10 @@ use Rattle.chart.specs.Region.{Region}
 use Rattle.team.specs.State.{initial}
 use Rattle.traces.specs.Replay.{together, begun}
 use Rattle.replay_steps.specs.Tables.{Shows}
-use Rattle.replay.specs.Playing.{Sheet, Kept, Playing}
-use Rattle.replay.proofs.Releases.{Fresh}
-use Rattle.replay.proofs.Choices.{playing-reached}
+use Rattle.replay_marks.specs.Marks.{Sheet, Kept}
+use Rattle.replay_feed.specs.Playing.{Playing}
+use Rattle.replay_feed.proofs.Releases.{Fresh}
+use Rattle.replay_feed.proofs.Choices.{playing-reached}
 
 pub same-at : (n i v : ℕ) → i < n → getD (replicate n v) i 0 ≡ v
 same-at zero i v l = absurd (omega arith)

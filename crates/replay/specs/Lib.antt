@@ -1,2 +1,1 @@
 pub mod Team
-pub mod Playing

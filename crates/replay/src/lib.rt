@@ -1,7 +1,4 @@
 // The replay of a recorded run (02, Note 11), by value: what the trace leads to, in a `Team`, and the pairs met, in a lent buffer.
-pub mod feed;
-pub mod marks;
-pub mod play;
 pub mod records;
 pub mod run;
 pub mod start;

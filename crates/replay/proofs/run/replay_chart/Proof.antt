@@ -9,8 +9,8 @@ use Rattle.lists.specs.Rows.{square}
 use Rattle.chart.specs.Checked.{reading}
 use Rattle.chart.proofs.Records.{nodes-length}
 use Rattle.team.specs.State.{initial}
-use Rattle.replay.specs.Playing.{Kept}
-use Rattle.replay.proofs.Sheets.{sheet-size, kept-size, kept-then}
+use Rattle.replay_marks.specs.Marks.{Kept}
+use Rattle.replay_marks.proofs.Sheets.{sheet-size, kept-size, kept-then}
 use Rattle.replay.proofs.Begun.{sheet-blank, playing-begun, kept-cleared}
 use Rattle.replay.proofs.Results.{sheet-content, room-for}
 use Rattle.replay.proofs.run.replay_chart.Statement.{statement}

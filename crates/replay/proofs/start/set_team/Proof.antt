@@ -4,7 +4,7 @@ use mathlib.Core.Path.{_≡_, refl, sym, _∙_, subst}
 use Prim.Native.Nat.{ℕ, _+_, _-_, _≤_}
 use native.Mathlib.Omega.{arith}
 use lib.ListN.{getD, replicate}
-use Rattle.replay.proofs.Releases.{Fresh, fresh-none, fresh-more}
+use Rattle.replay_feed.proofs.Releases.{Fresh, fresh-none, fresh-more}
 use Rattle.replay.proofs.Begun.{same-at, shows-begun}
 use borrow.Author.Needs.{needs}
 use Rattle.replay.proofs.start.set_team.Statement.{statement}

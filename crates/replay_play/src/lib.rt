@@ -1,0 +1,42 @@
+// All entries of a trace, one after the other.
+ghost use mathlib.Core.Path.{_≡_};
+ghost use Prim.Native.Nat.{_*_, _≤_};
+ghost use lib.ListN.{length};
+ghost use Rattle.chart.specs.Region.{Region};
+ghost use Rattle.traces.specs.Replay.{begun, outcomeOf, playOf, replayed};
+ghost use Rattle.replay_steps.specs.Tables.{Tabled};
+ghost use Rattle.replay_marks.specs.Marks.{Kept};
+ghost use Rattle.replay_feed.specs.Playing.{Playing};
+use chart::cursor::wide;
+use replay_feed::at_finish;
+use replay_feed::feed;
+use replay_steps::tables::RegionTable;
+use replay_steps::tables::TeamTable;
+use traces::Replayed;
+
+// What the replay says; the team and the sheet are left as at the last legal entry.
+pub fn play(
+    table: &RegionTable,
+    team: &mut TeamTable,
+    m: usize,
+    trace: &[u8],
+    out: &mut [u8],
+) -> Replayed
+    requires { ⌜ ((R : Region) × Tabled R (now table) × Playing (R .nodes) m (begun R m) (now team) (now out) × (m ≤ 8) × (R .nodes * R .nodes ≤ length (now out))) ⌝ }
+    ensures { λ r. ⌜ ((R : Region) → Tabled R (now (table .entry)) → Playing (R .nodes) m (begun R m) (now (team .entry)) (now (out .entry)) → (r ≡ outcomeOf R m (replayed R m (now (trace .entry)))) × Playing (R .nodes) m (playOf (replayed R m (now (trace .entry)))) (now (team .exit)) (now (out .exit)) × Kept (R .nodes) (now (out .entry)) (now (out .exit))) ⌝ }
+{
+    let n = trace.len() / 2;
+    let mut i = 0;
+    while i < n {
+        let t = wide(trace[2 * i]);
+        let v = wide(trace[2 * i + 1]);
+        if !feed(table, team, m, t, v, out) {
+            return Replayed::Forbidden(i);
+        }
+        i += 1;
+    }
+    if at_finish(table, team, m) {
+        return Replayed::Finished;
+    }
+    Replayed::Unfinished
+}
