@@ -18,7 +18,7 @@ use Rattle.output.specs.declared.Written.the-variants.{Bytes, Refused}
 use Rattle.edits.specs.Splice.{inserted}
 use Rattle.edits.specs.Edits.{askRows, receiptFor, receiptRow, spaceRow, commitRows, insertWritten, insertLeft}
 use Rattle.edits.specs.declared.Receipt.{Receipt}
-use Rattle.editing.specs.Asking.{lateRows}
+use Rattle.editing.specs.Inserting.{lateRows}
 
 -- what is answered and left, by the outcome of the rows
 module _ (rows : List Row) (size : ℕ) (result old : List ℕ) where

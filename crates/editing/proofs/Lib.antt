@@ -1,4 +1,2 @@
-pub mod CheckLaws
-pub mod AskLaws
 pub mod CommitLaws
 pub mod RemoveLaws

@@ -1,5 +1,3 @@
-// Editing a chart in a lent buffer (02, Notes 6 and 7): asking about an edge (`asking`), putting it in (`inserting`) and taking it out (`removing`).
-pub mod asking;
-pub mod checking;
+// Editing a chart in a lent buffer (02, Notes 6 and 7): putting an edge in (`inserting`) and taking it out (`removing`).
 pub mod inserting;
 pub mod removing;

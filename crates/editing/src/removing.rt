@@ -12,7 +12,7 @@ ghost use Rattle.output.specs.declared.Written.the-variants.{Bytes};
 ghost use Rattle.edits.specs.Splice.{removed};
 ghost use Rattle.edits.specs.Edits.{removeWritten, removeLeft};
 ghost use Rattle.editing.specs.Removing.{shortRows};
-use crate::checking::check_all;
+use asking::checking::check_all;
 use chart::format::Chart;
 use chart::format::Checked;
 use chart::format::Edge;

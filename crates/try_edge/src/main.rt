@@ -1,9 +1,9 @@
 // Asks whether a chart would be admitted with one edge more (02, Note 6). Standard input has the edge, from and to, the chart's length in two bytes,
 // little-endian, and the buffer that begins with the chart. Prints the receipt, or the number of the refusal.
+use asking::ask;
 use chart::cursor::Cursor;
 use chart::cursor::wide;
 use chart::format::Refusal;
-use editing::asking::ask;
 use edits::Asked;
 use edits::Receipt;
 

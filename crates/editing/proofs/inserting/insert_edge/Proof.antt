@@ -4,7 +4,7 @@ use mathlib.Core.Path.{sym, _∙_}
 use borrow.Author.Needs.{needs}
 use Rattle.edits.specs.Edits.{receiptFor, asked}
 use Rattle.edits.specs.AskingLaws.{granted}
-use Rattle.editing.proofs.AskLaws.{refused-some}
+use Rattle.asking.proofs.AskLaws.{refused-some}
 use Rattle.editing.proofs.CommitLaws.{asking-refused, asking-passed}
 use Rattle.editing.proofs.inserting.insert_edge.Statement.{statement}
 use Rattle.editing.proofs.inserting.insert_edge.Tie as tie

@@ -6,7 +6,7 @@ use native.Mathlib.Omega.{arith}
 use borrow.Author.Needs.{needs}
 use Rattle.chart.proofs.Rows.{first-decides}
 use Rattle.paths.specs.Admission.{admitRows}
-use Rattle.editing.proofs.CheckLaws.{passed-none, refused-some, chart-most}
+use Rattle.asking.proofs.CheckLaws.{passed-none, refused-some, chart-most}
 use Rattle.editing.proofs.CommitLaws.{refused}
 use Rattle.editing.proofs.RemoveLaws.{apart, present-passed}
 use Rattle.editing.proofs.removing.remove_chart.Statement.{statement}

@@ -14,7 +14,7 @@ use Rattle.chart.proofs.Accepted.{laid}
 use Rattle.chart.proofs.Records.{edges-length}
 use Rattle.edits.specs.PlaceLaws.{at-place}
 use Rattle.edits.specs.EditLaws.{admitted-rising}
-use Rattle.editing.proofs.CheckLaws.{passed-none, refused-some, trailer-passes, chart-least, chart-most}
+use Rattle.asking.proofs.CheckLaws.{passed-none, refused-some, trailer-passes, chart-least, chart-most}
 use Rattle.editing.proofs.CommitLaws.{refused, passed}
 use Rattle.editing.proofs.RemoveLaws.{apart, no-edge, edge-there, short-front}
 use Rattle.editing.proofs.removing.remove_from.Statement.{statement}

@@ -1,14 +1,14 @@
--- `editing::asking::ask_longer` meets its contract.
+-- `asking::ask_longer` meets its contract.
 -- Assumes nothing.
 use mathlib.Core.Path.{sym, _∙_}
 use native.Mathlib.Omega.{arith}
 use lib.Seq.{length-take-le}
 use borrow.Author.Needs.{needs}
 use Rattle.chart.proofs.Accepted.{laid}
-use Rattle.editing.proofs.CheckLaws.{passed-none, refused-some, trailer-passes, chart-most}
-use Rattle.editing.proofs.AskLaws.{longer-refused, longer-admitted}
-use Rattle.editing.proofs.asking.ask_longer.Statement.{statement}
-use Rattle.editing.proofs.asking.ask_longer.Tie as tie
+use Rattle.asking.proofs.CheckLaws.{passed-none, refused-some, trailer-passes, chart-most}
+use Rattle.asking.proofs.AskLaws.{longer-refused, longer-admitted}
+use Rattle.asking.proofs.ask_longer.Statement.{statement}
+use Rattle.asking.proofs.ask_longer.Tie as tie
 
 place-of-requires : tie.Need-place-of-requires
 place-of-requires c κs = let (admits, counts, long) = c .before .before .pre in rw counts (laid _ (trailer-passes _ admits))

@@ -1,13 +1,13 @@
 -- Asking about an edge, of a chart that is all of its bytes.
 -- Assumes nothing.
-use mathlib.Core.List.{List, [], _∷_, _++_}
+use mathlib.Core.List.{List, _++_}
 use Prim.Native.Nat.{ℕ}
 use lib.ListN.{length}
 use Rattle.chart.specs.Format.{decode}
 use Rattle.chart.specs.Refusal.{Row, firstOf}
 use Rattle.paths.specs.Admission.{admitRows}
 use Rattle.edits.specs.Splice.{place, inserted}
-use Rattle.edits.specs.Edits.{answer, receiptRow, spaceRow}
+use Rattle.edits.specs.Edits.{answer}
 use Rattle.edits.specs.declared.Receipt.{Receipt}
 use Rattle.edits.specs.declared.Asked.{Asked}
 
@@ -17,7 +17,3 @@ receiptOn s from to = record { length = length s; place = place (decode s .edges
 -- By some rows before those of the longer chart.
 abbrev pub askedOn : List Row → List ℕ → ℕ → ℕ → Asked
 askedOn before s from to = answer (firstOf (before ++ admitRows (inserted s from to))) (receiptOn s from to)
-
--- Rows 17 and 18.
-abbrev pub lateRows : ℕ → Receipt → Receipt → List Row
-lateRows room receipt present = receiptRow receipt present ∷ spaceRow room (present .length) ∷ []

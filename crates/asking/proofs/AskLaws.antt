@@ -16,7 +16,7 @@ use Rattle.edits.specs.Splice.{inserted}
 use Rattle.edits.specs.Edits.{lengthRow, askRows, receiptFor, answer, asked}
 use Rattle.edits.specs.declared.Receipt.{Receipt}
 use Rattle.edits.specs.declared.Asked.the-variants.{Admitted, Refused}
-use Rattle.editing.specs.Asking.{receiptOn, askedOn}
+use Rattle.asking.specs.Asking.{receiptOn, askedOn}
 
 -- an answer read backwards
 pub refused-some : (o : Option ℕ) (receipt : Receipt) {refusal : Refusal} → answer o receipt ≡ Refused refusal → o ≡ some (refusal .number)

@@ -1,13 +1,13 @@
--- `editing::asking::ask_chart` meets its contract.
+-- `asking::ask_chart` meets its contract.
 -- Assumes nothing.
 use mathlib.Core.Path.{sym, _∙_}
 use native.Mathlib.Omega.{arith}
 use borrow.Author.Needs.{needs}
 use Rattle.paths.specs.Admission.{admitRows}
-use Rattle.editing.proofs.CheckLaws.{passed-none, refused-some, chart-most}
-use Rattle.editing.proofs.AskLaws.{apart, early-refused, early-passed}
-use Rattle.editing.proofs.asking.ask_chart.Statement.{statement}
-use Rattle.editing.proofs.asking.ask_chart.Tie as tie
+use Rattle.asking.proofs.CheckLaws.{passed-none, refused-some, chart-most}
+use Rattle.asking.proofs.AskLaws.{apart, early-refused, early-passed}
+use Rattle.asking.proofs.ask_chart.Statement.{statement}
+use Rattle.asking.proofs.ask_chart.Tie as tie
 
 check-all-requires : tie.Need-check-all-requires
 check-all-requires c κs = search needs

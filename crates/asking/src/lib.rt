@@ -11,7 +11,7 @@ ghost use Rattle.edits.specs.Splice.{inserted};
 ghost use Rattle.edits.specs.Edits.{asked};
 ghost use Rattle.edits.specs.declared.Receipt.{Receipt};
 ghost use Rattle.edits.specs.declared.Asked.the-variants.{Admitted};
-ghost use Rattle.editing.specs.Asking.{askedOn};
+ghost use Rattle.asking.specs.Asking.{askedOn};
 use crate::checking::check_all;
 use chart::format::Chart;
 use chart::format::Checked;
@@ -21,6 +21,8 @@ use edits::Asked;
 use edits::Receipt;
 use splicing::place_of;
 use splicing::put_longer;
+
+pub mod checking;
 
 // Rows 1 to 10 on the longer chart, of a chart that they let pass.
 fn ask_longer(s: &[u8], chart: Chart, edge: Edge, longer: &mut [u8]) -> Asked

@@ -1,12 +1,12 @@
--- `editing::asking::ask_into` meets its contract.
+-- `asking::ask_into` meets its contract.
 -- Assumes nothing.
 use mathlib.Core.Path.{sym, _∙_}
 use native.Mathlib.Omega.{arith}
 use lib.Seq.{length-take-le}
 use borrow.Author.Needs.{needs}
-use Rattle.editing.proofs.AskLaws.{apart, beyond, within}
-use Rattle.editing.proofs.asking.ask_into.Statement.{statement}
-use Rattle.editing.proofs.asking.ask_into.Tie as tie
+use Rattle.asking.proofs.AskLaws.{apart, beyond, within}
+use Rattle.asking.proofs.ask_into.Statement.{statement}
+use Rattle.asking.proofs.ask_into.Tie as tie
 
 returns : tie.Need-returns
 returns c =

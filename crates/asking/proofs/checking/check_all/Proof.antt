@@ -1,12 +1,12 @@
--- `editing::checking::check_all` meets its contract.
+-- `asking::checking::check_all` meets its contract.
 -- Assumes nothing.
 use mathlib.Core.Path.{sym, _∙_}
 use borrow.Author.Needs.{needs}
 use Rattle.chart.specs.Checked.{countsOf, answer}
 use Rattle.paths.specs.AdmissionLaws.{outermost-rows}
 use Rattle.entrance.proofs.Entering.{entered-refused, entered-marked, entered-counts}
-use Rattle.editing.proofs.checking.check_all.Statement.{statement}
-use Rattle.editing.proofs.checking.check_all.Tie as tie
+use Rattle.asking.proofs.checking.check_all.Statement.{statement}
+use Rattle.asking.proofs.checking.check_all.Tie as tie
 
 enter-requires : tie.Need-enter-requires
 enter-requires c κs = search needs
