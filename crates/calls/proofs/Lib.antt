@@ -1,3 +1,1 @@
-pub mod Filling
 pub mod Passed
-pub mod Writes

@@ -1,6 +1,3 @@
-// The calls on slices: Phases and Sheet, which write a result to a lent buffer (`writing`), and Pair (`pair`). Admit is in crate `admission`,
-// Judge in crate `judge`.
-pub mod bytes;
-pub mod fill;
+// Pair as a call on a slice (`pair`), and what it, Phases and Sheet answer (`specs`). The code of Phases and Sheet is in crate `writing`, Admit in crate
+// `admission`, Judge in crate `judge`.
 pub mod pair;
-pub mod writing;

@@ -7,11 +7,11 @@ use admission::admit::Admission;
 use admission::admit::Counts;
 use admission::admit::admit;
 use answers::Size;
-use calls::writing::phases;
-use calls::writing::sheet;
 use chart::cursor::wide;
 use chart::format::Chart;
 use chart::format::Refusal;
+use writing::phases;
+use writing::sheet;
 
 pub fn print_refusal(refusal: Refusal) {
     io::write_all(1, b"refused ");

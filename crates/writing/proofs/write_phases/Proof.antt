@@ -1,4 +1,4 @@
--- `calls::writing::write_phases` meets its contract.
+-- `writing::write_phases` meets its contract.
 -- Assumes nothing.
 use mathlib.Core.Path.{_≡_, ap, sym, _∙_}
 use mathlib.Core.List.{[]}
@@ -9,9 +9,9 @@ use Rattle.lists.specs.Tab.{tab-length}
 use Rattle.chart.specs.Region.{Region}
 use Rattle.output.specs.Output.{outputRows, writtenBy}
 use Rattle.output.proofs.Outputs.{had-room, kept, put}
 use Rattle.calls.specs.Phases.{phaseByte, phasesResult}
-use Rattle.calls.proofs.writing.write_phases.Statement.{statement}
-use Rattle.calls.proofs.writing.write_phases.Tie as tie
+use Rattle.writing.proofs.write_phases.Statement.{statement}
+use Rattle.writing.proofs.write_phases.Tie as tie
 
 size : (R : Region) (n : ℕ) → R .nodes ≡ n → length (phasesResult R) ≡ 16 * n
 unfolding phasesResult

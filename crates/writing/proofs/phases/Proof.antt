@@ -1,4 +1,4 @@
--- `calls::writing::phases` meets its contract: rows 1 to 10 and 23, and where none of them applies row 11 and the bytes.
+-- `writing::phases` meets its contract: rows 1 to 10 and 23, and where none of them applies row 11 and the bytes.
 -- Assumes nothing.
 use mathlib.Core.Path.{ap, sym, _∙_}
 use mathlib.Core.List.{[]}
@@ -10,10 +10,10 @@ use Rattle.chart.proofs.Records.{nodes-length}
 use Rattle.paths.specs.Admission.{regionRows}
 use Rattle.entrance.proofs.Entering.{entered-refused, entered-marked, entered-counts}
 use Rattle.output.proofs.Outputs.{refused-before}
 use Rattle.calls.specs.Phases.{phasesResult}
 use Rattle.calls.proofs.Passed.{output-passed}
-use Rattle.calls.proofs.writing.phases.Statement.{statement}
-use Rattle.calls.proofs.writing.phases.Tie as tie
+use Rattle.writing.proofs.phases.Statement.{statement}
+use Rattle.writing.proofs.phases.Tie as tie
 
 enter-requires : tie.Need-enter-requires
 enter-requires c κs = search needs

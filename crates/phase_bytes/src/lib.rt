@@ -6,10 +6,12 @@ ghost use lib.ListN.{length, drop};
 ghost use Rattle.chart.specs.Region.{Region};
 ghost use Rattle.phases.specs.Phases.{forward, backward};
 ghost use Rattle.loading.specs.Tables.{Masks};
 ghost use Rattle.calls.specs.Phases.{phasesResult};
 use crate::bytes::put_mask;
 use chart::format::Chart;
 use output::Written;
+
+pub mod bytes;
 
 // The first 16 * n bytes of out become the starts and ends of the first n nodes.
 pub fn fill_phases(

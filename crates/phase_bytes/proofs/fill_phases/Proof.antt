@@ -1,11 +1,11 @@
--- `calls::fill::fill_phases` meets its contract.
+-- `phase_bytes::fill_phases` meets its contract.
 -- Assumes nothing.
 use mathlib.Core.Path.{_≡_, subst}
 use Prim.Native.Nat.{ℕ, _*_, _-_, _≤_}
 use native.Mathlib.Omega.{arith}
-use Rattle.calls.proofs.Filling.{maskAt, Filled, filled-none, both-filled, filled-all}
-use Rattle.calls.proofs.fill.fill_phases.Statement.{statement}
-use Rattle.calls.proofs.fill.fill_phases.Tie as tie
+use Rattle.phase_bytes.proofs.Filling.{maskAt, Filled, filled-none, both-filled, filled-all}
+use Rattle.phase_bytes.proofs.fill_phases.Statement.{statement}
+use Rattle.phase_bytes.proofs.fill_phases.Tie as tie
 
 abbrev Inv-loop : tie.InvT-loop
 Inv-loop out₀ n starts ends x₀ out x = (x ≤ n) × Filled (maskAt starts ends) (2 * x) out₀ out

@@ -1,13 +1,13 @@
--- `calls::bytes::put_mask` meets its contract.
+-- `phase_bytes::bytes::put_mask` meets its contract.
 -- Assumes nothing.
 use mathlib.Core.Path.{_≡_, ap, sym, subst, _∙_}
 use Prim.Native.Nat.{ℕ, _-_, _/_, _^_, _≤_}
 use native.Mathlib.Nat.{div-one}
 use native.Mathlib.Omega.{arith}
 use Rattle.calls.specs.Bytes.{Put}
-use Rattle.calls.proofs.Writes.{put-none, put-more, next-byte}
-use Rattle.calls.proofs.bytes.put_mask.Statement.{statement}
-use Rattle.calls.proofs.bytes.put_mask.Tie as tie
+use Rattle.phase_bytes.proofs.Writes.{put-none, put-more, next-byte}
+use Rattle.phase_bytes.proofs.bytes.put_mask.Statement.{statement}
+use Rattle.phase_bytes.proofs.bytes.put_mask.Tie as tie
 
 abbrev Inv-loop : tie.InvT-loop
 Inv-loop out₀ at mask rest₀ k₀ out rest k = (k ≤ 8) × Put at k mask out₀ out × (rest ≡ mask / 256 ^ k)

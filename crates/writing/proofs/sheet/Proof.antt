@@ -1,4 +1,4 @@
--- `calls::writing::sheet` meets its contract: rows 1 to 10 and 23, and where none of them applies rows 11 and 21 and the bytes.
+-- `writing::sheet` meets its contract: rows 1 to 10 and 23, and where none of them applies rows 11 and 21 and the bytes.
 -- Assumes nothing.
 use mathlib.Core.Path.{refl, ap, sym, _∙_}
 use borrow.Author.Needs.{needs}
@@ -11,10 +11,10 @@ use Rattle.answers.specs.Size.{sizeRows}
 use Rattle.answers.specs.Sheet.{sheet}
 use Rattle.survey.specs.Surveyed.{checkedOf}
 use Rattle.output.proofs.Outputs.{refused-before}
 use Rattle.calls.specs.Sheet.{sheetResult}
 use Rattle.calls.proofs.Passed.{output-passed}
-use Rattle.calls.proofs.writing.sheet.Statement.{statement}
-use Rattle.calls.proofs.writing.sheet.Tie as tie
+use Rattle.writing.proofs.sheet.Statement.{statement}
+use Rattle.writing.proofs.sheet.Tie as tie
 
 survey-requires : tie.Need-survey-requires
 survey-requires c κs = refl
