@@ -2,15 +2,14 @@
 // says about finished runs is in crate verdicts, specs/Correct.antt.
 ghost use mathlib.Core.Path.{_≡_};
 ghost use Rattle.verdicts.specs.Judged.{judgedFor};
-use crate::claims::judge_claims;
 use answers::Size;
 use chart::format::Chart;
+use claims::judge_claims;
 use profiles::marks::ROWS;
 use survey::Surveyed;
 use survey::survey;
 use verdicts::Verdict;
 
-pub mod claims;
 pub mod number;
 
 // The first of rows 1 to 10, 23, 12, 13 and 21 that applies, or the verdict for teams of this size.

@@ -7,7 +7,7 @@ ghost use Rattle.judge_lists.specs.Two.{numbers, falsePart, falsePlace};
 use crate::part::false_part;
 use answers::Size;
 use chart::format::Chart;
-use judge::claims::judge_claims;
+use claims::judge_claims;
 use judge::number::number_of;
 use profiles::marks::ROWS;
 use survey::Surveyed;

@@ -1,4 +1,4 @@
--- `judge::claims::judge_claims` meets its contract: row 12, then row 13, then row 21, then the verdict.
+-- `claims::judge_claims` meets its contract: row 12, then row 13, then row 21, then the verdict.
 -- Assumes nothing.
 use mathlib.Core.Path.{_≡_, sym, _∙_}
 use mathlib.Core.Bool.{false}
@@ -13,9 +13,9 @@ use Rattle.chart.specs.Refusal.{firstOf}
 use Rattle.answers.specs.Size.{sizeRows}
 use Rattle.verdicts.specs.Claims.{oddBytes, badNumbers}
 use Rattle.verdicts.specs.Judged.{claimRows, answered}
-use Rattle.judge.proofs.Facts.{numbers-fit}
-use Rattle.judge.proofs.claims.judge_claims.Statement.{statement}
-use Rattle.judge.proofs.claims.judge_claims.Tie as tie
+use Rattle.claims.proofs.Fitting.{numbers-fit}
+use Rattle.claims.proofs.judge_claims.Statement.{statement}
+use Rattle.claims.proofs.judge_claims.Tie as tie
 
 returns : tie.Need-returns
 unfolding answered firstOf claimRows oddBytes

@@ -1,4 +1,4 @@
--- `judge::claims::first_false` meets its contract. The loop's invariant: none of the claims passed is false.
+-- `claims::first_false` meets its contract. The loop's invariant: none of the claims passed is false.
 -- Assumes nothing.
 use mathlib.Core.Path.{_≡_, refl, ap, sym, _∙_}
 use mathlib.Core.Bool.{false}
@@ -12,8 +12,8 @@ use Rattle.answers.specs.declared.Size.{Size}
 use Rattle.profiles.specs.Marks.{Sized, Marks}
 use Rattle.verdicts.specs.Claims.{total, badNumbers, isFalse}
 use Rattle.verdicts.specs.Judged.{verdict}
-use Rattle.judge.proofs.claims.first_false.Statement.{statement}
-use Rattle.judge.proofs.claims.first_false.Tie as tie
+use Rattle.claims.proofs.first_false.Statement.{statement}
+use Rattle.claims.proofs.first_false.Tie as tie
 
 abbrev Inv-loop : tie.InvT-loop
 Inv-loop claims marks sets n k₀ k =

@@ -1,4 +1,4 @@
--- `judge::claims::mark_bad` meets its contract: after x turns the first x nodes are looked at.
+-- `claim_numbers::mark_bad` meets its contract: after x turns the first x nodes are looked at.
 -- Assumes nothing.
 use mathlib.Core.Path.{_≡_, subst}
 use Prim.Native.Nat.{ℕ, _-_, _≤_}
@@ -6,9 +6,9 @@ use native.Mathlib.Omega.{arith}
 use Rattle.chart.specs.Region.{Region}
 use Rattle.chart.specs.WellFormed.{WellFormed}
 use Rattle.loading.specs.Tables.{Closed}
-use Rattle.judge.proofs.Facts.{Marked, marked-none, marked-more, marked-all}
-use Rattle.judge.proofs.claims.mark_bad.Statement.{statement}
-use Rattle.judge.proofs.claims.mark_bad.Tie as tie
+use Rattle.claim_numbers.proofs.Marked.{Marked, marked-none, marked-more, marked-all}
+use Rattle.claim_numbers.proofs.mark_bad.Statement.{statement}
+use Rattle.claim_numbers.proofs.mark_bad.Tie as tie
 
 abbrev Inv-loop : tie.InvT-loop
 Inv-loop n closed bad₀ x₀ bad x = (x ≤ n) × ((R : Region) → WellFormed R → R .nodes ≡ n → Closed R closed → Marked R x bad)

@@ -1,4 +1,4 @@
--- `judge::claims::bad_numbers` meets its contract: after j turns the first j numbers are looked at.
+-- `claim_numbers::bad_numbers` meets its contract: after j turns the first j numbers are looked at.
 -- Assumes nothing.
 use mathlib.Core.Path.{_≡_, refl, _∙_}
 use mathlib.Core.Bool.{Bool, false}
@@ -14,8 +14,8 @@ use Rattle.chart.specs.Checked.{reading}
 use Rattle.chart.proofs.Records.{nodes-length}
 use Rattle.answers.specs.Numbers.{badNumber}
 use Rattle.verdicts.specs.Claims.{badNumbers}
-use Rattle.judge.proofs.claims.bad_numbers.Statement.{statement}
-use Rattle.judge.proofs.claims.bad_numbers.Tie as tie
+use Rattle.claim_numbers.proofs.bad_numbers.Statement.{statement}
+use Rattle.claim_numbers.proofs.bad_numbers.Tie as tie
 
 abbrev isBad : Region → List ℕ → ℕ → Bool
 isBad R claims j = badNumber R (getD claims j 0)

@@ -1,12 +1,12 @@
--- `judge::claims::is_false` meets its contract.
+-- `claims::is_false` meets its contract.
 -- Assumes nothing.
 use Prim.Native.Nat.{_+_, _*_}
 use native.Mathlib.Omega.{arith}
 use borrow.Author.Needs.{needs}
 use Rattle.verdicts.specs.Claims.{left, right, isFalse}
 use Rattle.verdicts.specs.CorrectLaws.{good-numbers}
-use Rattle.judge.proofs.claims.is_false.Statement.{statement}
-use Rattle.judge.proofs.claims.is_false.Tie as tie
+use Rattle.claims.proofs.is_false.Statement.{statement}
+use Rattle.claims.proofs.is_false.Tie as tie
 
 mul-wide : tie.Need-mul-wide
 mul-wide c = search needs
