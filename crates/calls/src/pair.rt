@@ -16,8 +16,8 @@ use pairs::rules::Answer;
 use profiles::chains::Sets;
 use profiles::marks::MaskTable;
 use profiles::marks::ROWS;
-use profiles::sizes::bad_size;
-use profiles::sizes::sets_for;
+use sizes::bad_size;
+use sizes::sets_for;
 use survey::Surveyed;
 use survey::survey;
 

@@ -20,8 +20,8 @@ use pairs::rules::Answer;
 use pairs::rules::pair;
 use profiles::chains::Sets;
 use profiles::marks::MaskTable;
-use profiles::sizes::bad_size;
-use profiles::sizes::sets_for;
+use sizes::bad_size;
+use sizes::sets_for;
 use verdicts::Verdict;
 
 // Whether claim k is false.

@@ -3,4 +3,3 @@ pub mod Masters
 pub mod Membership
 pub mod Facts
 pub mod Nodes
-pub mod Lacked

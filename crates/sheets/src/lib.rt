@@ -22,12 +22,12 @@ use pairs::rules::Profile;
 use pairs::rules::profile_of;
 use profiles::chains::Sets;
 use profiles::marks::MaskTable;
-use profiles::sizes::sets_for;
 use sheet_rows::NodeSets;
 use sheet_rows::SETS;
 use sheet_rows::gather_all;
 use sheet_rows::keep_row;
 use sheet_rows::work_row;
+use sizes::sets_for;
 
 // The scratch row, copied.
 fn copy_row(last: &[u8; Chart::NODES], out: &mut [u8])

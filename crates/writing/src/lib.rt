@@ -25,8 +25,8 @@ use phase_bytes::fill_phases;
 use profiles::chains::Sets;
 use profiles::marks::MaskTable;
 use profiles::marks::ROWS;
-use profiles::sizes::bad_size;
 use sheets::fill_sheet;
+use sizes::bad_size;
 use survey::Surveyed;
 use survey::survey;
 

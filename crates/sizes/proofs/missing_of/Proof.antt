@@ -1,14 +1,14 @@
--- `profiles::sizes::missing_of` meets its contract. The loop's invariant: the mask has the constructs passed.
+-- `sizes::missing_of` meets its contract. The loop's invariant: the mask has the constructs passed.
 -- Assumes nothing.
 use mathlib.Core.Path.{_≡_, refl, _∙_}
 use Prim.Native.Nat.{ℕ, _-_, _≤_}
 use native.Mathlib.Omega.{arith}
 use Rattle.lists.specs.Mask.{maskOf}
 use Rattle.chart.specs.Format.{decode}
 use Rattle.profiles.specs.Chains.{isOver}
 use Rattle.profiles.proofs.Constructs.{test-next}
-use Rattle.profiles.proofs.sizes.missing_of.Statement.{statement}
-use Rattle.profiles.proofs.sizes.missing_of.Tie as tie
+use Rattle.sizes.proofs.missing_of.Statement.{statement}
+use Rattle.sizes.proofs.missing_of.Tie as tie
 
 abbrev Inv-loop : tie.InvT-loop
 Inv-loop s chart threads n mask₀ c₀ mask c = (c ≤ chart .constructs) × (mask ≡ maskOf (isOver (decode s .constructs) threads) c)

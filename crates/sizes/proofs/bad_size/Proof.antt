@@ -1,13 +1,13 @@
--- `profiles::sizes::bad_size` meets its contract.
+-- `sizes::bad_size` meets its contract.
 -- Assumes nothing.
 use mathlib.Core.Bool.{true}
 use lib.Dec.{ltb}
 use borrow.Author.Needs.{needs}
 use borrow.Author.Tests.{lt-ltb, le-ltb}
 use Rattle.chart.specs.Refusal.{firstOf}
-use Rattle.profiles.proofs.Lacked.{of-size}
-use Rattle.profiles.proofs.sizes.bad_size.Statement.{statement}
-use Rattle.profiles.proofs.sizes.bad_size.Tie as tie
+use Rattle.sizes.proofs.Lacked.{of-size}
+use Rattle.sizes.proofs.bad_size.Statement.{statement}
+use Rattle.sizes.proofs.bad_size.Tie as tie
 
 enum-told : tie.Need-enum-told
 enum-told c = search needs

@@ -13,13 +13,13 @@ ghost use Rattle.chart.specs.Refusal.{firstOf};
 ghost use Rattle.chart.specs.Checked.{Laid, reading};
 ghost use Rattle.answers.specs.Size.{sizeRows};
 ghost use Rattle.loading.specs.Tables.{Accepted};
 ghost use Rattle.profiles.specs.Chains.{isOver};
 ghost use Rattle.profiles.specs.Marks.{Sized, Marks};
-use crate::chains::Sets;
-use crate::peers::add_if;
 use answers::Size;
 use chart::format::Chart;
 use chart::format::Construct;
+use profiles::chains::Sets;
+use profiles::peers::add_if;
 
 const LEAST: usize = 1;
 

@@ -1,8 +1,8 @@
--- `profiles::sizes::over` meets its contract.
+-- `sizes::over` meets its contract.
 -- Assumes nothing.
 use borrow.Author.Tests.{eq-eqb, ne-eqb}
-use Rattle.profiles.proofs.sizes.over.Statement.{statement}
-use Rattle.profiles.proofs.sizes.over.Tie as tie
+use Rattle.sizes.proofs.over.Statement.{statement}
+use Rattle.sizes.proofs.over.Tie as tie
 
 returns : tie.Need-returns
 returns c = rw (ne-eqb _ _ (c .if1 .taken))

@@ -1,10 +1,10 @@
--- `profiles::sizes::sets_for` meets its contract.
+-- `sizes::sets_for` meets its contract.
 -- Assumes nothing.
 use mathlib.Core.Path.{_≡_, sym, _∙_}
 use borrow.Author.Needs.{needs}
-use Rattle.profiles.proofs.Lacked.{over-lacked}
-use Rattle.profiles.proofs.sizes.sets_for.Statement.{statement}
-use Rattle.profiles.proofs.sizes.sets_for.Tie as tie
+use Rattle.sizes.proofs.Lacked.{over-lacked}
+use Rattle.sizes.proofs.sets_for.Statement.{statement}
+use Rattle.sizes.proofs.sets_for.Tie as tie
 
 enum-told : tie.Need-enum-told
 enum-told c = search needs

@@ -1,8 +1,8 @@
--- `profiles::sizes::with_size` meets its contract.
+-- `sizes::with_size` meets its contract.
 -- Assumes nothing.
 use mathlib.Core.Path.{refl}
-use Rattle.profiles.proofs.sizes.with_size.Statement.{statement}
-use Rattle.profiles.proofs.sizes.with_size.Tie as tie
+use Rattle.sizes.proofs.with_size.Statement.{statement}
+use Rattle.sizes.proofs.with_size.Tie as tie
 
 returns : tie.Need-returns
 returns c = (
