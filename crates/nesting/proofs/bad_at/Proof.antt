@@ -10,7 +10,7 @@ use Rattle.chart.specs.Format.{decode}
 use Rattle.chart.specs.Scope.{parentOf}
 use Rattle.chart.specs.Nesting.{misnested}
 use Rattle.chart.specs.Refusal.{badAlone}
-use Rattle.nesting.proofs.Ancestors.{parents}
+use Rattle.enclosing.proofs.Ancestors.{parents}
 use Rattle.nesting.proofs.bad_at.Statement.{statement}
 use Rattle.nesting.proofs.bad_at.Tie as tie
 

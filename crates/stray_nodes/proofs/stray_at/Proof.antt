@@ -1,4 +1,4 @@
--- `nesting::stray_at` meets its contract.
+-- `stray_nodes::stray_at` meets its contract.
 -- Assumes nothing.
 use mathlib.Core.Path.{_≡_, sym}
 use mathlib.Core.Bool.{_&&_}
@@ -12,8 +12,8 @@ use Rattle.chart.specs.Scope.{beginNode, sectionsByte}
 use Rattle.chart.specs.Refusal.{strayNode}
 use Rattle.chart.proofs.Constructs.{no-construct}
 use Rattle.chart.proofs.Records.{constructs-length}
-use Rattle.nesting.proofs.stray_at.Statement.{statement}
-use Rattle.nesting.proofs.stray_at.Tie as tie
+use Rattle.stray_nodes.proofs.stray_at.Statement.{statement}
+use Rattle.stray_nodes.proofs.stray_at.Tie as tie
 
 abbrev start : tie.After-wide → tie.Start
 start c = c .before .before .before

@@ -1,4 +1,4 @@
--- `nesting::excludes` meets its contract.
+-- `enclosing::excludes` meets its contract.
 -- Assumes nothing.
 use mathlib.Core.List.{[]}
 use mathlib.Core.Bool.{false}
@@ -10,8 +10,8 @@ use borrow.Author.Tests.{eq-eqb, ne-eqb, not-true, not-false}
 use borrow.Author.Needs.{needs}
 use Rattle.chart.specs.Scope.{criticalByte, kindOf}
 use Rattle.chart.specs.Nesting.{excluded, sameCritical, mayEnclose}
-use Rattle.nesting.proofs.excludes.Statement.{statement}
-use Rattle.nesting.proofs.excludes.Tie as tie
+use Rattle.enclosing.proofs.excludes.Statement.{statement}
+use Rattle.enclosing.proofs.excludes.Tie as tie
 
 -- the entry that was read
 entry : (c : tie.After-if12) → getD (getD (c .before .before .before .args .table .now) (c .before .before .wide .result - 1) []) (c .before .wide2 .result - 1) false

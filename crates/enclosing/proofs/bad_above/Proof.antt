@@ -1,4 +1,4 @@
--- `nesting::bad_above` meets its contract.
+-- `enclosing::bad_above` meets its contract.
 -- Assumes nothing.
 use mathlib.Core.Path.{_≡_, sym, subst, _∙_}
 use mathlib.Core.Logic.{inl, inr}
@@ -11,9 +11,9 @@ use Rattle.chart.specs.Scope.{parallelByte, parentOf}
 use Rattle.chart.specs.Nested.{isParallel}
 use Rattle.chart.specs.Format.{decode, constructAt}
 use Rattle.chart.proofs.Records.{constructs-length}
-use Rattle.nesting.proofs.Ancestors.{Walked, against, fits, parents, place-below, walk-start, walk-more, walk-found, walk-end, height, height-falls}
-use Rattle.nesting.proofs.bad_above.Statement.{statement}
-use Rattle.nesting.proofs.bad_above.Tie as tie
+use Rattle.enclosing.proofs.Ancestors.{Walked, against, fits, parents, place-below, walk-start, walk-more, walk-found, walk-end, height, height-falls}
+use Rattle.enclosing.proofs.bad_above.Statement.{statement}
+use Rattle.enclosing.proofs.bad_above.Tie as tie
 
 abbrev Inv-loop : tie.InvT-loop
 Inv-loop s chart table c inner p₀ p = Walked (decode s .constructs) c p

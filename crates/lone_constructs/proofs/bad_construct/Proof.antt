@@ -1,11 +1,11 @@
--- `nesting::bad_construct` meets its contract.
+-- `lone_constructs::bad_construct` meets its contract.
 -- Assumes nothing.
 use mathlib.Core.Path.{sym, _∙_}
 use borrow.Author.Tests.{lt-ltb, le-ltb}
 use borrow.Author.Needs.{needs}
 use Rattle.chart.specs.Refusal.{badConstruct}
-use Rattle.nesting.proofs.bad_construct.Statement.{statement}
-use Rattle.nesting.proofs.bad_construct.Tie as tie
+use Rattle.lone_constructs.proofs.bad_construct.Statement.{statement}
+use Rattle.lone_constructs.proofs.bad_construct.Tie as tie
 
 returns : tie.Need-returns
 unfolding badConstruct

@@ -1,4 +1,4 @@
--- `nesting::stray_nodes` meets its contract.
+-- `stray_nodes::stray_nodes` meets its contract.
 -- Assumes nothing.
 use mathlib.Core.Bool.{false}
 use mathlib.Core.Path.{_≡_, refl, sym, ap, _∙_}
@@ -9,8 +9,8 @@ use Rattle.lists.specs.Range.{any, at-any, any-more}
 use Rattle.chart.specs.Format.{decode}
 use Rattle.chart.specs.Refusal.{strayNode}
 use Rattle.chart.proofs.Records.{nodes-length}
-use Rattle.nesting.proofs.stray_nodes.Statement.{statement}
-use Rattle.nesting.proofs.stray_nodes.Tie as tie
+use Rattle.stray_nodes.proofs.stray_nodes.Statement.{statement}
+use Rattle.stray_nodes.proofs.stray_nodes.Tie as tie
 
 abbrev Inv-loop : tie.InvT-loop
 Inv-loop s chart n x₀ x = (x ≤ chart .nodes) × (any x (strayNode (decode s)) ≡ false)

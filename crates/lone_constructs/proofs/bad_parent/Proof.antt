@@ -1,11 +1,11 @@
--- `nesting::bad_parent` meets its contract.
+-- `lone_constructs::bad_parent` meets its contract.
 -- Assumes nothing.
 use Prim.Native.Nat.{_<_, _≤_}
 use native.Mathlib.Omega.{arith}
 use borrow.Author.Tests.{lt-ltb, le-ltb}
 use borrow.Author.Needs.{needs}
-use Rattle.nesting.proofs.bad_parent.Statement.{statement}
-use Rattle.nesting.proofs.bad_parent.Tie as tie
+use Rattle.lone_constructs.proofs.bad_parent.Statement.{statement}
+use Rattle.lone_constructs.proofs.bad_parent.Tie as tie
 
 wide-requires : tie.Need-wide-requires
 wide-requires c κs = search needs

@@ -1,9 +1,9 @@
--- `nesting::foreign_number` meets its contract.
+-- `lone_constructs::foreign_number` meets its contract.
 -- Assumes nothing.
 use borrow.Author.Tests.{eq-eqb, ne-eqb}
 use Rattle.chart.specs.Refusal.{foreignNumber}
-use Rattle.nesting.proofs.foreign_number.Statement.{statement}
-use Rattle.nesting.proofs.foreign_number.Tie as tie
+use Rattle.lone_constructs.proofs.foreign_number.Statement.{statement}
+use Rattle.lone_constructs.proofs.foreign_number.Tie as tie
 
 returns : tie.Need-returns
 unfolding foreignNumber
