@@ -19,7 +19,7 @@ pub fn place_of(a: usize, b: usize, j: usize, back: bool) -> usize
     j
 }
 
-// The bits of x come to y; what is new.
+// The bits of x come to y; what is new. Nothing is written where nothing is, as mostly where sweeps are many.
 fn carry(masks: &mut [u64; Chart::NODES], x: u8, y: u8) -> u64
     requires { ⌜ (length (now masks) ≡ 192) × (x < 192) × (y < 192) ⌝ }
     ensures { λ r. ⌜ Step bitOr x y (now (masks .entry)) (now (masks .exit)) r ⌝ }
@@ -27,6 +27,9 @@ fn carry(masks: &mut [u64; Chart::NODES], x: u8, y: u8) -> u64
     let to = y as usize;
     let old = masks[to];
     let all = old | masks[x as usize];
+    if all == old {
+        return 0;
+    }
     masks[to] = all;
     all ^ old
 }

@@ -1,5 +1,8 @@
 -- `sweeps::close::carry` meets its contract. Assumes nothing.
-use mathlib.Core.Path.{refl}
+use mathlib.Core.Path.{refl, sym, ap, _∙_}
+use Prim.Native.Nat.{ℕ}
+use lib.ListN.{set}
+use lib.Seq.{set-getD}
 use Rattle.sweeps.proofs.Runs.{xor-same, same-xor}
 use borrow.Author.Needs.{needs}
 use Rattle.sweeps.proofs.close.carry.Statement.{statement}
@@ -17,14 +20,25 @@ mul-all c = search needs
 element-copy-out-all : tie.Need-element-copy-out-all
 element-copy-out-all c = search needs
 
+-- what changes nothing need not be written
+returns : tie.Need-returns
+returns c =
+    let e = c .before .before .before in
+    let masks = e .args .masks .now in
+    record {
+      is = sym (ap (λ (v : ℕ). set masks (e .args .y) v) (c .if1 .taken) ∙ set-getD masks (e .args .y) 0);
+      quiet = λ _. c .if1 .taken;
+      loud = λ n. absurd (n refl);
+    }
+
 mul-masks : tie.Need-mul-masks
 mul-masks c = search needs
 
 element-write-masks : tie.Need-element-write-masks
 element-write-masks c = search needs
 
-returns : tie.Need-returns
-returns c = record { is = refl; quiet = λ e. xor-same _ _ e; loud = λ n e. n (same-xor _ _ e) }
+returns-2 : tie.Need-returns-2
+returns-2 c = record { is = refl; quiet = λ e. xor-same _ _ e; loud = λ n e. n (same-xor _ _ e) }
 
 pub carry-spec : {M : Type 1} → statement M
 carry-spec =
@@ -34,6 +48,7 @@ carry-spec =
     element-copy-out-old
     mul-all
     element-copy-out-all
+    returns
     mul-masks
     element-write-masks
-    returns)
+    returns-2)
