@@ -2,6 +2,7 @@
 -- Assumes nothing.
 use mathlib.Core.Path.{refl}
 use borrow.Author.Needs.{needs}
+use Rattle.lists.specs.Store.{zeros}
 use Rattle.profiles.proofs.Nodes.{none-held}
 use Rattle.profiles.proofs.marks.fill_held.Statement.{statement}
 use Rattle.profiles.proofs.marks.fill_held.Tie as tie
@@ -26,7 +27,7 @@ mark-nodes-requires c κs =
     let f = c .before .before in
     let k = f .before .before .before in
     let e = k .before .before .before in
-    (e .pre .0, f .fill-chains .ensures, k .sets-of .ensures .sections, refl)
+    (e .pre .0, f .fill-chains .ensures, k .sets-of .ensures .sections, refl, zeros 192)
 
 returns-2 : tie.Need-returns-2
 returns-2 c =
