@@ -100,7 +100,7 @@ module _ {R : Region} {stops : List ℕ} (S : Stops R stops) where
   open-node : (z : ℕ) → Clear stops z → Open R z
   open-node z h = no-barrier (R .role z) (clear-free (noBarrier (R .role z)) (sym (S .at z) ∙ h))
 
-  clear-node : (z : ℕ) → Open R z → Clear stops z
+  pub clear-node : (z : ℕ) → Open R z → Clear stops z
   clear-node z h = S .at z ∙ rw (barrier-no (R .role z) h)
 
   stopped : (z : ℕ) → noBarrier (R .role z) ≡ false → Clear stops z → ⊥
@@ -172,7 +172,7 @@ module _ (s : List ℕ) (chart : Chart) (A : Accepted s chart) where
       let q : chart .region ≡ c = sym (barrier-at D (chart .region) (frameOf (D .nodes) beginNode c) w .1) ∙ f .1 in
       start-inner D (chart .region) (λ o. omega (arith, few-constructs s chart A)) ∙ ap (frameOf (D .nodes) beginNode) q
 
-  none-back : (c x : ℕ) → c < length (D .constructs) → R .role (frameOf (D .nodes) beginNode c) ≡ barrier → R .edge x (frameOf (D .nodes) beginNode c) ≡ true → ⊥
+  pub none-back : (c x : ℕ) → c < length (D .constructs) → R .role (frameOf (D .nodes) beginNode c) ≡ barrier → R .edge x (frameOf (D .nodes) beginNode c) ≡ true → ⊥
   none-back c x l w e = W .start-first (subst (λ (y : ℕ). R .edge x y ≡ true) (sym (start-begin c l w)) e)
 
   pub ends-reach : (n : ℕ) → n ≡ length (decode s .constructs)

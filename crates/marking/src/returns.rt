@@ -1,6 +1,6 @@
 // Which constructs return: one search from their ends, past no barrier.
 ghost use mathlib.Core.Path.{_≡_};
-ghost use mathlib.Core.Bool.{cond};
+ghost use mathlib.Core.Bool.{true, cond};
 ghost use Prim.Native.Nat.{ℕ, _^_, _≤_, _<_};
 ghost use lib.Bits.{bitOr};
 ghost use lib.ListN.{getD};
@@ -43,7 +43,22 @@ fn diagonal(masks: &[u64; Chart::NODES], nodes: &[u8; Chart::BARRIERS], n: usize
     all
 }
 
-// The mask of the constructs that return.
+// Whether each of the first n constructs begins before it ends, by the numbers of the nodes.
+fn all_before(begins: &[u8; Chart::BARRIERS], ends: &[u8; Chart::BARRIERS], n: usize) -> bool
+    requires { ⌜ n ≤ 64 ⌝ }
+    ensures { λ r. ⌜ (r ≡ true → (c : ℕ) → c < n → getD (now (begins .entry)) c 0 < getD (now (ends .entry)) c 0) ⌝ }
+{
+    let mut c = 0;
+    while c < n {
+        if ends[c] <= begins[c] {
+            return false;
+        }
+        c += 1;
+    }
+    true
+}
+
+// The mask of the constructs that return. Where no edge falls between nodes that are no barriers, no path leads back.
 pub fn returns(
     s: &[u8],
     chart: Chart,
@@ -62,6 +77,11 @@ pub fn returns(
     let mut begins = [0u8; Chart::BARRIERS];
     let mut ends = [0u8; Chart::BARRIERS];
     frames(s, chart, &mut begins, &mut ends);
+    if parts.low == Chart::EDGES {
+        if all_before(&begins, &ends, n) {
+            return 0;
+        }
+    }
     let mut masks = [0u64; Chart::NODES];
     ahead(edges, places, parts, &ends, n, &mut masks);
     diagonal(&masks, &begins, n)

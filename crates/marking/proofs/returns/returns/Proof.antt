@@ -8,6 +8,7 @@ use Rattle.lists.specs.Mask.{maskOf}
 use Rattle.chart.specs.Format.{decode}
 use Rattle.chart.proofs.Records.{constructs-length}
 use Rattle.phases.specs.Phases.{returning}
+use Rattle.marking.proofs.Rising.{none-return}
 use Rattle.marking.proofs.Searching.{ready, ends-reach}
 use Rattle.marking.proofs.returns.returns.Statement.{statement}
 use Rattle.marking.proofs.returns.returns.Tie as tie
@@ -22,27 +23,46 @@ returns c =
 frames-requires : tie.Need-frames-requires
 frames-requires c κs = search needs
 
+-- where the function was called, and where its frames were found
+abbrev start : (c : tie.After-frames) → tie.Start
+start c = c .before .before .before .before .before
+
+all-before-requires : tie.Need-all-before-requires
+all-before-requires c κs =
+    let e = start (c .before .before .before .before) in
+    omega (arith, e .pre .0 .laid .constructs-most)
+
+returns-2 : tie.Need-returns-2
+returns-2 c =
+    let asked = c .before in
+    let test = asked .before .before .before in
+    let framed = test .before .before in
+    let e = start framed in
+    let s = e .args .s .now in
+    let (A, F, S, H) = e .pre in
+    let q = constructs-length s (e .args .chart) (A .laid) in
+    none-return s (e .args .chart) A F S (test .if2 .taken) (framed .frames .ensures .0) (framed .frames .ensures .1) (λ d l. asked .all-before .ensures (c .if3 .taken) d (omega arith))
+
 ahead-requires : tie.Need-ahead-requires
 ahead-requires c κs =
-    let framed = c .before .before in
-    let start = framed .before .before .before .before .before in
-    let (A, F, S, H) = start .pre in
+    let framed = c .before .before .before .before in
+    let (A, F, S, H) = start framed .pre in
     ((omega (arith, A .laid .constructs-most), ready H), framed .frames .ensures .1 .node)
 
 diagonal-requires : tie.Need-diagonal-requires
 diagonal-requires c κs = search needs
 
-returns-2 : tie.Need-returns-2
-returns-2 c =
+returns-3 : tie.Need-returns-3
+returns-3 c =
     let found = c .before .before .before in
-    let framed = found .before .before .before in
-    let start = framed .before .before .before .before .before in
-    let s = start .args .s .now in
-    let (A, F, S, H) = start .pre in
+    let framed = found .before .before .before .before .before in
+    let e = start framed in
+    let s = e .args .s .now in
+    let (A, F, S, H) = e .pre in
     c .diagonal .ensures
     ∙ ends-reach s _ A _ (sym (constructs-length s _ (A .laid))) F S (framed .frames .ensures .0) (framed .frames .ensures .1) (found .ahead .ensures _ _ (F .split) (F .begins))
 
 pub returns-spec : {M : Type 1} → statement M
 returns-spec =
     tie.close
-    (tie.spec returns frames-requires ahead-requires diagonal-requires returns-2)
+    (tie.spec returns frames-requires all-before-requires returns-2 ahead-requires diagonal-requires returns-3)
