@@ -12,7 +12,7 @@ ghost use Rattle.verdicts.specs.Claims.{badNumbers};
 use bits::either;
 use chart::cursor::wide;
 use chart::format::Chart;
-use loading::closed::load_closed;
+use closed_nodes::load_closed;
 use pairs::numbers::bad_number;
 
 // Row 13, of each number that a byte can be.

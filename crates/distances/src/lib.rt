@@ -12,9 +12,9 @@ ghost use Rattle.loading.specs.Tables.{Accepted, Closed, Levels};
 ghost use Rattle.output.specs.Output.{outputRows, writtenBy, leftBy};
 ghost use Rattle.distances.specs.Distances.{distancesResult, distancesWritten, distancesLeft};
 use chart::format::Chart;
+use closed_nodes::load_closed;
 use entrance::Entered;
 use entrance::enter;
-use loading::closed::load_closed;
 use output::Written;
 use output::room_for;
 

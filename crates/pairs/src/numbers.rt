@@ -7,7 +7,7 @@ ghost use Rattle.chart.specs.Checked.{reading};
 ghost use Rattle.answers.specs.Numbers.{badNumber};
 ghost use Rattle.loading.specs.Tables.{Accepted, Closed};
 use chart::format::Chart;
-use loading::closed::closed_at;
+use closed_nodes::closed_at;
 
 // Row 13, of one number: that of none of n nodes, or of one that a claim may not name.
 pub fn bad_number(x: usize, n: usize, closed: &[u8; Chart::NODES]) -> bool

@@ -16,8 +16,8 @@ ghost use Rattle.accesses.specs.Races.{races as racesOf, racesWritten, racesLef
 use crate::list::bad_accesses;
 use chart::format::Chart;
 use chart::format::Refusal;
+use closed_nodes::load_closed;
 use critical_names::fill_names;
-use loading::closed::load_closed;
 use output::Written;
 use output::room_for;
 use profiles::marks::MaskTable;

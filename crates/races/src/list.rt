@@ -9,7 +9,7 @@ ghost use Rattle.loading.specs.Tables.{Accepted, Closed};
 ghost use Rattle.accesses.specs.Access.{accessAt, badAccess, badAccesses};
 use chart::cursor::wide;
 use chart::format::Chart;
-use loading::closed::load_closed;
+use closed_nodes::load_closed;
 use pairs::numbers::bad_number;
 use same_variable::MOST;
 use same_variable::RECORD;

@@ -1,9 +1,9 @@
--- `loading::closed::load_closed` meets its contract.
+-- `closed_nodes::load_closed` meets its contract.
 -- Assumes nothing.
 use borrow.Author.Needs.{needs}
 use Rattle.loading.proofs.Cutting.{stops-closed}
-use Rattle.loading.proofs.closed.load_closed.Statement.{statement}
-use Rattle.loading.proofs.closed.load_closed.Tie as tie
+use Rattle.closed_nodes.proofs.load_closed.Statement.{statement}
+use Rattle.closed_nodes.proofs.load_closed.Tie as tie
 
 load-stops-requires : tie.Need-load-stops-requires
 load-stops-requires c κs = search needs

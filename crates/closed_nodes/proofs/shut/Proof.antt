@@ -1,12 +1,12 @@
--- `loading::closed::shut` meets its contract.
+-- `closed_nodes::shut` meets its contract.
 -- Assumes nothing.
 use mathlib.Core.Path.{_≡_, refl, sym, _∙_, ap}
 use Prim.Native.Nat.{ℕ}
 use lib.ListN.{getD}
 use borrow.Author.Needs.{needs}
 use borrow.Author.Tests.{eq-eqb, ne-eqb}
-use Rattle.loading.proofs.closed.shut.Statement.{statement}
-use Rattle.loading.proofs.closed.shut.Tie as tie
+use Rattle.closed_nodes.proofs.shut.Statement.{statement}
+use Rattle.closed_nodes.proofs.shut.Tie as tie
 
 wide-requires : tie.Need-wide-requires
 wide-requires c κs = search needs

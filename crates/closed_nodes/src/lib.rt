@@ -8,14 +8,14 @@ ghost use lib.ListN.{getD};
 ghost use Rattle.chart.specs.Format.{outside};
 ghost use Rattle.chart.specs.Checked.{reading};
 ghost use Rattle.answers.specs.Numbers.{asked};
 ghost use Rattle.loading.specs.Tables.{Accepted, Closed};
-use crate::cut::within;
-use crate::load::load_stops;
-use crate::load::region_byte;
-use crate::load::stop;
 use chart::cursor::wide;
 use chart::format::Chart;
 use chart::format::Node;
+use loading::cut::within;
+use loading::load::load_stops;
+use loading::load::region_byte;
+use loading::load::stop;
 
 // 1 for a node whose number has no flag, and for a barrier.
 fn shut(node: Node, region: u8, flags: &[u8; 256]) -> u8

@@ -1,4 +1,4 @@
--- `loading::closed::close_region` meets its contract: after x turns the flags of the first x nodes stand.
+-- `closed_nodes::close_region` meets its contract: after x turns the flags of the first x nodes stand.
 -- Assumes nothing.
 use mathlib.Core.Path.{_≡_, _∙_}
 use mathlib.Core.Bool.{cond}
@@ -10,10 +10,10 @@ use Rattle.lists.specs.Store.{stored}
 use Rattle.chart.specs.Checked.{reading}
 use Rattle.chart.proofs.Records.{nodes-length}
 use Rattle.answers.specs.Numbers.{asked}
 use Rattle.loading.proofs.Accepted.{region-byte}
 use Rattle.loading.proofs.Cutting.{closed-turn}
-use Rattle.loading.proofs.closed.close_region.Statement.{statement}
-use Rattle.loading.proofs.closed.close_region.Tie as tie
+use Rattle.closed_nodes.proofs.close_region.Statement.{statement}
+use Rattle.closed_nodes.proofs.close_region.Tie as tie
 
 abbrev Inv-loop : tie.InvT-loop
 Inv-loop s chart closed₀ places n region x₀ closed x =

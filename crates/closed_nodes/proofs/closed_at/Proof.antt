@@ -1,4 +1,4 @@
--- `loading::closed::closed_at` meets its contract.
+-- `closed_nodes::closed_at` meets its contract.
 -- Assumes nothing.
 use Prim.Native.Nat.{_<_}
 use native.Mathlib.Omega.{arith}
@@ -6,11 +6,11 @@ use borrow.Author.Needs.{needs}
 use lib.ListN.{length}
 use Rattle.chart.specs.Format.{decode}
 use Rattle.chart.proofs.Records.{nodes-length}
 use Rattle.loading.proofs.Accepted.{region-byte}
 use Rattle.loading.proofs.Loading.{stop-byte}
 use Rattle.loading.proofs.Cutting.{stop-closed, closed-turn}
-use Rattle.loading.proofs.closed.closed_at.Statement.{statement}
-use Rattle.loading.proofs.closed.closed_at.Tie as tie
+use Rattle.closed_nodes.proofs.closed_at.Statement.{statement}
+use Rattle.closed_nodes.proofs.closed_at.Tie as tie
 
 read-requires : tie.Need-read-requires
 read-requires c κs = (c .before .pre .0 .laid, c .before .pre .1)
