@@ -1,13 +1,14 @@
 -- The entrance: what the two searches say about row 10, and an answer read backwards.
 -- Assumes nothing.
 use mathlib.Core.Path.{_≡_, refl, ap, sym, _∙_}
-use mathlib.Core.Bool.{true, false}
+use mathlib.Core.Logic.{⊎-elim}
+use mathlib.Core.Bool.{Bool, true, false, _||_}
 use mathlib.Core.List.{List}
 use mathlib.Core.Option.{Option, none, some}
 use Prim.Native.Nat.{ℕ, _-_, _≤_, _<_}
 use native.Mathlib.Omega.{arith}
 use lib.ListN.{length, getD}
-use Rattle.lists.specs.Truth.{bad, or-left, or-right, neither-or}
+use Rattle.lists.specs.Truth.{bad, or-cases, or-left, or-right, or-neither, neither-or}
 use Rattle.chart.specs.Format.{outside, decode}
 use Rattle.chart.specs.Region.{Region}
 use Rattle.chart.specs.Reading.{region, regionOf}
@@ -25,9 +26,9 @@ use Rattle.loading.proofs.Accepted.{accepted, well-formed}
 use Rattle.loading.proofs.Loading.{barriers-most, barriers-below}
 use Rattle.loading.proofs.Rows.{refused-paths, admits}
 use Rattle.entrance.specs.Entered.{entered}
-use Rattle.joining.specs.Joined.{lost, lostIn}
+use Rattle.joining.specs.Joined.{lost, lostBarrier, lostIn}
 use Rattle.entrance.specs.declared.Entered.the-variants.{Marked, Refused}
-use Rattle.joining.proofs.Joining.{some-barrier, both-ways}
+use Rattle.joining.proofs.Joining.{some-barrier, barrier-lost, both-ways}
 
 pub entered-refused : (o : Option ℕ) (counts : Chart) (barriers : ℕ) {refusal : Refusal} → entered o counts barriers ≡ Refused refusal → o ≡ some (refusal .number)
 unfolding entered
@@ -72,6 +73,9 @@ module _ (s : List ℕ) (chart : Chart) (h : checked s ≡ Passed chart) where
   abbrev R : Region
   R = reading s chart
 
+  A : Accepted s chart
+  A = accepted s chart h
+
   same : countsOf s ≡ chart
   unfolding checked
   same = passed-none _ (countsOf s) chart h .1
@@ -86,18 +90,34 @@ module _ (s : List ℕ) (chart : Chart) (h : checked s ≡ Passed chart) where
   bad-paths : badPaths (region (decode s)) ≡ lostIn R
   bad-paths =
       sym (ap badPaths outermost)
-      ∙ both-ways R (well-formed s chart (accepted s chart h)) (start-outer (decode s) (chart .region) read-whole) (finish-outer (decode s) (chart .region) read-whole)
+      ∙ both-ways R (well-formed s chart A) (start-outer (decode s) (chart .region) read-whole) (finish-outer (decode s) (chart .region) read-whole)
 
-  pub unreached : lost forward (reading s chart) (barrierAt (reading s chart) 0) ≡ true → firstOf (admitRows s) ≡ some 10
-  unreached f = refused-paths s chart h (bad-paths ∙ or-left _ _ f)
+  module _ {nodes : List ℕ} {total : ℕ} (N : Barriers (reading s chart) nodes total) where
+    abbrev ahead : Bool
+    ahead = lost forward (reading s chart) (barrierAt (reading s chart) 0)
 
-  module _ (total : ℕ) (q : total ≡ length (barriers (reading s chart))) where
-    pub stuck : lost backward (reading s chart) (barrierAt (reading s chart) (total - 1)) ≡ true → firstOf (admitRows s) ≡ some 10
-    stuck b = refused-paths s chart h (bad-paths ∙ or-right (lost forward R (barrierAt R 0)) _ (rw q at b))
+    abbrev apart : Bool
+    apart = lostBarrier backward (reading s chart) (total - 1)
 
-    pub connects : lost forward (reading s chart) (barrierAt (reading s chart) 0) ≡ false
-        → lost backward (reading s chart) (barrierAt (reading s chart) (total - 1)) ≡ false → firstOf (admitRows s) ≡ none
-    connects f b = admits s chart h (bad-paths ∙ neither-or _ _ f (rw q at b))
+    back : lost backward R (barrierAt R (total - 1)) ≡ true → firstOf (admitRows s) ≡ some 10
+    back b = refused-paths s chart h (bad-paths ∙ or-right ahead _ (rw (N .count) at b))
+
+    -- a barrier that does not reach the last one is a node that does not
+    last : apart ≡ true → lost backward R (barrierAt R (total - 1)) ≡ true
+    last = let some = not-none A N in barrier-lost (well-formed s chart A) backward nodes N (total - 1) (omega arith)
+
+    pub unreached : (ahead || apart) ≡ true → firstOf (admitRows s) ≡ some 10
+    unreached f = ⊎-elim (λ a. refused-paths s chart h (bad-paths ∙ or-left ahead _ a)) (λ b. back (last b)) (or-cases ahead apart f)
+
+    -- with what the search backward says of the nodes that are no barriers
+    module _ {r : Bool} (e : (apart || r) ≡ lost backward (reading s chart) (barrierAt (reading s chart) (total - 1))) where
+      pub stuck : r ≡ true → firstOf (admitRows s) ≡ some 10
+      stuck t = back (sym e ∙ or-right apart r t)
+
+      pub connects : (ahead || apart) ≡ false → r ≡ false → firstOf (admitRows s) ≡ none
+      connects f t =
+          let (a, b) = or-neither ahead apart f in
+          admits s chart h (bad-paths ∙ neither-or ahead _ a (rw (N .count) at (sym e ∙ neither-or apart r b t)))
 
   -- the answer of the entrance
 

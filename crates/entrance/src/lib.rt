@@ -52,7 +52,7 @@ fn enter_chart(
     if fill_starts(&edges, &places, &stops, &nodes, extent, starts, levels) {
         return Entered::Refused(Refusal::PATHS);
     }
-    if fill_ends(&edges, &places, &stops, &nodes, extent, ends) {
+    if fill_ends(&edges, &stops, &nodes, extent, ends) {
         return Entered::Refused(Refusal::PATHS);
     }
     Entered::Marked(chart, extent.barriers)
@@ -105,7 +105,7 @@ fn mark_region(
     let mut nodes = [0u8; Chart::BARRIERS];
     let extent = load_tables(s, chart, &mut edges, &mut places, &mut stops, &mut nodes);
     fill_starts(&edges, &places, &stops, &nodes, extent, starts, levels);
-    fill_ends(&edges, &places, &stops, &nodes, extent, ends);
+    fill_ends(&edges, &stops, &nodes, extent, ends);
     extent.barriers
 }
 

@@ -5,21 +5,21 @@ use mathlib.Core.Path.{_≡_, refl, ap, sym, _∙_}
 use mathlib.Core.Logic.{_⊎_, inl, inr, ⊎-elim}
 use mathlib.Core.Bool.{Bool, true, false, _&&_, _||_, not, cond}
 use mathlib.Core.List.{List}
-use Prim.Native.Nat.{ℕ, _+_, _-_, _^_, _≤_, _<_}
+use Prim.Native.Nat.{ℕ, zero, suc, _+_, _-_, _^_, _≤_, _<_}
 use native.Mathlib.Omega.{arith}
 use native.Mathlib.Decide.{ℕ-discrete, decLt}
 use native.Mathlib.Numerals.{add-one}
-use lib.Bits.{bitAnd, bitOr, and-le-r, or-comm, or-lt}
+use lib.Bits.{bitAnd, bitOr, or-comm}
 use lib.Count.{ones}
 use lib.Dec.{eqb, ltb}
 use lib.ListN.{length, getD}
-use lib.Pow.{pow-lt}
+use lib.Pow.{pow-pos, pow-lt, pow-mono}
 use borrow.Author.Tests.{eqb-true, eq-eqb, ne-eqb, not-true, not-false, lt-ltb, le-ltb}
 use Rattle.lists.specs.Truth.{truth, clash, false-if, true-not, and-both, both-and, and-fails, fails-and}
 use Rattle.lists.specs.Range.{any, any-at, at-any, any-none, any-or, any-same, none-passes, count}
 use Rattle.lists.specs.Counting.{count-all, count-full, count-hit}
-use Rattle.lists.specs.Mask.{Has, Mask, or-cases, or-left, or-right, or-more, has-none, has-own, has-pow, mask-is}
-use Rattle.lists.specs.Bits.{has, ones-mask}
+use Rattle.lists.specs.Mask.{Has, Sub, Mask, or-cases, or-left, or-right, or-more, has-none, has-own, has-pow, mask-unique, maskOf, mask-of, mask-is}
+use Rattle.lists.specs.Bits.{has, has-below, ones-mask}
 use Rattle.lists.specs.Common.{and-both as has-each, both-and as has-both, some-bit}
 use Rattle.lists.specs.Select.{select, select-at, select-length}
 use Rattle.chart.specs.Region.{barrier, Region}
@@ -27,28 +27,12 @@ use Rattle.chart.specs.WellFormed.{WellFormed}
 use Rattle.paths.specs.Path.{Path, Any, Open}
 use Rattle.paths.specs.PathLaws.{append, carry, reverse, cut-last, From}
 use Rattle.paths.specs.Decide.{noBarrier, no-barrier, barrier-no, any-path, path-any}
-use Rattle.paths.specs.Found.{Found, Leveled}
+use Rattle.paths.specs.Found.{Reached, Found, Leveled}
 use Rattle.paths.specs.Admission.{cutOff, badPaths}
 use Rattle.phases.specs.Phases.{Direction, forward, backward, barriers, barrierAt}
 use Rattle.phases.specs.PhasesLaws.{is-barrier, number-barrier, barrier-number, number-unique}
 use Rattle.loading.specs.Tables.{Along, leadsAny, Stops, Barriers}
-use Rattle.joining.specs.Joined.{Joined, own, more, fromSource, Passed, lost, lostBarrier, missing, Reaches, lostIn}
-
--- the order of a pass: each barrier has its turn
-
-turn-below : (source total k : ℕ) → k < total → fromSource source total k < total
-turn-below source total k l = go (eqb source 0)
-  where
-    go : (t : Bool) → cond t k (total - 1 - k) < total
-    go true = l
-    go false = omega arith
-
-turn-of : (source total b : ℕ) → b < total → fromSource source total (fromSource source total b) ≡ b
-turn-of source total b l = go (eqb source 0)
-  where
-    go : (t : Bool) → cond t (cond t b (total - 1 - b)) (total - 1 - cond t b (total - 1 - b)) ≡ b
-    go true = refl
-    go false = omega arith
+use Rattle.joining.specs.Joined.{Told, Joined, own, more, Passed, lost, lostBarrier, missing, Reaches, lostIn}
 
 differ : (a b : ℕ) → (a ≡ b → ⊥) → not (eqb a b) ≡ true
 differ a b n = rw (ne-eqb a b n)
@@ -58,91 +42,134 @@ ones-count : {P : ℕ → Type 0} {k m : ℕ} → Mask P k m → ones m ≡ coun
 ones-count {k = k} {m} v =
     ap ones (mask-is (has m) (λ b l p. eq-eqb _ 1 (v .all b l p)) (λ b l p. v .only b l (eqb-true _ 1 p)) v) ∙ ones-mask (has m) k
 
-module _ (masks nodes : List ℕ) (total source : ℕ) where
-  abbrev J : ℕ → Type 0
-  J = Joined masks nodes total source
+lt-two-pow : (n : ℕ) → n < 2 ^ n
+lt-two-pow zero = pow-pos 0
+lt-two-pow (suc n) = omega (arith, lt-two-pow n, pow-lt {i = n} {j = suc n} (omega arith))
 
+-- a number is as low as its bits
+bits-low : (m k : ℕ) → ((b : ℕ) → Has m b → b < k) → m < 2 ^ k
+bits-low m k f =
+    let v = mask-of (has m) k in
+    let n = maskOf (has m) k in
+    let own : Mask (Has m) (k + m) m = record { small = omega (arith, lt-two-pow m, pow-mono {i = m} {j = k + m} (omega arith)); only = λ b l h. h; all = λ b l h. h } in
+    let same : Mask (Has m) (k + m) n = record {
+      small = omega (arith, v .small, pow-mono {i = k} {j = k + m} (omega arith));
+      only = λ b l h. eqb-true _ 1 (v .only b (has-below n k b (v .small) h) h);
+      all = λ b l h. v .all b (f b h) (eq-eqb _ 1 h);
+    } in
+    rw (mask-unique own same) (v .small)
+
+-- one pass, and passes after each other, whatever joins two barriers
+
+module _ (T : ℕ → ℕ → Type 0) where
+  pub passed-none : (D : ℕ → ℕ → Type 0) (before : ℕ) → ((b c : ℕ) → D b c → ⊥) → Passed T D before before
+  passed-none D before n = record { most = omega arith; keeps = λ b h. h; sound = λ b h. own h; done = λ b c d. absurd (n b c d) }
+
+  -- pairs that bring nothing more
+  pub passed-still : {D F : ℕ → ℕ → Type 0} {before all : ℕ} → ((b c : ℕ) → F b c → Has before c → T b c → D b c) → Passed T D before all → Passed T F before all
+  passed-still f p = record { most = p .most; keeps = p .keeps; sound = p .sound; done = λ b c d h t. p .done b c (f b c d h t) h t }
+
+  -- pairs that bring those of m
+  passed-joins : {D F : ℕ → ℕ → Type 0} {before all : ℕ} (m : ℕ) → ((b : ℕ) → Has m b → Joined T before b)
+      → ((b c : ℕ) → F b c → Has before c → T b c → D b c ⊎ Has m b) → Passed T D before all → Passed T F before (bitOr m all)
+  passed-joins {all = all} m g f p = record {
+    most = omega (arith, p .most, or-more all m, or-comm all m);
+    keeps = λ i h. or-right m all i (p .keeps i h);
+    sound = λ i h. ⊎-elim (g i) (p .sound i) (or-cases m all i h);
+    done = λ b c d h t. ⊎-elim (λ e. or-right m all b (p .done b c e h t)) (or-left m all b) (f b c d h t);
+  }
+
+  -- what is joined to those that are joined
+  through : {first before : ℕ} → ((b : ℕ) → Has before b → Joined T first b) → {b : ℕ} → Joined T before b → Joined T first b
+  through f (own h) = f _ h
+  through f (more j t) = more (through f j) t
+
+  -- between the passes: the first are joined, and no barrier that is not
+  pub record Joins (first all : ℕ) : Type 0 where
+    pub begun : Sub first all
+    pub sound : (b : ℕ) → Has all b → Joined T first b
+
+  pub joins-none : (first : ℕ) → Joins first first
+  joins-none first = record { begun = λ b h. h; sound = λ b h. own h }
+
+  pub joins-more : {D : ℕ → ℕ → Type 0} {first before all : ℕ} → Joins first before → Passed T D before all → Joins first all
+  joins-more j p = record { begun = λ b h. p .keeps b (j .begun b h); sound = λ b h. through (j .sound) (p .sound b h) }
+
+  -- all are joined, or a pass brought nothing more
+  module _ {total first : ℕ} (low : first < 2 ^ total) (bound : (b c : ℕ) → T b c → b < total) where
+    below : {b : ℕ} → Joined T first b → b < total
+    below (own {b} h) = has-below first total b low h
+    below (more {b} {c} j t) = bound b c t
+
+    joined-low : {all : ℕ} → Joins first all → all < 2 ^ total
+    joined-low {all} j = bits-low all total (λ b h. below (j .sound b h))
+
+    pub joined-full : {all : ℕ} → Joins first all → total ≤ ones all → Mask (Joined T first) total all
+    joined-full {all} j f =
+        let own : Mask (Has all) total all = record { small = joined-low j; only = λ b l h. h; all = λ b l h. h } in
+        record {
+          small = joined-low j;
+          only = λ b l. j .sound b;
+          all = λ b l _. eqb-true _ 1 (count-full total (has all) (omega (arith, ones-count own)) b l);
+        }
+
+    pub joined-all : {all : ℕ} → Joins first all → Passed T (λ b c. (b < total) × (c < total)) all all → Mask (Joined T first) total all
+    joined-all {all} i p = record { small = joined-low i; only = λ b l. i .sound b; all = λ b l. bits }
+      where
+        bits : {b : ℕ} → Joined T first b → Has all b
+        bits (own {b} h) = i .begun b h
+        bits (more {b} {c} j t) = p .done b c (bound b c t, below j) (bits j) t
+
+-- a barrier's turn in a pass, along the masks and against them
+
+module _ (masks nodes : List ℕ) (total : ℕ) where
   abbrev maskAt : ℕ → ℕ
   maskAt b = getD masks (getD nodes b 0) 0
 
-  pub passed-none : (before : ℕ) → before < 2 ^ total → ((b : ℕ) → Has before b → J b) → Passed masks nodes total source before 0 before
-  passed-none before l s = record { low = l; most = omega arith; keeps = λ b h. h; sound = s; done = λ j c m. absurd (omega arith) }
+  abbrev With : ℕ → ℕ → Type 0
+  With = Told false masks nodes total
 
-  pub passed-more : {before k all : ℕ} (b r : ℕ) → k < total → b ≡ fromSource source total k → Passed masks nodes total source before k all
-      → r ≡ cond (eqb (bitAnd (maskAt b) all) 0) all (bitOr (2 ^ b) all) → Passed masks nodes total source before (k + 1) r
-  passed-more {before} {k} {all} b r l q p e = go (ℕ-discrete (bitAnd (maskAt b) all) 0)
+  abbrev Against : ℕ → ℕ → Type 0
+  Against = Told true masks nodes total
+
+  pub along-more : {before all : ℕ} (b r : ℕ) → b < total → Passed With (λ i c. i < b) before all
+      → r ≡ cond (eqb (bitAnd (maskAt b) all) 0) all (bitOr (2 ^ b) all) → Passed With (λ i c. i < b + 1) before r
+  along-more {before} {all} b r l p e = go (ℕ-discrete (bitAnd (maskAt b) all) 0)
     where
-      below : b < total
-      below = rw q (turn-below source total k l)
+      apart : bitAnd (maskAt b) all ≡ 0 → (i c : ℕ) → i < b + 1 → Has before c → With i c → Dec (i ≡ b) → i < b
+      apart z i c m h t (yes q) = absurd (has-none c (rw z at (has-both (maskAt b) all c (rw q at (t .1)) (p .keeps c h))))
+      apart z i c m h t (no n) = omega arith
 
-      last : (P : ℕ → Type 0) (j : ℕ) → j < k + 1 → (j < k → P (fromSource source total j)) → P b → P (fromSource source total j)
-      last P j m f g = elim (ℕ-discrete j k) [ yes i ↦ rw (i, ← q) g | no i ↦ f (omega arith) ]
-
-      apart : bitAnd (maskAt b) all ≡ 0 → Passed masks nodes total source before (k + 1) all
-      apart z = record {
-        low = p .low;
-        most = p .most;
-        keeps = p .keeps;
-        sound = p .sound;
-        done = λ j c m h. last (λ i. Has (maskAt i) c → Has all i) j m (λ n g. p .done j c n h g)
-            (λ g. absurd (has-none c (rw z at (has-both (maskAt b) all c g (p .keeps c h)))));
-      }
-
-      common : (bitAnd (maskAt b) all ≡ 0 → ⊥) → J b
+      common : (bitAnd (maskAt b) all ≡ 0 → ⊥) → Joined With before b
       common n =
           let m = bitAnd (maskAt b) all in
-          let v : Mask (Has m) total m = record { small = omega (arith, and-le-r (maskAt b) all, p .low); only = λ i q h. h; all = λ i q h. h } in
-          let (c, (l, h)) = some-bit v .0 n in
+          let v : Mask (Has m) m m = record { small = lt-two-pow m; only = λ i q h. h; all = λ i q h. h } in
+          let (c, (q, h)) = some-bit v .0 n in
           let (x, y) = has-each (maskAt b) all c h in
-          more l (p .sound c y) x
+          more (p .sound c y) (l, x)
 
-      joins : (bitAnd (maskAt b) all ≡ 0 → ⊥) → Passed masks nodes total source before (k + 1) (bitOr (2 ^ b) all)
-      joins n = record {
-        low = or-lt total (2 ^ b) all (pow-lt below) (p .low);
-        most = omega (arith, p .most, or-more all (2 ^ b), or-comm all (2 ^ b));
-        keeps = λ i h. or-right (2 ^ b) all i (p .keeps i h);
-        sound = λ i h. ⊎-elim (λ g. rw (has-pow b i g) (common n)) (p .sound i) (or-cases (2 ^ b) all i h);
-        done = λ j c m h. last (λ i. Has (maskAt i) c → Has (bitOr (2 ^ b) all) i) j m (λ u g. or-right (2 ^ b) all _ (p .done j c u h g))
-            (λ g. or-left (2 ^ b) all b (has-own b));
-      }
+      turn : (i : ℕ) → i < b + 1 → Dec (i ≡ b) → (i < b) ⊎ Has (2 ^ b) i
+      turn i m (yes q) = inr (rw q (has-own b))
+      turn i m (no n) = inl (omega arith)
 
-      go : Dec (bitAnd (maskAt b) all ≡ 0) → Passed masks nodes total source before (k + 1) r
-      go (yes z) = rw (e, eq-eqb _ 0 z) (apart z)
-      go (no n) = rw (e, ne-eqb _ 0 n) (joins n)
+      go : Dec (bitAnd (maskAt b) all ≡ 0) → Passed With (λ i c. i < b + 1) before r
+      go (yes z) = rw (e, eq-eqb _ 0 z) (passed-still With (λ i c m h t. apart z i c m h t (ℕ-discrete i b)) p)
+      go (no n) = rw (e, ne-eqb _ 0 n) (passed-joins With (2 ^ b) (λ i h. rw (has-pow b i h) (common n)) (λ i c m h t. turn i m (ℕ-discrete i b)) p)
 
-  -- between the passes: the source is joined, and no barrier that is not
-  pub record Joins (all : ℕ) : Type 0 where
-    pub low : all < 2 ^ total
-    pub begun : Has all source
-    pub sound : (b : ℕ) → Has all b → J b
-
-  pub joins-none : source < total → Joins (2 ^ source)
-  joins-none l = record { low = pow-lt l; begun = has-own source; sound = λ b h. rw (has-pow source b h) own }
-
-  pub joins-more : {before all : ℕ} → Joins before → Passed masks nodes total source before total all → Joins all
-  joins-more j p = record { low = p .low; begun = p .keeps source (j .begun); sound = p .sound }
-
-  -- all are joined, or a pass brought nothing more
-  pub joined-full : {all : ℕ} → Joins all → total ≤ ones all → Mask J total all
-  joined-full {all} j f =
-      let own : Mask (Has all) total all = record { small = j .low; only = λ b l h. h; all = λ b l h. h } in
-      record {
-        small = j .low;
-        only = λ b l. j .sound b;
-        all = λ b l _. eqb-true _ 1 (count-full total (has all) (omega (arith, ones-count own)) b l);
-      }
-
-  pub joined-all : {all : ℕ} → Joins all → Passed masks nodes total source all total all → Mask J total all
-  joined-all {all} i p = record { small = p .low; only = λ b l. p .sound b; all = λ b l j. bits j l }
+  pub against-more : {before all : ℕ} (left r : ℕ) → 0 < left → Passed Against (λ b c. (left ≤ c) × (c < total)) before all
+      → r ≡ cond (has all (left - 1)) (bitOr (maskAt (left - 1)) all) all → Passed Against (λ b c. (left - 1 ≤ c) × (c < total)) before r
+  against-more {before} {all} left r some p e = elim (truth (has all (left - 1))) [
+    | inl h ↦ rw (e, h) (passed-joins Against (maskAt (left - 1)) (λ b t. more (p .sound (left - 1) (eqb-true _ 1 h)) t) (λ b c d _ t. turn b c d t (ℕ-discrete c (left - 1))) p)
+    | inr h ↦ rw (e, h) (passed-still Against (λ b c d j _. apart h c d j (ℕ-discrete c (left - 1))) p)
+  ]
     where
-      step : (b c : ℕ) → b < total → Has all c → Has (maskAt b) c → Has all b
-      step b c l x y =
-          let q = turn-of source total b l in
-          rw q at (p .done (fromSource source total b) c (turn-below source total b l) x (rw q y))
+      turn : (b c : ℕ) → (left - 1 ≤ c) × (c < total) → Against b c → Dec (c ≡ left - 1) → ((left ≤ c) × (c < total)) ⊎ Has (maskAt (left - 1)) b
+      turn b c d t (yes q) = inr (rw q at t)
+      turn b c d t (no n) = inl (omega (arith, d .0), d .1)
 
-      bits : {b : ℕ} → J b → b < total → Has all b
-      bits own l = i .begun
-      bits (more {b} {c} m j g) l = step b c l (bits j m) g
+      apart : has all (left - 1) ≡ false → (c : ℕ) → (left - 1 ≤ c) × (c < total) → Has before c → Dec (c ≡ left - 1) → (left ≤ c) × (c < total)
+      apart h c d j (yes q) = absurd (clash (eq-eqb _ 1 (rw q at (p .keeps c j))) h)
+      apart h c d j (no n) = (omega (arith, d .0), d .1)
 
 -- along any edges, in a direction
 
@@ -160,7 +187,7 @@ module _ {R : Region} (W : WellFormed R) where
 
   -- Where no barrier with M leads past no barrier to one without it: to what a path leads from one with M, one with M leads past no barrier.
   module _ (d : Direction) (nodes : List ℕ) {total : ℕ} (B : Barriers R nodes total) (M : ℕ → Type 0)
-      (grows : (b c : ℕ) → c < total → M c → Path (Along d R) (Open R) (getD nodes c 0) (getD nodes b 0) → M b) where
+      (grows : (b c : ℕ) → b < total → c < total → M c → Path (Along d R) (Open R) (getD nodes c 0) (getD nodes b 0) → M b) where
     abbrev Node : ℕ → Type 0
     Node z = (b : ℕ) × (b < total) × (getD nodes b 0 ≡ z) × M b
 
@@ -168,7 +195,8 @@ module _ {R : Region} (W : WellFormed R) where
     closed x z (c, l, e, j) p n =
         let (b, m, q) = barrier-number R W z (is-barrier _ (false-if (λ h. n (no-barrier _ h)))) in
         let r : getD nodes b 0 ≡ z = B .at b ∙ q in
-        (b, omega (arith, B .count), r, grows b c l j (rw (e, r) p))
+        let k : b < total = omega (arith, B .count) in
+        (b, k, r, grows b c k l j (rw (e, r) p))
 
     abbrev Led : ℕ → Type 0
     Led = From {E = Along d R} {P = Open R} open? Node closed
@@ -188,24 +216,26 @@ module _ {R : Region} (W : WellFormed R) where
     as-barriers : any total apart ≡ lostBarrier d R source
     as-barriers = rw (← B .count) (any-same total _ _ (λ b l. rw (B .at b, B .at source)))
 
-    -- by the masks of a search from the barriers, past none of them
-    module _ {masks : List ℕ} (w : Found (Along d R) (Open R) nodes total masks) (all : ℕ) (v : Mask (Joined masks nodes total source) total all) where
+    -- where T tells of each two barriers whether a path leads from one to the other, past none of them
+    module _ (T : ℕ → ℕ → Type 0) (told-path : (b c : ℕ) → T b c → Path (Along d R) (Open R) (getD nodes c 0) (getD nodes b 0))
+        (path-told : (b c : ℕ) → b < total → c < total → Path (Along d R) (Open R) (getD nodes c 0) (getD nodes b 0) → T b c)
+        (all : ℕ) (v : Mask (Joined T (2 ^ source)) total all) where
       abbrev Own : ℕ → Type 0
-      Own = Joined masks nodes total source
+      Own = Joined T (2 ^ source)
 
       -- a path leads from the source to each barrier that is joined, and to no other
       joined-path : {b : ℕ} → Own b → (b ≡ source) ⊎ Path (Along d R) Any (getD nodes source 0) (getD nodes b 0)
-      joined-path own = inl refl
-      joined-path (more {b} {c} l j h) =
-          let p : Path (Along d R) Any (getD nodes c 0) (getD nodes b 0) = carry (λ x y e. e) (λ z o. tt) (w .mask (getD nodes b 0) .only c l h) in
+      joined-path (own {b} h) = inl (has-pow source b h)
+      joined-path (more {b} {c} j t) =
+          let p : Path (Along d R) Any (getD nodes c 0) (getD nodes b 0) = carry (λ x y e. e) (λ z o. tt) (told-path b c t) in
           inr (⊎-elim (λ e. rw e at p) (λ v. append v tt p) (joined-path j))
 
-      led-joined : (b : ℕ) → leadsAny d R (getD nodes source 0) (getD nodes b 0) ≡ true → Own b
-      led-joined b h =
-          let on : (b c : ℕ) → c < total → Own c → Path (Along d R) (Open R) (getD nodes c 0) (getD nodes b 0) → Own b = λ b c l j p.
-          more l j (w .mask (getD nodes b 0) .all c l p) in
-          let (c, l, j, p) = led d nodes B Own on source within own (getD nodes b 0) h in
-          on b c l j p
+      led-joined : (b : ℕ) → b < total → leadsAny d R (getD nodes source 0) (getD nodes b 0) ≡ true → Own b
+      led-joined b k h =
+          let on : (b c : ℕ) → b < total → c < total → Own c → Path (Along d R) (Open R) (getD nodes c 0) (getD nodes b 0) → Own b = λ b c k l j p.
+          more j (path-told b c k l p) in
+          let (c, l, j, p) = led d nodes B Own on source within (own (has-own source)) (getD nodes b 0) h in
+          on b c k l j p
 
       few-apart : ones all < total → lostBarrier d R source ≡ true
       few-apart f = sym as-barriers ∙ elim (truth (any total (λ b. not (has all b)))) [
@@ -219,22 +249,22 @@ module _ {R : Region} (W : WellFormed R) where
           lone : (b : ℕ) → b < total → not (has all b) ≡ true → apart b ≡ true
           lone b l h =
               let no : Own b → ⊥ = λ j. clash (eq-eqb _ 1 (v .all b l j)) (not-true _ h) in
-              let unled : not (leadsAny d R (getD nodes source 0) (getD nodes b 0)) ≡ true = rw (false-if (λ g. no (led-joined b g))) in
-              both-and _ _ (differ b source (λ e. no (rw e own))) unled
+              let unled : not (leadsAny d R (getD nodes source 0) (getD nodes b 0)) ≡ true = rw (false-if (λ g. no (led-joined b l g))) in
+              both-and _ _ (differ b source (λ e. no (rw e (own (has-own source))))) unled
 
       full-apart : total ≤ ones all → lostBarrier d R source ≡ false
       full-apart f = sym as-barriers ∙ any-none total apart (λ b l. fails-and _ _ (λ h.
           let j : Own b = v .only b l (eqb-true _ 1 (count-full total (has all) (omega (arith, ones-count v)) b l)) in
           ⊎-elim (λ e. absurd (clash (eq-eqb _ _ e) (not-true _ h))) (λ p. true-not _ (path-leads d p)) (joined-path j)))
 
-      pub apart-told : ltb (ones all) total ≡ lostBarrier d R source
-      apart-told = elim (decLt (ones all) total) [
+      joined-told : ltb (ones all) total ≡ lostBarrier d R source
+      joined-told = elim (decLt (ones all) total) [
         | yes l ↦ lt-ltb _ _ l ∙ sym (few-apart l)
         | no n ↦ (let l : total ≤ ones all = omega arith in le-ltb _ _ l ∙ sym (full-apart l))
       ]
 
     -- a barrier that is lost is a node that is
-    barrier-lost : lostBarrier d R source ≡ true → lost d R (barrierAt R source) ≡ true
+    pub barrier-lost : lostBarrier d R source ≡ true → lost d R (barrierAt R source) ≡ true
     barrier-lost h =
         let (b, l, t) = any-at (length (barriers R)) _ h in
         let (differs, unled) = and-both _ _ t in
@@ -253,7 +283,7 @@ module _ {R : Region} (W : WellFormed R) where
           path-leads d (elim (ℕ-discrete b source) [ yes e ↦ rw e at p | no n ↦ append (leads-path d _ _ (reached b l n)) tt p ])
 
       none : (x : ℕ) → Open R x → getD values x 0 ≡ 0 → leadsAny d R (getD nodes source 0) x ≡ true → ⊥
-      none x o z h = let (c, l, j, p) = led d nodes B (λ b. Unit {0}) (λ b c l j p. tt) source within tt x h in r .none c x l o p z
+      none x o z h = let (c, l, j, p) = led d nodes B (λ b. Unit {0}) (λ b c k l j p. tt) source within tt x h in r .none c x l o p z
 
       same : (x : ℕ) → Open R x → Dec (getD values x 0 ≡ 0) → eqb (getD values x 0) 0 ≡ not (leadsAny d R (getD nodes source 0) x)
       same x o (yes z) = rw (eq-eqb _ _ z, false-if (none x o z))
@@ -288,12 +318,31 @@ module _ {R : Region} (W : WellFormed R) where
       | inr h ↦ rw h (nodes-lost h r S)
     ]
 
+  -- by the masks of a search from the barriers, past none of them, along these masks and against them
+
+  module _ (nodes : List ℕ) {total : ℕ} (B : Barriers R nodes total) (source : ℕ) (within : source < total) {masks : List ℕ} (all : ℕ) where
+    pub apart-told : (d : Direction) → Found (Along d R) (Open R) nodes total masks
+        → (((b c : ℕ) → Told false masks nodes total b c → b < total) → Mask (Joined (Told false masks nodes total) (2 ^ source)) total all)
+        → ltb (ones all) total ≡ lostBarrier d R source
+    apart-told d w v = joined-told d nodes B source within (Told false masks nodes total)
+        (λ b c t. let u = w .mask (getD nodes b 0) in u .only c (has-below _ total c (u .small) (t .1)) (t .1))
+        (λ b c k l p. (k, w .mask (getD nodes b 0) .all c l p)) all (v (λ b c t. t .0))
+
+    pub stuck-told : Found (Along forward R) (Open R) nodes total masks
+        → (((b c : ℕ) → Told true masks nodes total b c → b < total) → Mask (Joined (Told true masks nodes total) (2 ^ source)) total all)
+        → ltb (ones all) total ≡ lostBarrier backward R source
+    stuck-told w v =
+        let bound : (b c : ℕ) → Told true masks nodes total b c → b < total = λ b c. has-below _ total b (w .mask (getD nodes c 0) .small) in
+        joined-told backward nodes B source within (Told true masks nodes total) (λ b c t. reverse (w .mask (getD nodes c 0) .only b (bound b c t) t))
+        (λ b c k l p. w .mask (getD nodes c 0) .all b k (reverse p)) all (v bound)
+
 -- masks and levels tell where a path leads
 
-pub masks-reach : {E : ℕ → ℕ → Type 0} {P : ℕ → Type 0} {sources masks : List ℕ} {total : ℕ} → Found E P sources total masks → Reaches E P sources total masks
+pub masks-reach : {E : ℕ → ℕ → Type 0} {P : ℕ → Type 0} {sources masks : List ℕ} {total : ℕ}
+    → ((x : ℕ) → P x → Mask (λ b. Reached E P sources b x) total (getD masks x 0)) → Reaches E P sources total masks
 masks-reach w = record {
-  some = λ x o n. let (b, (l, p)) = some-bit (w .mask x) .0 n in (b, l, p);
-  none = λ b x l o p. some-bit (w .mask x) .1 (b, (l, p));
+  some = λ x o n. let (b, (l, p)) = some-bit (w x o) .0 n in (b, l, p);
+  none = λ b x l o p. some-bit (w x o) .1 (b, (l, p));
 }
 
 pub levels-reach : {E : ℕ → ℕ → Type 0} {P : ℕ → Type 0} {sources levels : List ℕ} {total : ℕ} → Leveled E P P sources total levels → Reaches E P sources total levels

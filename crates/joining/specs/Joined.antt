@@ -2,9 +2,9 @@
 -- then a matter of these barriers and of the masks, with no further search.
 -- Assumes nothing.
 use mathlib.Core.Path.{_≡_}
-use mathlib.Core.Bool.{Bool, _&&_, _||_, not, cond}
+use mathlib.Core.Bool.{Bool, true, false, _&&_, _||_, not}
 use mathlib.Core.List.{List}
-use Prim.Native.Nat.{ℕ, _-_, _^_, _≤_, _<_}
+use Prim.Native.Nat.{ℕ, _-_, _≤_, _<_}
 use lib.Dec.{eqb}
 use lib.ListN.{length, getD}
 use Rattle.lists.specs.Mask.{Has, Sub}
@@ -14,22 +14,22 @@ use Rattle.paths.specs.Found.{Reached}
 use Rattle.phases.specs.Phases.{Direction, forward, backward, barriers, barrierAt}
 use Rattle.loading.specs.Tables.{leadsAny}
 
--- Barrier b is the source, or its mask has a barrier that is joined to the source.
-pub data Joined (masks nodes : List ℕ) (total source : ℕ) : ℕ → Type 0 where
-  own : Joined masks nodes total source source
-  more : {b c : ℕ} → c < total → Joined masks nodes total source c → Has (getD masks (getD nodes b 0) 0) c → Joined masks nodes total source b
+-- By the mask of barrier b a path past no barrier leads there from barrier c; against the masks: by that of c, from b to c.
+abbrev pub Told : Bool → List ℕ → List ℕ → ℕ → ℕ → ℕ → Type 0
+Told false masks nodes total b c = (b < total) × Has (getD masks (getD nodes b 0) 0) c
+Told true masks nodes total b c = Has (getD masks (getD nodes c 0) 0) b
 
--- The k-th barrier from the source on, which is the first or the last.
-abbrev pub fromSource : ℕ → ℕ → ℕ → ℕ
-fromSource source total k = cond (eqb source 0) k (total - 1 - k)
+-- Barrier b is one of the first, or T joins it to one that is joined to them.
+pub data Joined (T : ℕ → ℕ → Type 0) (first : ℕ) : ℕ → Type 0 where
+  own : {b : ℕ} → Has first b → Joined T first b
+  more : {b c : ℕ} → Joined T first c → T b c → Joined T first b
 
--- What a pass over the barriers makes of those joined before, when it has come to the k-th: a barrier whose mask has one of them is joined.
-pub record Passed (masks nodes : List ℕ) (total source before k all : ℕ) : Type 0 where
-  pub low : all < 2 ^ total
+-- What a pass over the barriers makes of those joined before, when it has come to the pairs with D: what T joins to one of them is joined.
+pub record Passed (T D : ℕ → ℕ → Type 0) (before all : ℕ) : Type 0 where
   pub most : before ≤ all
   pub keeps : Sub before all
-  pub sound : (b : ℕ) → Has all b → Joined masks nodes total source b
-  pub done : (j c : ℕ) → j < k → Has before c → Has (getD masks (getD nodes (fromSource source total j) 0) 0) c → Has all (fromSource source total j)
+  pub sound : (b : ℕ) → Has all b → Joined T before b
+  pub done : (b c : ℕ) → D b c → Has before c → T b c → Has all b
 
 -- One of the nodes, other than the source, is not led to from there.
 abbrev pub lost : Direction → Region → ℕ → Bool

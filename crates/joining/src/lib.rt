@@ -1,35 +1,27 @@
 // Row 10 of the refusals: every node is reached from start and reaches finish, along edges. The masks of a search past no barrier tell
 // it: first which barriers are joined to start (to finish), then whether some barrier leads to each other node, which levels tell as well.
+// Of the barriers the masks forward tell both: taken the other way round they say from where finish is reached.
 ghost use mathlib.Core.Path.{_≡_};
-ghost use mathlib.Core.Bool.{_&&_, cond};
-ghost use Prim.Native.Nat.{ℕ, _^_, _≤_, _<_};
+ghost use mathlib.Core.Bool.{true, false, _&&_, cond};
+ghost use Prim.Native.Nat.{ℕ, _-_, _^_, _≤_, _<_};
 ghost use lib.Bits.{bitAnd, bitOr};
 ghost use lib.Dec.{eqb};
 ghost use lib.ListN.{getD};
-ghost use Rattle.lists.specs.Mask.{Has, Mask};
+ghost use Rattle.lists.specs.Mask.{Mask};
+ghost use Rattle.lists.specs.Bits.{has as Bits·has};
 ghost use Rattle.chart.specs.Region.{Region};
 ghost use Rattle.chart.specs.WellFormed.{WellFormed};
 ghost use Rattle.paths.specs.Path.{Open};
 ghost use Rattle.paths.specs.Found.{Found};
-ghost use Rattle.phases.specs.Phases.{Direction};
+ghost use Rattle.phases.specs.Phases.{Direction, forward, backward};
 ghost use Rattle.loading.specs.Tables.{Along, Barriers};
-ghost use Rattle.joining.specs.Joined.{Joined, fromSource, Passed, lostBarrier, missing};
+ghost use Rattle.joining.specs.Joined.{Told, Joined, Passed, lostBarrier, missing};
 use bits::bit;
 use bits::either;
+use bits::has;
 use bits::ones;
 use chart::cursor::wide;
 use chart::format::Chart;
-
-// The k-th barrier from the source on, so that one pass will do for a chart in program order.
-fn from_source(source: usize, total: usize, k: usize) -> usize
-    requires { ⌜ k < total ⌝ }
-    ensures { λ r. ⌜ (r ≡ fromSource source total k) × (r < total) ⌝ }
-{
-    if source == 0 {
-        return k;
-    }
-    total - 1 - k
-}
 
 // Barrier b is joined, where its mask has a barrier that is.
 fn join(mask: u64, b: usize, all: u64) -> u64
@@ -42,27 +34,73 @@ fn join(mask: u64, b: usize, all: u64) -> u64
     bit(b) | all
 }
 
-// One pass over the barriers.
+// Where barrier b is joined, so are those that its mask has.
+fn join_with(mask: u64, b: usize, all: u64) -> u64
+    requires { ⌜ b < 64 ⌝ }
+    ensures { λ r. ⌜ r ≡ cond (Bits·has all b) (bitOr mask all) all ⌝ }
+{
+    if has(all, b) {
+        return mask | all;
+    }
+    all
+}
+
+// One pass over the barriers along the masks: from the first on, so that one will do for a chart in program order.
+fn pass_along(
+    masks: &[u64; Chart::NODES],
+    nodes: &[u8; Chart::BARRIERS],
+    total: usize,
+    before: u64,
+) -> u64
+    requires { ⌜ total ≤ 64 ⌝ }
+    requires { ⌜ ((b : ℕ) → getD (now nodes) b 0 < 192) ⌝ }
+    ensures { λ r. ⌜ Passed (Told false (now (masks .entry)) (now (nodes .entry)) total) (λ b c. b < total) before r ⌝ }
+{
+    let mut all = before;
+    let mut b = 0;
+    while b < total {
+        all = join(masks[wide(nodes[b])], b, all);
+        b += 1;
+    }
+    all
+}
+
+// One pass against the masks, and so from the last on.
+fn pass_against(
+    masks: &[u64; Chart::NODES],
+    nodes: &[u8; Chart::BARRIERS],
+    total: usize,
+    before: u64,
+) -> u64
+    requires { ⌜ total ≤ 64 ⌝ }
+    requires { ⌜ ((b : ℕ) → getD (now nodes) b 0 < 192) ⌝ }
+    ensures { λ r. ⌜ Passed (Told true (now (masks .entry)) (now (nodes .entry)) total) (λ b c. c < total) before r ⌝ }
+{
+    let mut all = before;
+    let mut left = total;
+    while left > 0 {
+        left -= 1;
+        all = join_with(masks[wide(nodes[left])], left, all);
+    }
+    all
+}
+
+// One pass, either way.
 fn pass(
     masks: &[u64; Chart::NODES],
     nodes: &[u8; Chart::BARRIERS],
     total: usize,
-    source: usize,
+    against: bool,
     before: u64,
 ) -> u64
-    requires { ⌜ (total ≤ 64) × (before < 2 ^ total) ⌝ }
+    requires { ⌜ total ≤ 64 ⌝ }
     requires { ⌜ ((b : ℕ) → getD (now nodes) b 0 < 192) ⌝ }
-    requires { ⌜ ((b : ℕ) → Has before b → Joined (now masks) (now nodes) total source b) ⌝ }
-    ensures { λ r. ⌜ Passed (now (masks .entry)) (now (nodes .entry)) total source before total r ⌝ }
+    ensures { λ r. ⌜ Passed (Told against (now (masks .entry)) (now (nodes .entry)) total) (λ b c. (b < total) × (c < total)) before r ⌝ }
 {
-    let mut all = before;
-    let mut k = 0;
-    while k < total {
-        let b = from_source(source, total, k);
-        all = join(masks[wide(nodes[b])], b, all);
-        k += 1;
+    if against {
+        return pass_against(masks, nodes, total, before);
     }
-    all
+    pass_along(masks, nodes, total, before)
 }
 
 // The barriers that are joined to the source: passes, until all are joined or one brings nothing more.
@@ -71,15 +109,16 @@ fn joined(
     nodes: &[u8; Chart::BARRIERS],
     total: usize,
     source: usize,
+    against: bool,
 ) -> u64
     requires { ⌜ (total ≤ 64) × (source < total) ⌝ }
     requires { ⌜ ((b : ℕ) → getD (now nodes) b 0 < 192) ⌝ }
-    ensures { λ r. ⌜ Mask (Joined (now (masks .entry)) (now (nodes .entry)) total source) total r ⌝ }
+    ensures { λ r. ⌜ (((b c : ℕ) → Told against (now (masks .entry)) (now (nodes .entry)) total b c → b < total) → Mask (Joined (Told against (now (masks .entry)) (now (nodes .entry)) total) (2 ^ source)) total r) ⌝ }
 {
     let mut all = bit(source);
     while ones(all) < total {
         let before = all;
-        all = pass(masks, nodes, total, source, before);
+        all = pass(masks, nodes, total, against, before);
         if all == before {
             return all;
         }
@@ -87,18 +126,22 @@ fn joined(
     all
 }
 
-// Whether a barrier, other than the source, is not led to from there, by the masks of all nodes.
-pub fn any_apart(
-    masks: &[u64; Chart::NODES],
-    nodes: &[u8; Chart::BARRIERS],
-    total: usize,
-    source: usize,
-) -> bool
-    requires { ⌜ (total ≤ 64) × (source < total) ⌝ }
+// Whether a barrier, other than the first, is not led to from there, by the masks of all nodes.
+pub fn any_apart(masks: &[u64; Chart::NODES], nodes: &[u8; Chart::BARRIERS], total: usize) -> bool
+    requires { ⌜ (total ≤ 64) × (0 < total) ⌝ }
     requires { ⌜ ((b : ℕ) → getD (now nodes) b 0 < 192) ⌝ }
-    ensures { λ r. ⌜ ((d : Direction) (R : Region) → WellFormed R → Barriers R (now (nodes .entry)) total → Found (Along d R) (Open R) (now (nodes .entry)) total (now (masks .entry)) → r ≡ lostBarrier d R source) ⌝ }
+    ensures { λ r. ⌜ ((d : Direction) (R : Region) → WellFormed R → Barriers R (now (nodes .entry)) total → Found (Along d R) (Open R) (now (nodes .entry)) total (now (masks .entry)) → r ≡ lostBarrier d R 0) ⌝ }
 {
-    ones(joined(masks, nodes, total, source)) < total
+    ones(joined(masks, nodes, total, 0, false)) < total
+}
+
+// Whether a barrier, other than the last, does not lead there, by the masks of all nodes forward.
+pub fn any_stuck(masks: &[u64; Chart::NODES], nodes: &[u8; Chart::BARRIERS], total: usize) -> bool
+    requires { ⌜ (total ≤ 64) × (0 < total) ⌝ }
+    requires { ⌜ ((b : ℕ) → getD (now nodes) b 0 < 192) ⌝ }
+    ensures { λ r. ⌜ ((R : Region) → WellFormed R → Barriers R (now (nodes .entry)) total → Found (Along forward R) (Open R) (now (nodes .entry)) total (now (masks .entry)) → r ≡ lostBarrier backward R (total - 1)) ⌝ }
+{
+    ones(joined(masks, nodes, total, total - 1, true)) < total
 }
 
 // Whether no stop stands on a node, and nothing was found there.

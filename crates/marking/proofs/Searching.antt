@@ -36,7 +36,9 @@ use Rattle.loading.specs.Tables.{Accepted, Along, Arranged, Handed, Stops, Barr
 use Rattle.loading.proofs.Accepted.{tables, few-constructs, well-formed}
 use Rattle.loading.proofs.Columns.{places-first}
 use Rattle.splitting.specs.Parts.{row}
-use Rattle.search.specs.Search.{Ready, Standing, Spread, Marked}
+use Rattle.joining.specs.Joined.{Reaches}
+use Rattle.joining.proofs.Joining.{masks-reach}
+use Rattle.search.specs.Search.{Ready, Standing, Spread, Cleared}
 
 module _ {R : Region} (W : WellFormed R) where
   -- past no barrier
@@ -128,8 +130,12 @@ module _ {R : Region} {stops : List ℕ} (S : Stops R stops) where
         → Mask (λ b. Reached (Along d R) (Open R) sources b y) total m
     along-mask sources total y m = mask-carry (λ b _. carry f open-node) (λ b _. carry g clear-node)
 
+    -- masks tell of the nodes that are no barriers whether a path leads there
+    pub cleared-reach : {sources : List ℕ} {total : ℕ} {masks : List ℕ} → Cleared E stops sources total masks → Reaches (Along d R) (Open R) sources total masks
+    cleared-reach {sources} {total} {masks} w = masks-reach (λ x o. along-mask sources total x (getD masks x 0) (w .clear x (clear-node x o)))
+
     -- barriers keep no mask
-    pub all-masks : WellFormed R → {nodes : List ℕ} {total : ℕ} {masks all : List ℕ} → Barriers R nodes total → Marked E stops nodes total masks all
+    pub all-masks : WellFormed R → {nodes : List ℕ} {total : ℕ} {masks : List ℕ} → Barriers R nodes total → Cleared E stops nodes total masks
         → (y : ℕ) → getD masks y 0 ≡ marks d R y
     unfolding marks marked isBoundary
     all-masks W {nodes} {total} {masks} B w y = go (truth (noBarrier (R .role y)))

@@ -1,6 +1,8 @@
 // The marking: the masks of the nodes in each direction, by one search from all barriers, past no barrier, and the fewest edges from a
 // barrier; and whether a node is cut off. It is handed the places where the nodes' edges begin (02: Note 3) and looks none up.
 ghost use mathlib.Core.Path.{_≡_};
+ghost use mathlib.Core.Bool.{_||_};
+ghost use mathlib.Core.List.{List};
 ghost use Prim.Native.Nat.{ℕ, _-_, _≤_, _<_};
 ghost use lib.ListN.{getD};
 ghost use Rattle.chart.specs.Region.{Region};
@@ -8,18 +10,21 @@ ghost use Rattle.chart.specs.WellFormed.{WellFormed};
 ghost use Rattle.chart.specs.Format.{Decoded};
 ghost use Rattle.phases.specs.Phases.{forward, backward, barrierAt};
 ghost use Rattle.loading.specs.Tables.{Arranged, Handed, Stops, Barriers, Masks, Levels};
-ghost use Rattle.joining.specs.Joined.{lost};
+ghost use Rattle.splitting.specs.Parts.{Split};
+ghost use Rattle.joining.specs.Joined.{lost, lostBarrier};
 use bits::either;
 use chart::format::Chart;
 use joining::any_apart;
 use joining::any_missed;
+use joining::any_stuck;
 use joining::any_unleveled;
 use search::ends;
 use search::starts;
 use splitting::Extent;
 use splitting::Parts;
 
-// The starts with their levels, and whether a node is cut off from the first barrier.
+// The starts with their levels, and whether a node is cut off from the first barrier, or a barrier from the last: the masks of all nodes
+// forward tell that of the barriers in both directions.
 pub fn fill_starts(
     edges: &[[u8; Chart::EDGES]; Parts::ROWS],
     places: &[usize; Chart::PLACES],
@@ -31,31 +36,30 @@ pub fn fill_starts(
 ) -> bool
     requires { ⌜ (extent .barriers ≤ 64) × (0 < extent .barriers) × (extent .nodes ≤ 192) × ((p : ℕ) × (D : Decoded) × Handed p D (now edges) (now places) (extent .parts .ups) (extent .parts .low) (extent .parts .ins)) ⌝ }
     requires { ⌜ ((b : ℕ) → getD (now nodes) b 0 < 192) ⌝ }
-    ensures { λ r. ⌜ ((R : Region) → WellFormed R → Arranged R (now (edges .entry)) (now (places .entry)) (now (stops .entry)) (extent .parts .ups) (extent .parts .low) (extent .parts .ins) → Stops R (now (stops .entry)) → Barriers R (now (nodes .entry)) (extent .barriers) → extent .nodes ≡ R .nodes → r ≡ lost forward R (barrierAt R 0)) ⌝ }
+    ensures { λ r. ⌜ ((R : Region) → WellFormed R → Arranged R (now (edges .entry)) (now (places .entry)) (now (stops .entry)) (extent .parts .ups) (extent .parts .low) (extent .parts .ins) → Stops R (now (stops .entry)) → Barriers R (now (nodes .entry)) (extent .barriers) → extent .nodes ≡ R .nodes → r ≡ (lost forward R (barrierAt R 0) || lostBarrier backward R (extent .barriers - 1))) ⌝ }
     ensures { λ _. ⌜ ((R : Region) → WellFormed R → Arranged R (now (edges .entry)) (now (places .entry)) (now (stops .entry)) (extent .parts .ups) (extent .parts .low) (extent .parts .ins) → Stops R (now (stops .entry)) → Barriers R (now (nodes .entry)) (extent .barriers) → Masks forward R (now (masks .exit)) × Levels forward R (now (levels .exit))) ⌝ }
 {
     let mut all = [0u64; Chart::NODES];
     starts(edges, places, extent, nodes, masks, levels, &mut all);
-    let apart = any_apart(&all, nodes, extent.barriers, 0);
-    either(apart, any_unleveled(stops, levels, extent.nodes))
+    let apart = any_apart(&all, nodes, extent.barriers);
+    let stuck = any_stuck(&all, nodes, extent.barriers);
+    let unreached = either(apart, any_unleveled(stops, levels, extent.nodes));
+    either(unreached, stuck)
 }
 
-// The ends, and whether a node is cut off from the last barrier.
+// The ends, and whether a node that is no barrier has none: where each barrier reaches the last one, whether a node is cut off from there.
 pub fn fill_ends(
     edges: &[[u8; Chart::EDGES]; Parts::ROWS],
-    places: &[usize; Chart::PLACES],
     stops: &[u8; Chart::NODES],
     nodes: &[u8; Chart::BARRIERS],
     extent: Extent,
     masks: &mut [u64; Chart::NODES],
 ) -> bool
-    requires { ⌜ (extent .barriers ≤ 64) × (0 < extent .barriers) × (extent .nodes ≤ 192) × ((p : ℕ) × (D : Decoded) × Handed p D (now edges) (now places) (extent .parts .ups) (extent .parts .low) (extent .parts .ins)) ⌝ }
+    requires { ⌜ (extent .barriers ≤ 64) × (0 < extent .barriers) × (extent .nodes ≤ 192) × ((e : ℕ) × (stops : List ℕ) × Split (now edges) e stops (extent .parts .ups) (extent .parts .low) (extent .parts .ins)) ⌝ }
     requires { ⌜ ((b : ℕ) → getD (now nodes) b 0 < 192) ⌝ }
-    ensures { λ r. ⌜ ((R : Region) → WellFormed R → Arranged R (now (edges .entry)) (now (places .entry)) (now (stops .entry)) (extent .parts .ups) (extent .parts .low) (extent .parts .ins) → Stops R (now (stops .entry)) → Barriers R (now (nodes .entry)) (extent .barriers) → extent .nodes ≡ R .nodes → r ≡ lost backward R (barrierAt R (extent .barriers - 1))) ⌝ }
-    ensures { λ _. ⌜ ((R : Region) → WellFormed R → Arranged R (now (edges .entry)) (now (places .entry)) (now (stops .entry)) (extent .parts .ups) (extent .parts .low) (extent .parts .ins) → Stops R (now (stops .entry)) → Barriers R (now (nodes .entry)) (extent .barriers) → Masks backward R (now (masks .exit))) ⌝ }
+    ensures { λ r. ⌜ ((R : Region) (places : List ℕ) → WellFormed R → Arranged R (now (edges .entry)) places (now (stops .entry)) (extent .parts .ups) (extent .parts .low) (extent .parts .ins) → Stops R (now (stops .entry)) → Barriers R (now (nodes .entry)) (extent .barriers) → extent .nodes ≡ R .nodes → (lostBarrier backward R (extent .barriers - 1) || r) ≡ lost backward R (barrierAt R (extent .barriers - 1))) ⌝ }
+    ensures { λ _. ⌜ ((R : Region) (places : List ℕ) → WellFormed R → Arranged R (now (edges .entry)) places (now (stops .entry)) (extent .parts .ups) (extent .parts .low) (extent .parts .ins) → Stops R (now (stops .entry)) → Barriers R (now (nodes .entry)) (extent .barriers) → Masks backward R (now (masks .exit))) ⌝ }
 {
-    let mut all = [0u64; Chart::NODES];
-    ends(edges, places, extent, nodes, masks, &mut all);
-    let apart = any_apart(&all, nodes, extent.barriers, extent.barriers - 1);
-    either(apart, any_missed(stops, &all, extent.nodes))
+    ends(edges, extent, nodes, masks);
+    any_missed(stops, masks, extent.nodes)
 }

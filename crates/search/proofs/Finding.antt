@@ -24,7 +24,7 @@ use Rattle.splitting.specs.Parts.{row, Come, Split}
 use Rattle.splitting.proofs.Splitting.{parted-inner, parted-turned}
 use Rattle.feeding.specs.Fed.{Fed, Leaves, Owned, Sowed, Stored}
 use Rattle.levels.specs.Steps.{Leads, Bounded}
-use Rattle.search.specs.Search.{Standing, Sown, Spread, Marked}
+use Rattle.search.specs.Search.{Standing, Sown, Spread, Cleared, Marked}
 
 -- the bits of the sources, at the nodes to which their edges lead
 seeds : {E L : ℕ → ℕ → Type 0} {sources own s : List ℕ} {k : ℕ} → Owned sources k own → Fed L own (replicate 192 0) s
@@ -60,10 +60,9 @@ spread {stops = stops} {sources} {s = s} {t} {k} i l m c f = record {
     still : (y : ℕ) → (Clear stops y → ⊥) → getD t y 0 ≡ getD s y 0
     still y n = carried (λ t. getD t y 0 ≡ getD s y 0) (λ t x z q e. getD-set-other t z y _ 0 (λ r. n (rw r (i .only x z e .3 .1))) ∙ q) refl c
 
--- brought to the stops
-module _ {E D : ℕ → ℕ → Type 0} {stops sources masks new all : List ℕ} {k : ℕ} (node : (x y : ℕ) → E x y → (x < 192) × (y < 192))
-    (w : Spread E stops sources k masks) (S : Standing stops sources k) (c : Stored 0 sources k masks new) (f : Fed D new masks all)
-    (only : (x y : ℕ) → D x y → E x y × (Clear stops y → ⊥)) (brings : (x y : ℕ) → E x y → (Clear stops y → ⊥) → D x y) where
+-- cleared at the stops
+module _ {E : ℕ → ℕ → Type 0} {stops sources masks new : List ℕ} {k : ℕ} (node : (x y : ℕ) → E x y → (x < 192) × (y < 192))
+    (w : Spread E stops sources k masks) (S : Standing stops sources k) (c : Stored 0 sources k masks new) where
   gone : (y : ℕ) → (Clear stops y → ⊥) → getD new y 0 ≡ 0
   gone y n = let (b, l, q) = S .number y n in rw q at (c .at b l)
 
@@ -80,46 +79,54 @@ module _ {E D : ℕ → ℕ → Type 0} {stops sources masks new all : List ℕ}
   empty : (l : List ℕ) (y : ℕ) → length l ≡ 192 → (y < 192 → ⊥) → Mask (λ b. Reached E (Clear stops) sources b y) k (getD l y 0)
   empty l y q n = rw (past l y q n) (record { small = pow-pos k; only = λ b _ h. absurd (has-none b h); all = λ b _ v. absurd (n (path-node v)) })
 
-  masks-low : (y : ℕ) → getD masks y 0 < 2 ^ k
-  masks-low y = elim (decLt y 192) [
-    | yes l ↦ elim (ℕ-discrete (getD stops y 0) 0) [ yes p ↦ w .clear y l p .small | no n ↦ w .stop y l n .small ]
-    | no n ↦ rw (past masks y (w .long) n) (pow-pos k)
-  ]
-
-  new-low : (y : ℕ) → getD new y 0 < 2 ^ k
-  new-low y = elim (ℕ-discrete (getD stops y 0) 0) [ yes p ↦ rw (kept y p) (masks-low y) | no n ↦ rw (gone y n) (pow-pos k) ]
-
-  -- a stop has what an edge brings, or a path to a node before it
-  at-stop : (y : ℕ) → y < 192 → (Clear stops y → ⊥) → Mask (λ b. Reached E (Clear stops) sources b y) k (getD all y 0)
-  at-stop y l n = record {
-    small = f .low k new-low masks-low y;
-    only = λ b m h. ⊎-elim (λ h. last (w .stop y l n .only b m h)) (λ v. via b m (v .node) (only (v .node) y (v .edge) .0) (v .bit) (ℕ-discrete (getD stops (v .node) 0) 0)) (f .only y b h);
-    all = λ b m v. ⊎-elim (λ e. f .keep y b (w .stop y l n .all b m e))
-        (λ r. let (z, u, p, e) = r in f .all z y (brings z y e n) b (rw (kept z p) (w .clear z (node z y e .0) p .all b m u))) (final v);
-  }
-    where
-      via : (b : ℕ) → b < k → (x : ℕ) → E x y → Has (getD new x 0) b → Dec (Clear stops x) → Reached E (Clear stops) sources b y
-      via b m x e h (yes p) = append (w .clear x (node x y e .0) p .only b m (rw (kept x p) at h)) p (last e)
-      via b m x e h (no q) = absurd (has-none b (rw (gone x q) at h))
-
-  at-clear : (y : ℕ) → y < 192 → Clear stops y → Mask (λ b. Reached E (Clear stops) sources b y) k (getD all y 0)
-  at-clear y l p = record {
-    small = f .low k new-low masks-low y;
-    only = λ b m h. ⊎-elim (w .clear y l p .only b m) (λ v. absurd (only (v .node) y (v .edge) .1 p)) (f .only y b h);
-    all = λ b m v. f .keep y b (w .clear y l p .all b m v);
-  }
-
-  pub marked : Marked E stops sources k new all
-  marked = record {
-    every = record {
-      mask = λ y. elim (decLt y 192) [
-        | yes l ↦ elim (ℕ-discrete (getD stops y 0) 0) [ yes p ↦ at-clear y l p | no n ↦ at-stop y l n ]
-        | no n ↦ empty all y (f .long ∙ w .long) n
-      ];
-    };
+  pub cleared : Cleared E stops sources k new
+  cleared = record {
     clear = λ y p. rw (kept y p) (elim (decLt y 192) [ yes l ↦ w .clear y l p | no n ↦ empty masks y (w .long) n ]);
     stop = gone;
   }
+
+  -- and brought to the stops
+  module _ {D : ℕ → ℕ → Type 0} {all : List ℕ} (f : Fed D new masks all) (only : (x y : ℕ) → D x y → E x y × (Clear stops y → ⊥))
+      (brings : (x y : ℕ) → E x y → (Clear stops y → ⊥) → D x y) where
+    masks-low : (y : ℕ) → getD masks y 0 < 2 ^ k
+    masks-low y = elim (decLt y 192) [
+      | yes l ↦ elim (ℕ-discrete (getD stops y 0) 0) [ yes p ↦ w .clear y l p .small | no n ↦ w .stop y l n .small ]
+      | no n ↦ rw (past masks y (w .long) n) (pow-pos k)
+    ]
+
+    new-low : (y : ℕ) → getD new y 0 < 2 ^ k
+    new-low y = elim (ℕ-discrete (getD stops y 0) 0) [ yes p ↦ rw (kept y p) (masks-low y) | no n ↦ rw (gone y n) (pow-pos k) ]
+
+    -- a stop has what an edge brings, or a path to a node before it
+    at-stop : (y : ℕ) → y < 192 → (Clear stops y → ⊥) → Mask (λ b. Reached E (Clear stops) sources b y) k (getD all y 0)
+    at-stop y l n = record {
+      small = f .low k new-low masks-low y;
+      only = λ b m h. ⊎-elim (λ h. last (w .stop y l n .only b m h)) (λ v. via b m (v .node) (only (v .node) y (v .edge) .0) (v .bit) (ℕ-discrete (getD stops (v .node) 0) 0)) (f .only y b h);
+      all = λ b m v. ⊎-elim (λ e. f .keep y b (w .stop y l n .all b m e))
+          (λ r. let (z, u, p, e) = r in f .all z y (brings z y e n) b (rw (kept z p) (w .clear z (node z y e .0) p .all b m u))) (final v);
+    }
+      where
+        via : (b : ℕ) → b < k → (x : ℕ) → E x y → Has (getD new x 0) b → Dec (Clear stops x) → Reached E (Clear stops) sources b y
+        via b m x e h (yes p) = append (w .clear x (node x y e .0) p .only b m (rw (kept x p) at h)) p (last e)
+        via b m x e h (no q) = absurd (has-none b (rw (gone x q) at h))
+
+    at-clear : (y : ℕ) → y < 192 → Clear stops y → Mask (λ b. Reached E (Clear stops) sources b y) k (getD all y 0)
+    at-clear y l p = record {
+      small = f .low k new-low masks-low y;
+      only = λ b m h. ⊎-elim (w .clear y l p .only b m) (λ v. absurd (only (v .node) y (v .edge) .1 p)) (f .only y b h);
+      all = λ b m v. f .keep y b (w .clear y l p .all b m v);
+    }
+
+    pub marked : Marked E stops sources k new all
+    marked = record {
+      every = record {
+        mask = λ y. elim (decLt y 192) [
+          | yes l ↦ elim (ℕ-discrete (getD stops y 0) 0) [ yes p ↦ at-clear y l p | no n ↦ at-stop y l n ]
+          | no n ↦ empty all y (f .long ∙ w .long) n
+        ];
+      };
+      passable = cleared;
+    }
 
 -- the edges of a table
 module _ {edges : List (List ℕ)} {e : ℕ} {stops : List ℕ} {ups low ins : ℕ} (T : Split edges e stops ups low ins) where
@@ -181,9 +188,6 @@ module _ {edges : List (List ℕ)} {e : ℕ} {stops : List ℕ} {ups low ins : �
 between-turned : {keys values : List ℕ} {a b x y : ℕ} → Between keys values a b x y → Between values keys a b y x
 between-turned w = record { at = w .at; from = w .from; below = w .below; key = w .value; value = w .key }
 
-leaves-turned : {keys values places sources : List ℕ} {n x y : ℕ} → Leaves keys values places sources n x y → Leaves values keys places sources n y x
-leaves-turned w = record { source = w .source; below = w .below; edge = between-turned (w .edge) }
-
 module _ {edges : List (List ℕ)} {e : ℕ} {stops : List ℕ} {ups low ins : ℕ} (T : Split edges e stops ups low ins) {sources : List ℕ} {total : ℕ} where
   -- forward, from any sources
   pub sown-ahead : {places s : List ℕ} → Places (row edges 0) e places → Sowed (row edges 1) places sources total s
@@ -210,16 +214,9 @@ module _ {edges : List (List ℕ)} {e : ℕ} {stops : List ℕ} {ups low ins : �
         → Marked (Listed (row edges 0) (row edges 1) e) stops sources total new all
     marked-starts w c f = marked (listed-node T) w S c f (ins-listed T) (listed-ins T)
 
-    pub marked-ends : {places masks new all : List ℕ} → ((b : ℕ) → getD sources b 0 < 192) → Places (row edges 0) e places → Spread (Listed (row edges 1) (row edges 0) e) stops sources total masks
-        → Stored 0 sources total masks new → Fed (Leaves (row edges 1) (row edges 0) places sources total) new masks all
-        → Marked (Listed (row edges 1) (row edges 0) e) stops sources total new all
-    marked-ends below P w c f = marked (λ x y l. let (p, q) = listed-node T y x (listed-turned x y l) in (q, p)) w S c f
-        (λ x y v.
-        let (l, q) = leaves-listed T P below y x (leaves-turned v) in
-        (listed-turned y x l, λ p. S .on _ ((leaves-turned v) .below) (rw q at p)))
-        (λ x y l n.
-        let (b, m, q) = S .number y n in
-        rw q at (leaves-turned {sources = sources} (listed-leaves T P below b x m (rw (← q) at (listed-turned x y l)))))
+    pub cleared-ends : {masks new : List ℕ} → Spread (Listed (row edges 1) (row edges 0) e) stops sources total masks
+        → Stored 0 sources total masks new → Cleared (Listed (row edges 1) (row edges 0) e) stops sources total new
+    cleared-ends w c = cleared (λ x y l. let (p, q) = listed-node T y x (listed-turned x y l) in (q, p)) w S c
 
     -- the levels of a search that starts from marks of the stops
     pub leveled-starts : {places marks levels : List ℕ} → Places (row edges 0) e places → Stored 1 sources total (replicate 192 0) marks

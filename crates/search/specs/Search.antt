@@ -33,11 +33,15 @@ pub record Spread (E : ℕ → ℕ → Type 0) (stops sources : List ℕ) (total
   pub clear : (y : ℕ) → y < 192 → Clear stops y → Mask (λ b. Reached E (Clear stops) sources b y) total (getD masks y 0)
   pub stop : (y : ℕ) → y < 192 → (Clear stops y → ⊥) → Mask (λ b. E (getD sources b 0) y) total (getD masks y 0)
 
--- `all` has for every node the sources from which a path leads there, past no stop; `masks` has the same, but nothing for stops.
-pub record Marked (E : ℕ → ℕ → Type 0) (stops sources : List ℕ) (total : ℕ) (masks all : List ℕ) : Type 0 where
-  pub every : Found E (Clear stops) sources total all
+-- Masks of the sources from which a path leads to each node that may be passed, past no stop; stops have none.
+pub record Cleared (E : ℕ → ℕ → Type 0) (stops sources : List ℕ) (total : ℕ) (masks : List ℕ) : Type 0 where
   pub clear : (y : ℕ) → Clear stops y → Mask (λ b. Reached E (Clear stops) sources b y) total (getD masks y 0)
   pub stop : (y : ℕ) → (Clear stops y → ⊥) → getD masks y 0 ≡ 0
+
+-- Such masks, and in `all` the same for every node, with what comes to the stops.
+pub record Marked (E : ℕ → ℕ → Type 0) (stops sources : List ℕ) (total : ℕ) (masks all : List ℕ) : Type 0 where
+  pub every : Found E (Clear stops) sources total all
+  pub passable : Cleared E stops sources total masks
 
 -- All paths begin at the first source: there are two, and no edge stands at the places of the second.
 abbrev pub Lone : List ℕ → List ℕ → ℕ → Type 0

@@ -11,7 +11,7 @@ ghost use Rattle.paths.specs.Graph.{Listed, Places};
 ghost use Rattle.paths.specs.Found.{Clear, Leveled};
 ghost use Rattle.splitting.specs.Parts.{row, Split};
 ghost use Rattle.feeding.specs.Levels.{Each, Begins};
-ghost use Rattle.search.specs.Search.{Ready, Standing, Sown, Spread, Marked, Lone, Settled};
+ghost use Rattle.search.specs.Search.{Ready, Standing, Sown, Spread, Cleared, Marked, Lone, Settled};
 
 pub mod nearest;
 
@@ -20,7 +20,6 @@ use chart::cursor::wide;
 use chart::format::Chart;
 use feeding::clear;
 use feeding::feed;
-use feeding::leave;
 use feeding::sow;
 use feeding::stand;
 use feeding::telling::show;
@@ -197,30 +196,17 @@ pub fn starts(
     );
 }
 
-// The same backward, along the edges turned round, without levels.
+// The masks of the nodes that may be passed, backward: along the edges turned round.
 pub fn ends(
     edges: &[[u8; Chart::EDGES]; Parts::ROWS],
-    places: &[usize; Chart::PLACES],
     extent: Extent,
     nodes: &[u8; Chart::BARRIERS],
     masks: &mut [u64; Chart::NODES],
-    all: &mut [u64; Chart::NODES],
 )
-    requires { ⌜ (extent .barriers ≤ 64) × Ready (now edges) (now places) (extent .parts .ups) (extent .parts .low) (extent .parts .ins) ⌝ }
-    requires { ⌜ ((b : ℕ) → getD (now nodes) b 0 < 192) ⌝ }
-    ensures { λ _. ⌜ ((e : ℕ) (stops : List ℕ) → Split (now (edges .entry)) e stops (extent .parts .ups) (extent .parts .low) (extent .parts .ins) → Places (row (now (edges .entry)) 0) e (now (places .entry)) → Standing stops (now (nodes .entry)) (extent .barriers) → Marked (Listed (row (now (edges .entry)) 1) (row (now (edges .entry)) 0) e) stops (now (nodes .entry)) (extent .barriers) (now (masks .exit)) (now (all .exit))) ⌝ }
+    requires { ⌜ (extent .barriers ≤ 64) × ((b : ℕ) → getD (now nodes) b 0 < 192) ⌝ }
+    requires { ⌜ ((e : ℕ) × (stops : List ℕ) × Split (now edges) e stops (extent .parts .ups) (extent .parts .low) (extent .parts .ins)) ⌝ }
+    ensures { λ _. ⌜ ((e : ℕ) (stops : List ℕ) → Split (now (edges .entry)) e stops (extent .parts .ups) (extent .parts .low) (extent .parts .ins) → Standing stops (now (nodes .entry)) (extent .barriers) → Cleared (Listed (row (now (edges .entry)) 1) (row (now (edges .entry)) 0) e) stops (now (nodes .entry)) (extent .barriers) (now (masks .exit))) ⌝ }
 {
-    let total = extent.barriers;
-    behind(edges, extent.parts, nodes, total, masks);
-    *all = *masks;
-    clear(nodes, total, masks);
-    leave(
-        &edges[Parts::TO],
-        &edges[Parts::FROM],
-        places,
-        nodes,
-        total,
-        masks,
-        all,
-    );
+    behind(edges, extent.parts, nodes, extent.barriers, masks);
+    clear(nodes, extent.barriers, masks);
 }

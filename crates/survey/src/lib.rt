@@ -51,7 +51,7 @@ fn survey_chart(s: &[u8], chart: Chart, marks: &mut MaskTable) -> Surveyed
         return Surveyed::Refused(Refusal::PATHS);
     }
     let ends = &mut marks[ENDS];
-    if fill_ends(&edges, &places, &stops, &nodes, extent, ends) {
+    if fill_ends(&edges, &stops, &nodes, extent, ends) {
         return Surveyed::Refused(Refusal::PATHS);
     }
     let returning = returns(s, chart, &edges, &places, extent.parts, &stops);

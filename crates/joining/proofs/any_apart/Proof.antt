@@ -14,8 +14,7 @@ ones-requires c κs = search needs
 returns : tie.Need-returns
 returns c = λ d R W B w.
     let joined = c .before in
-    let start = joined .before in
-    rw (c .ones .ensures .0) (apart-told W d _ B (start .args .source) (start .pre .0 .1) w (joined .joined .result) (joined .joined .ensures))
+    rw (c .ones .ensures .0) (apart-told W _ B 0 (joined .before .pre .0 .1) (joined .joined .result) d w (joined .joined .ensures))
 
 pub any-apart-spec : {M : Type 1} → statement M
 any-apart-spec = tie.close (tie.spec joined-requires ones-requires returns)

@@ -29,7 +29,7 @@ abbrev loaded : (c : tie.After-fill-starts) → tie.After-load-tables
 loaded c = c .before .before .before .before .before .before .before
 
 abbrev forth : (c : tie.After-fill-ends) → tie.Else1
-forth c = c .before .before .before .before .before .before
+forth c = c .before .before .before .before .before
 
 load-tables-requires : tie.Need-load-tables-requires
 load-tables-requires c κs = (accepted _ _ (c .before .before .before .before .before .pre .0), blank-none)
@@ -52,17 +52,17 @@ returns c =
     let A = is-accepted l in
     let (T, (H, (S, N, Q))) = l .load-tables .ensures in
     let lost = c .before .fill-starts .ensures .0 _ (well-formed _ _ A) T S N (Q ∙ sym (nodes-length _ _ (A .laid))) in
-    (rw (unreached _ _ h (sym lost ∙ c .if1 .taken)), λ chart sets q. absurd (bad (cc)))
+    (rw (unreached _ _ h N (sym lost ∙ c .if1 .taken)), λ chart sets q. absurd (bad (cc)))
 
 index-1-ends : tie.Need-index-1-ends
 index-1-ends c = search needs
 
 fill-ends-requires : tie.Need-fill-ends-requires
 fill-ends-requires c κs =
-    let l = loaded (c .before .before .before .before .before .before) in
+    let l = loaded (c .before .before .before .before .before) in
     let A = is-accepted l in
     let (T, (H, (S, N, Q))) = l .load-tables .ensures in
-    ((few A N, not-none A N, omega (arith, Q, A .laid .nodes-most), (_, _, H)), nodes-below A N)
+    ((few A N, not-none A N, omega (arith, Q, A .laid .nodes-most), (_, _, H .split)), nodes-below A N)
 
 returns-2 : tie.Need-returns-2
 unfolding checkedOf answer
@@ -71,8 +71,8 @@ returns-2 c =
     let h = start l .pre .0 in
     let A = is-accepted l in
     let (T, (H, (S, N, Q))) = l .load-tables .ensures in
-    let lost = c .before .fill-ends .ensures .0 _ (well-formed _ _ A) T S N (Q ∙ sym (nodes-length _ _ (A .laid))) in
-    (rw (stuck _ _ h _ (N .count) (sym lost ∙ c .if2 .taken)), λ chart sets q. absurd (bad (cc)))
+    let lost = c .before .fill-ends .ensures .0 _ _ (well-formed _ _ A) T S N (Q ∙ sym (nodes-length _ _ (A .laid))) in
+    (rw (stuck _ _ h N lost (c .if2 .taken)), λ chart sets q. absurd (bad (cc)))
 
 returns-requires : tie.Need-returns-requires
 returns-requires c κs =
@@ -102,7 +102,7 @@ returns-3 c =
     let n = Q ∙ sym (nodes-length _ _ (A .laid)) in
     let (lost, starts) = left′ .before .fill-starts .ensures in
     let (lost′, ends) = back .fill-ends .ensures in
-    let admits = connects _ _ (e .pre .0) _ (N .count) (sym (lost _ W T S N n) ∙ left′ .if1 .left) (sym (lost′ _ W T S N n) ∙ left .if2 .left) in
+    let admits = connects _ _ (e .pre .0) N (lost′ _ _ W T S N n) (sym (lost _ W T S N n) ∙ left′ .if1 .left) (left .if2 .left) in
     let counts = passed-none (firstOf (chartRows (e .args .s .now))) (countsOf (e .args .s .now)) (e .args .chart) (e .pre .0) .1 in (
       rw (admits, counts),
       λ chart sets q.
@@ -110,7 +110,7 @@ returns-3 c =
           let b : c .fill-held .result ≡ sets = cc in
           rw (← a, ← b) (record {
             accepted = A;
-            marked = all-marks _ _ A (e .args .marks .now) _ _ _ (e .pre .1) (starts _ W T S N .0) (ends _ W T S N) (c .fill-held .ensures .1) (c .fill-held .ensures .0);
+            marked = all-marks _ _ A (e .args .marks .now) _ _ _ (e .pre .1) (starts _ W T S N .0) (ends _ _ W T S N) (c .fill-held .ensures .1) (c .fill-held .ensures .0);
           }),
     )
 
