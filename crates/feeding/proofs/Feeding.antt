@@ -1,4 +1,4 @@
--- Masks that come along edges: along one, along more, along those of more sources; and the sources' own bits.
+-- Masks that come along edges: along one, along more; and the sources' own bits.
 -- Assumes nothing.
 use mathlib.Core.Path.{_≡_, refl, ap, sym, _∙_}
 use mathlib.Core.Logic.{_⊎_, inl, inr, ⊎-elim}
@@ -13,7 +13,7 @@ use lib.Seq.{getD-set-same}
 use Rattle.lists.specs.Mask.{Has, Sub, or-cases, or-left, or-right, has-none, has-own, has-pow}
 use Rattle.lists.specs.Store.{at-set, zeros}
 use Rattle.sweeps.specs.Sweep.{Between}
-use Rattle.feeding.specs.Fed.{Via, Fed, Leaves, Owned}
+use Rattle.feeding.specs.Fed.{Via, Fed, Owned}
 
 pub fed-none : {L : ℕ → ℕ → Type 0} {from s : List ℕ} → ((x y : ℕ) → L x y → ⊥) → Fed L from s s
 fed-none n = record { long = refl; low = λ k f g. g; keep = λ y b h. h; all = λ x y l. absurd (n x y l); only = λ y b h. inl h }
@@ -56,25 +56,6 @@ feed-turn {keys} {values} {from} {s} {t} {a} {j} h l f = fed-on older newer eith
     either x y w = elim (ℕ-discrete (w .at) j) [
       | yes e ↦ inr (sym (rw e at (w .key)), sym (rw e at (w .value)))
       | no n ↦ inl (record { at = w .at; from = w .from; below = omega (arith, w .below); key = w .key; value = w .value })
-    ]
-
-pub leave-turn : {keys values places sources from s t u : List ℕ} {b : ℕ} → Fed (Leaves keys values places sources b) from s t
-    → Fed (Between keys values (getD places (getD sources b 0) 0) (getD places (getD sources b 0 + 1) 0)) from t u
-    → Fed (Leaves keys values places sources (b + 1)) from s u
-leave-turn {keys} {values} {places} {sources} {b = b} f g = fed-on older newer either f g
-  where
-    older : (x y : ℕ) → Leaves keys values places sources b x y → Leaves keys values places sources (b + 1) x y
-    older x y w = record { source = w .source; below = omega (arith, w .below); edge = w .edge }
-
-    newer : (x y : ℕ) → Between keys values (getD places (getD sources b 0) 0) (getD places (getD sources b 0 + 1) 0) x y
-        → Leaves keys values places sources (b + 1) x y
-    newer x y w = record { source = b; below = omega arith; edge = w }
-
-    either : (x y : ℕ) → Leaves keys values places sources (b + 1) x y → Leaves keys values places sources b x y
-        ⊎ Between keys values (getD places (getD sources b 0) 0) (getD places (getD sources b 0 + 1) 0) x y
-    either x y w = elim (ℕ-discrete (w .source) b) [
-      | yes e ↦ inr (rw e at (w .edge))
-      | no n ↦ inl (record { source = w .source; below = omega (arith, w .below); edge = w .edge })
     ]
 
 pub owned-none : (sources : List ℕ) → Owned sources 0 (replicate 192 0)

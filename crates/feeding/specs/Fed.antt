@@ -23,12 +23,6 @@ pub record Fed (L : ℕ → ℕ → Type 0) (from s t : List ℕ) : Type 0 where
   pub all : (x y : ℕ) → L x y → Sub (getD from x 0) (getD t y 0)
   pub only : (y b : ℕ) → Has (getD t y 0) b → Has (getD s y 0) b ⊎ Via L from y b
 
--- The edges at the places of the first n sources.
-pub record Leaves (keys values places sources : List ℕ) (n x y : ℕ) : Type 0 where
-  pub source : ℕ
-  pub below : source < n
-  pub edge : Between keys values (getD places (getD sources source 0) 0) (getD places (getD sources source 0 + 1) 0) x y
-
 -- The bits of the first n sources stand at the nodes to which their edges lead.
 pub record Sowed (values places sources : List ℕ) (n : ℕ) (masks : List ℕ) : Type 0 where
   pub long : length masks ≡ 192

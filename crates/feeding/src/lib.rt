@@ -5,7 +5,7 @@ ghost use mathlib.Core.List.{[], _∷_};
 ghost use Prim.Native.Nat.{ℕ, _+_, _≤_, _<_};
 ghost use lib.ListN.{getD, length};
 ghost use Rattle.sweeps.specs.Sweep.{Between};
-ghost use Rattle.feeding.specs.Fed.{Fed, Leaves, Owned, Sowed, Stored};
+ghost use Rattle.feeding.specs.Fed.{Fed, Owned, Sowed, Stored};
 ghost use Rattle.feeding.specs.Levels.{Each, Begins};
 
 pub mod telling;
@@ -34,30 +34,6 @@ pub fn feed(
         let y = wide(values[j]);
         masks[y] = masks[y] | from[wide(keys[j])];
         j += 1;
-    }
-}
-
-// Along the edges at the places of the sources.
-pub fn leave(
-    keys: &[u8; Chart::EDGES],
-    values: &[u8; Chart::EDGES],
-    places: &[usize; Chart::PLACES],
-    sources: &[u8; Chart::BARRIERS],
-    total: usize,
-    from: &[u64; Chart::NODES],
-    masks: &mut [u64; Chart::NODES],
-)
-    requires { ⌜ (total ≤ 64) × (length (now masks) ≡ 192) × ((x : ℕ) → x < 192 → (getD (now places) x 0 ≤ getD (now places) (x + 1) 0) × (getD (now places) (x + 1) 0 ≤ 1024)) ⌝ }
-    requires { ⌜ ((j : ℕ) → getD (now keys) j 0 < 192) ⌝ }
-    requires { ⌜ ((j : ℕ) → getD (now values) j 0 < 192) ⌝ }
-    requires { ⌜ ((b : ℕ) → getD (now sources) b 0 < 192) ⌝ }
-    ensures { λ _. ⌜ Fed (Leaves (now (keys .entry)) (now (values .entry)) (now (places .entry)) (now (sources .entry)) total) (now (from .entry)) (now (masks .entry)) (now (masks .exit)) ⌝ }
-{
-    let mut b = 0;
-    while b < total {
-        let x = wide(sources[b]);
-        feed(keys, values, places[x], places[x + 1], from, masks);
-        b += 1;
     }
 }
 

@@ -22,7 +22,7 @@ use Rattle.sweeps.specs.Sweep.{Between, Lies, Carried, Closed}
 use Rattle.sweeps.specs.SweepLaws.{Inner, carried, carried-long, masks-found}
 use Rattle.splitting.specs.Parts.{row, Come, Split}
 use Rattle.splitting.proofs.Splitting.{parted-inner, parted-turned}
-use Rattle.feeding.specs.Fed.{Fed, Leaves, Owned, Sowed, Stored}
+use Rattle.feeding.specs.Fed.{Fed, Owned, Sowed, Stored}
 use Rattle.levels.specs.Steps.{Leads, Bounded}
 use Rattle.search.specs.Search.{Standing, Sown, Spread, Cleared, Marked}
 
@@ -176,14 +176,6 @@ module _ {edges : List (List ℕ)} {e : ℕ} {stops : List ℕ} {ups low ins : �
 
     pub listed-leads : (x y : ℕ) → Listed froms tos e x y → Leads tos places x y
     listed-leads x y t = let i = listed-placed x y t in record { at = i .at; from = i .from; below = i .below; value = i .value }
-
-    -- those that leave the sources
-    module _ {sources : List ℕ} {total : ℕ} (below : (b : ℕ) → getD sources b 0 < 192) where
-      pub leaves-listed : (x y : ℕ) (w : Leaves froms tos places sources total x y) → Listed froms tos e x y × (x ≡ getD sources (w .source) 0)
-      leaves-listed x y w = placed-listed (getD sources (w .source) 0) x y (below (w .source)) (w .edge)
-
-      pub listed-leaves : (b y : ℕ) → b < total → Listed froms tos e (getD sources b 0) y → Leaves froms tos places sources total (getD sources b 0) y
-      listed-leaves b y l t = record { source = b; below = l; edge = listed-placed (getD sources b 0) y t }
 
 between-turned : {keys values : List ℕ} {a b x y : ℕ} → Between keys values a b x y → Between values keys a b y x
 between-turned w = record { at = w .at; from = w .from; below = w .below; key = w .value; value = w .key }
