@@ -105,13 +105,26 @@ planes-rank both masters singles dos sections j =
     all-four : {b o t f b₁ o₁ t₁ f₁ : ℕ} → b ≡ b₁ → o ≡ o₁ → t ≡ t₁ → f ≡ f₁ → sum b o t f ≡ sum b₁ o₁ t₁ f₁
     all-four p q r s = cc
 
+-- the empty set has no bit
+pub none-has : (j : ℕ) → 0 / 2 ^ j ≡ 0
+none-has j = div-eq-of-lt (pow-pos j)
+
+-- the number where the sets beside the first are empty
+pub phase-digit : (both j : ℕ) → sum (both / 2 ^ j % 2) (0 / 2 ^ j % 2) (0 / 2 ^ j % 2) (0 / 2 ^ j % 2) ≡ byRules (has both j) false false false false
+unfolding byRules
+phase-digit both j = rw (none-has j) (ap (λ (b : ℕ). sum b 0 0 0) (bit-is both j) ∙ go (has both j))
+  where
+    go : (x : Bool) → sum (cond x 1 0) 0 0 0 ≡ cond (not x) 1 0
+    go true = refl
+    go false = refl
+
 -- the set of all 64 nodes
 all-bits : (j : ℕ) → j < 64 → 18446744073709551615 / 2 ^ j % 2 ≡ 1
 unfolding maskOf
 all-bits j l = mask-of (λ b. true) 64 .all j l refl
 
 pub alone-digit : (j : ℕ) → j < 64 → sum (18446744073709551615 / 2 ^ j % 2) (0 / 2 ^ j % 2) (18446744073709551615 / 2 ^ j % 2) (18446744073709551615 / 2 ^ j % 2) ≡ 6
-alone-digit j l = let z : 0 / 2 ^ j ≡ 0 = div-eq-of-lt (pow-pos j) in omega (arith, all-bits j l)
+alone-digit j l = omega (arith, none-has j, all-bits j l)
 
 pub lacks-digit : (j : ℕ) → j < 64 → sum (18446744073709551615 / 2 ^ j % 2) (18446744073709551615 / 2 ^ j % 2) (18446744073709551615 / 2 ^ j % 2) (18446744073709551615 / 2 ^ j % 2) ≡ 7
 lacks-digit j l = omega (arith, all-bits j l)

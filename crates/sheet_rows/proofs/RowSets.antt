@@ -1,18 +1,18 @@
 -- A row from sets of nodes: an entry by what of the sets have its node.
 -- Assumes nothing.
-use mathlib.Core.Path.{_≡_, refl, ap, subst, _∙_}
+use mathlib.Core.Path.{_≡_, refl, ap, subst, sym, _∙_}
 use mathlib.Core.Logic.{inl, inr}
 use mathlib.Core.Bool.{Bool, true, false, _&&_, _||_, not, cond}
 use mathlib.Core.List.{List, []}
 use Prim.Native.Nat.{ℕ, _+_, _*_, _-_, _/_, _%_, _^_, _<_}
 use native.Mathlib.Omega.{arith}
 use native.Mathlib.Decide.{ℕ-discrete, decLt}
-use lib.Bits.{bitAnd, bitOr}
+use lib.Bits.{bitAnd, bitOr, and-zero-l, or-comm}
 use lib.Dec.{eqb}
 use lib.ListN.{length, getD, set}
 use lib.Seq.{getD-set-same, getD-set-other}
-use Rattle.lists.specs.Truth.{same-truth, or-cases as either, or-left, or-right}
-use Rattle.lists.specs.Mask.{or-cases, or-left as in-left, or-right as in-right}
+use Rattle.lists.specs.Truth.{same-truth, and-false, or-cases as either, or-left, or-right}
+use Rattle.lists.specs.Mask.{or-cases, or-left as in-left, or-right as in-right, or-more}
 use Rattle.lists.specs.Bits.{has}
 use Rattle.lists.specs.Common.{and-both, both-and, common}
 use Rattle.profiles.specs.Marks.{startsIn, endsIn, heldIn}
@@ -25,8 +25,8 @@ use Rattle.eights.specs.Eights.{covered, digit}
 use Rattle.eights.specs.declared.Planes.{Planes}
 use Rattle.pairs.specs.Rules.{profileAt, ruledBy, answerBy}
 use Rattle.pairs.specs.declared.rules.Profile.{Profile}
-use Rattle.sheet_rows.specs.Sheet.{rowOf, byRules, bySize, InSets, SharedFrom, Sharing}
-use Rattle.sheet_rows.proofs.Ranks.{has-and}
+use Rattle.sheet_rows.specs.Sheet.{rowOf, byRules, bySize, PhaseOnly, InSets, SharedFrom, Sharing}
+use Rattle.sheet_rows.proofs.Ranks.{has-and, none-has}
 
 -- three masks have a bit in common, whichever two are met first
 turned : (x m y : ℕ) → common (bitAnd x m) y ≡ true → common (bitAnd x y) m ≡ true
@@ -53,6 +53,10 @@ either-meets x y m = same-truth _ _
       | inl r ↦ (let (b, (p, q)) = common-of x m .0 r in common-of (bitOr x y) m .1 (b, (in-left x y b p, q)))
       | inr r ↦ (let (b, (p, q)) = common-of m y .0 r in common-of (bitOr x y) m .1 (b, (in-right x y b q, p)))
     ])
+
+-- two masks are 0 where their union is
+pub or-none : (a b : ℕ) → bitOr a b ≡ 0 → (a ≡ 0) × (b ≡ 0)
+or-none a b e = (omega (arith, or-more a b), omega (arith, or-more b a, or-comm a b))
 
 -- one entry, where the sets have no node that is closed
 module _ (closed : List ℕ) (marks : List (List ℕ)) (sets : Sets) (own : Profile) (x : ℕ) where
@@ -104,6 +108,24 @@ word-row closed marks sets own w p q s e m k d c z S E M K D C Z ranks sized j l
     let ruled = ranks j ∙ ap (λ (b : Bool). byRules b (has m j) (has k j) (has d j) (has c j)) (has-and s e j) in
     ap (covered closed x) (sized j l ∙ ap (bySize (sets .alone) (common (own .held) (sets .missing) || has z j)) ruled)
     ∙ row-entry closed marks sets own x (S j l) (E j l) (M j l) (K j l) (D j l) (C j l) (Z j l)
+
+-- no node shares a bit with the empty mask
+none-shared : (closed masks : List ℕ) (first mask : ℕ) → mask ≡ 0 → SharedFrom closed masks mask first 0
+none-shared closed masks first mask q j l = rw (q, none-has j, and-zero-l (getD masks (first + j) 0)) (sym (and-false (eqb (getD closed (first + j) 0) 0)))
+
+-- 64 entries of a node to which only the first rule can apply: no other set has a node
+pub phase-word : (closed : List ℕ) (marks : List (List ℕ)) (sets : Sets) (own : Profile) (w : ℕ) (p : Planes) (s e : ℕ) → PhaseOnly sets (own .held)
+    → SharedFrom closed (startsIn marks) (own .starts) (64 * w) s → SharedFrom closed (endsIn marks) (own .ends) (64 * w) e
+    → ((j : ℕ) → digit p j ≡ byRules (has (bitAnd s e) j) false false false false)
+    → (j : ℕ) → j < 64 → covered closed (64 * w + j) (digit p j) ≡ rowOf closed sets marks own (64 * w + j)
+unfolding bySize
+phase-word closed marks sets own w p s e O S E ranks =
+    word-row closed marks sets own w p p s e 0 0 0 0 0 S E (kind (sets .masters)) (kind (sets .singles)) (kind (sets .dos)) (kind (sets .sections))
+    (none-shared closed (heldIn marks) (64 * w) (sets .missing) (O .lacks-none)) (λ j. rw (none-has j) (ranks j))
+    (λ j l. rw (O .several, O .holds-none, and-zero-l (sets .missing), none-has j))
+  where
+    kind : (k : ℕ) → SharedFrom closed (heldIn marks) (bitAnd (own .held) k) (64 * w) 0
+    kind k = none-shared closed (heldIn marks) (64 * w) (bitAnd (own .held) k) (rw (O .holds-none) (and-zero-l k))
 
 module _ (closed : List ℕ) (marks : List (List ℕ)) (sets : Sets) (own : Profile) {s e m k d c z : Words}
     (S : Sharing closed (startsIn marks) (own .starts) s) (E : Sharing closed (endsIn marks) (own .ends) e)

@@ -1,7 +1,7 @@
 -- The sheet by masks: a row by the masks of its node, and the sets of nodes that it is written from.
 -- Assumes nothing.
 use mathlib.Core.Path.{_≡_}
-use mathlib.Core.Bool.{Bool, _&&_, not, cond}
+use mathlib.Core.Bool.{Bool, false, _&&_, not, cond}
 use mathlib.Core.List.{List, []}
 use Prim.Native.Nat.{ℕ, _+_, _*_, _/_, _%_, _<_}
 use lib.Dec.{eqb}
@@ -26,6 +26,12 @@ byRules both master single ordered section = cond (not both) 1 (cond master 2 (c
 -- Ahead of it, of a known size: the team has one thread, or it lacks one that either node needs.
 unfoldable pub bySize : Bool → Bool → ℕ → ℕ
 bySize alone lacks ruled = cond alone 6 (cond lacks 7 ruled)
+
+-- No rule but the first can apply to a node that holds this: it holds no construct, and the size of the team adds nothing.
+pub record PhaseOnly (sets : Sets) (held : ℕ) : Type 0 where
+  pub several : sets .alone ≡ false
+  pub holds-none : held ≡ 0
+  pub lacks-none : sets .missing ≡ 0
 
 -- The sets of all nodes that are not closed, and the covers of the others.
 pub record InSets (closed : List ℕ) (marks nodes : List (List ℕ)) : Type 0 where

@@ -1,12 +1,15 @@
 // The row of a node, from sets of nodes: for each bit of a mask the nodes that have it.
 ghost use mathlib.Core.Path.{_≡_};
-ghost use mathlib.Core.Bool.{_||_};
+ghost use mathlib.Core.Bool.{true, false, _||_};
 ghost use mathlib.Core.List.{List, []};
 ghost use Prim.Native.Nat.{ℕ, _<_};
 ghost use lib.ListN.{length, getD};
 ghost use Rattle.lists.specs.Bits.{has};
-ghost use Rattle.eights.specs.Eights.{Spread, digit};
-ghost use Rattle.sheet_rows.specs.Sheet.{byRules, bySize, rowOf, InSets, Sharing};
+ghost use Rattle.profiles.specs.Marks.{startsIn, endsIn};
+ghost use Rattle.profiles.specs.declared.chains.Sets.{Sets};
+ghost use Rattle.eights.specs.Eights.{Spread, Fence, digit};
+ghost use Rattle.pairs.specs.declared.rules.Profile.{Profile};
+ghost use Rattle.sheet_rows.specs.Sheet.{byRules, bySize, rowOf, PhaseOnly, InSets, Sharing};
 use bits::common;
 use chart::format::Chart;
 use eights::BYTES;
@@ -103,6 +106,47 @@ pub fn sharing(mask: u64, row: usize, nodes: &NodeSets) -> Words
     join(mask, &nodes[k], &nodes[k + 1], &nodes[k + 2])
 }
 
+// Most nodes hold no construct. To these only the first rule can apply, unless the team has one thread or lacks one that other nodes need.
+fn phase_only(held: u64, sets: Sets) -> bool
+    ensures { λ r. ⌜ (r ≡ true → PhaseOnly sets held) ⌝ }
+{
+    if sets.alone {
+        return false;
+    }
+    (held | sets.missing) == 0
+}
+
+// That rule, of 64 nodes.
+fn phase_planes(both: u64) -> Planes
+    ensures { λ r. ⌜ ((j : ℕ) → digit r j ≡ byRules (has both j) false false false false) ⌝ }
+{
+    Planes {
+        both,
+        odd: 0,
+        twos: 0,
+        fours: 0,
+    }
+}
+
+// The row of such a node, from the nodes that share a start with it and those that share an end: no set of a kind of construct is joined.
+fn work_phase_row(
+    starts: Words,
+    ends: Words,
+    fence: &[u64; WORDS],
+    spread: &[u64; BYTES],
+    last: &mut [u8; Chart::NODES],
+)
+    requires { ⌜ Spread (now spread) × (length (now last) ≡ 192) ⌝ }
+    ensures { λ _. ⌜ (length (now (last .exit)) ≡ 192) × ((closed : List ℕ) (marks : List (List ℕ)) (sets : Sets) (own : Profile) → Fence closed (now (fence .entry)) → Sharing closed (startsIn marks) (own .starts) starts → Sharing closed (endsIn marks) (own .ends) ends → PhaseOnly sets (own .held) → (j : ℕ) → j < 192 → getD (now (last .exit)) j 0 ≡ rowOf closed sets marks own j) ⌝ }
+{
+    let first = phase_planes(starts.low & ends.low);
+    put_word(first, 0, fence, spread, last);
+    let second = phase_planes(starts.middle & ends.middle);
+    put_word(second, 1, fence, spread, last);
+    let third = phase_planes(starts.high & ends.high);
+    put_word(third, 2, fence, spread, last);
+}
+
 // The row of a node that has these masks and that a claim may name.
 pub fn work_row(
     own: Profile,
@@ -116,6 +160,10 @@ pub fn work_row(
 {
     let s = sharing(own.starts, STARTS, nodes);
     let e = sharing(own.ends, ENDS, nodes);
+    if phase_only(own.held, sets) {
+        work_phase_row(s, e, &nodes[FENCE], spread, last);
+        return;
+    }
     let m = sharing(own.held & sets.masters, HELD, nodes);
     let k = sharing(own.held & sets.singles, HELD, nodes);
     let d = sharing(own.held & sets.dos, HELD, nodes);

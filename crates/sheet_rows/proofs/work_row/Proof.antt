@@ -11,13 +11,33 @@ use Rattle.sheet_rows.proofs.work_row.Tie as tie
 
 -- where all sets were found, and where the function was called
 abbrev start : tie.After-common → tie.Start
-start c = c .before .before .before .before .before .before .before .before .before .before .before .before .before .before .before .before
+start c = c .before .before .before .before .before .before .before .before .before .before .before .before .before .before .before .before .before .before
 
 sharing-requires : tie.Need-sharing-requires
 sharing-requires c κs = omega arith
 
 sharing-requires-2 : tie.Need-sharing-requires-2
 sharing-requires-2 c κs = omega arith
+
+phase-only-requires : tie.Need-phase-only-requires
+phase-only-requires c κs = tt
+
+index-1-work-phase-row : tie.Need-index-1-work-phase-row
+index-1-work-phase-row c = omega arith
+
+work-phase-row-requires : tie.Need-work-phase-row-requires
+work-phase-row-requires c κs = c .before .before .before .before .before .before .pre
+
+returns : tie.Need-returns
+returns c =
+    let met = c .before .before .before .before in
+    let two = met .before in
+    let one = two .before in
+    let e = one .before .args in (
+      c .work-phase-row .ensures .0,
+      λ closed marks I. c .work-phase-row .ensures .1 closed marks (e .sets) (e .own) (I .fence) (one .sharing .ensures closed marks I) (two .sharing2 .ensures closed marks I)
+          (met .phase-only .ensures (c .before .before .before .if1 .taken)),
+    )
 
 sharing-requires-3 : tie.Need-sharing-requires-3
 sharing-requires-3 c κs = omega arith
@@ -73,8 +93,8 @@ index-1-put-word-3 c = omega arith
 put-word-requires-3 : tie.Need-put-word-requires-3
 put-word-requires-3 c κs = let w = c .before .before .before .before .before .before in (omega arith, start (w .before .before .before .before .before .before .before .before .before .before .before .before .before .before) .pre .0, w .put-word2 .ensures .0)
 
-returns : tie.Need-returns
-returns c =
+returns-2 : tie.Need-returns-2
+returns-2 c =
     let a₃ = c .before .before .before in
     let p₃ = a₃ .before in
     let w₂ = p₃ .before .before .before in
@@ -89,7 +109,7 @@ returns c =
     let five = six .before .before .before in
     let four = five .before .before .before in
     let three = four .before .before .before in
-    let two = three .before .before .before in
+    let two = three .before .before .before .before .before in
     let one = two .before in
     let e = one .before .args in (
       c .put-word3 .ensures .0,
@@ -111,4 +131,4 @@ returns c =
     )
 
 pub work-row-spec : {M : Type 1} → statement M
-work-row-spec = tie.close (tie.spec sharing-requires sharing-requires-2 sharing-requires-3 sharing-requires-4 sharing-requires-5 sharing-requires-6 sharing-requires-7 common-requires planes-requires ahead-requires index-1-put-word put-word-requires planes-requires-2 ahead-requires-2 index-1-put-word-2 put-word-requires-2 planes-requires-3 ahead-requires-3 index-1-put-word-3 put-word-requires-3 returns)
+work-row-spec = tie.close (tie.spec sharing-requires sharing-requires-2 phase-only-requires index-1-work-phase-row work-phase-row-requires returns sharing-requires-3 sharing-requires-4 sharing-requires-5 sharing-requires-6 sharing-requires-7 common-requires planes-requires ahead-requires index-1-put-word put-word-requires planes-requires-2 ahead-requires-2 index-1-put-word-2 put-word-requires-2 planes-requires-3 ahead-requires-3 index-1-put-word-3 put-word-requires-3 returns-2)
