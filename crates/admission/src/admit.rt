@@ -4,7 +4,7 @@ ghost use Rattle.admission.specs.Admission.{admitted};
 use crate::count::count;
 use chart::format::Chart;
 use chart::format::Refusal;
-use entrance::Entered;
+use outermost::Entered;
 use entrance::enter;
 
 pub struct Counts {

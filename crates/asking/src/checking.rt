@@ -5,7 +5,7 @@ ghost use Rattle.chart.specs.Checked.{countsOf, answer};
 ghost use Rattle.paths.specs.Admission.{admitRows};
 use chart::format::Chart;
 use chart::format::Checked;
-use entrance::Entered;
+use outermost::Entered;
 use entrance::enter;
 
 pub fn check_all(s: &[u8]) -> Checked

@@ -24,9 +24,9 @@ use Rattle.chart.proofs.Facts.{Named, names-fit}
 use Rattle.paths.specs.Admission.{admitRows, badRegion, regionRows}
 use Rattle.paths.specs.AdmissionLaws.{outermost-rows}
 use Rattle.phases.specs.Phases.{barriers}
-use Rattle.entrance.specs.Entered.{entered}
-use Rattle.entrance.specs.declared.Entered.{Entered}
-use Rattle.entrance.specs.declared.Entered.the-variants.{Marked, Refused}
+use Rattle.outermost.specs.Entered.{entered}
+use Rattle.outermost.specs.declared.Entered.{Entered}
+use Rattle.outermost.specs.declared.Entered.the-variants.{Marked, Refused}
 
 -- the answer for the region p
 abbrev pub answer : List ℕ → ℕ → Entered

@@ -20,7 +20,7 @@ use crate::start::clear;
 use crate::start::set_team;
 use chart::format::Chart;
 use chart::format::Refusal;
-use entrance::Entered;
+use outermost::Entered;
 use entrance::enter;
 use replay_marks::mark_state;
 use replay_play::play;

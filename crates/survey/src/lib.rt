@@ -13,7 +13,7 @@ ghost use Rattle.survey.specs.declared.Surveyed.the-variants.{Marked};
 use chart::format::Chart;
 use chart::format::Checked;
 use chart::format::Refusal;
-use entrance::Entered;
+use outermost::Entered;
 use entrance::enter;
 use loading::tables::load_tables;
 use marking::masks::fill_ends;

@@ -17,7 +17,7 @@ ghost use Rattle.calls.specs.Sheet.{sheetWrittenFor, sheetLeftFor};
 use answers::Size;
 use chart::format::Chart;
 use chart::format::Refusal;
-use entrance::Entered;
+use outermost::Entered;
 use entrance::enter;
 use output::Written;
 use output::room_for;

@@ -8,7 +8,7 @@ use Rattle.chart.specs.Format.{decode}
 use Rattle.chart.specs.Reading.{regionOf}
 use Rattle.chart.specs.declared.format.Chart.{Chart}
 use Rattle.paths.specs.Admission.{regionRows}
-use Rattle.entrance.proofs.Entering.{entered-refused, entered-marked, entered-counts}
+use Rattle.outermost.proofs.Entering.{entered-refused, entered-marked, entered-counts}
 use Rattle.output.proofs.Outputs.{refused-before, passed-named}
 use Rattle.distances.specs.Distances.{distancesResult}
 use Rattle.distances.proofs.distances.Statement.{statement}

@@ -3,7 +3,7 @@
 use native.Mathlib.Omega.{arith}
 use Rattle.loading.proofs.Accepted.{well-formed}
 use Rattle.loading.proofs.Tabling.{blank-none}
-use Rattle.entrance.proofs.Entering.{few, not-none, nodes-below}
+use Rattle.outermost.proofs.Entering.{few, not-none, nodes-below}
 use Rattle.entrance.proofs.mark_region.Statement.{statement}
 use Rattle.entrance.proofs.mark_region.Tie as tie
 

@@ -11,7 +11,7 @@ use Rattle.refusals.proofs.Outcome.{passed-none}
 use Rattle.loading.specs.Tables.{Accepted}
 use Rattle.loading.proofs.Accepted.{accepted, well-formed}
 use Rattle.loading.proofs.Tabling.{blank-none}
-use Rattle.entrance.proofs.Entering.{few, not-none, nodes-below, unreached, stuck, connects}
+use Rattle.outermost.proofs.Entering.{few, not-none, nodes-below, unreached, stuck, connects}
 use Rattle.survey.specs.Surveyed.{checkedOf}
 use Rattle.profiles.proofs.Nodes.{all-marks}
 use Rattle.survey.proofs.survey_chart.Statement.{statement}

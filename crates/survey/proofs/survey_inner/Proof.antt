@@ -4,7 +4,7 @@ use mathlib.Core.Path.{_≡_, sym, _∙_}
 use borrow.Author.Needs.{needs}
 use Rattle.lists.specs.Truth.{bad}
 use Rattle.chart.specs.Checked.{answer}
-use Rattle.entrance.proofs.Entering.{entered-refused, entered-marked, entered-counts}
+use Rattle.outermost.proofs.Entering.{entered-refused, entered-marked, entered-counts}
 use Rattle.profiles.proofs.Nodes.{all-marks}
 use Rattle.survey.specs.Surveyed.{checkedOf}
 use Rattle.survey.proofs.survey_inner.Statement.{statement}

@@ -8,7 +8,7 @@ use Rattle.chart.specs.Reading.{regionOf}
 use Rattle.chart.specs.declared.format.Chart.{Chart}
 use Rattle.chart.proofs.Records.{nodes-length}
 use Rattle.paths.specs.Admission.{regionRows}
-use Rattle.entrance.proofs.Entering.{entered-refused, entered-marked, entered-counts}
+use Rattle.outermost.proofs.Entering.{entered-refused, entered-marked, entered-counts}
 use Rattle.output.proofs.Outputs.{refused-before}
 use Rattle.calls.specs.Phases.{phasesResult}
 use Rattle.calls.proofs.Passed.{output-passed}

@@ -11,7 +11,7 @@ use Rattle.chart.proofs.Records.{nodes-length}
 use Rattle.paths.specs.AdmissionLaws.{outermost-rows}
 use Rattle.phases.specs.Phases.{barriers, phaseCount}
 use Rattle.loading.proofs.Loading.{barriers-most}
-use Rattle.entrance.proofs.Entering.{entered-refused, entered-marked, entered-counts}
+use Rattle.outermost.proofs.Entering.{entered-refused, entered-marked, entered-counts}
 use Rattle.admission.specs.Admission.{countsIn, answer, admitted}
 use Rattle.admission.proofs.admit.admit.Statement.{statement}
 use Rattle.admission.proofs.admit.admit.Tie as tie

@@ -4,7 +4,7 @@ use mathlib.Core.Path.{sym, _∙_}
 use borrow.Author.Needs.{needs}
 use Rattle.chart.specs.Checked.{countsOf, answer}
 use Rattle.paths.specs.AdmissionLaws.{outermost-rows}
-use Rattle.entrance.proofs.Entering.{entered-refused, entered-marked, entered-counts}
+use Rattle.outermost.proofs.Entering.{entered-refused, entered-marked, entered-counts}
 use Rattle.asking.proofs.checking.check_all.Statement.{statement}
 use Rattle.asking.proofs.checking.check_all.Tie as tie
 

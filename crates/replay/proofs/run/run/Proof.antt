@@ -7,7 +7,7 @@ use lib.ListN.{length}
 use Rattle.chart.specs.Refusal.{firstOf}
 use Rattle.chart.specs.declared.format.Chart.{Chart}
 use Rattle.paths.specs.Admission.{regionRows}
-use Rattle.entrance.proofs.Entering.{entered-refused, entered-marked, entered-counts}
+use Rattle.outermost.proofs.Entering.{entered-refused, entered-marked, entered-counts}
 use Rattle.replay.proofs.Calls.{region-refused, refused-answer, refused-sheet, refused-count, refused-none, left-length}
 use borrow.Author.Needs.{needs}
 use Rattle.replay.proofs.run.run.Statement.{statement}

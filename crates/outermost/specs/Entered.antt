@@ -9,8 +9,8 @@ use Rattle.chart.specs.Checked.{reading}
 use Rattle.chart.specs.declared.format.Chart.{Chart}
 use Rattle.phases.specs.Phases.{forward, backward, barriers}
 use Rattle.loading.specs.Tables.{Accepted, Masks, Levels}
-use Rattle.entrance.specs.declared.Entered.{Entered}
-use Rattle.entrance.specs.declared.Entered.the-variants.{Marked, Refused}
+use Rattle.outermost.specs.declared.Entered.{Entered}
+use Rattle.outermost.specs.declared.Entered.the-variants.{Marked, Refused}
 
 unfoldable pub entered : Option ℕ → Chart → ℕ → Entered
 entered none chart total = Marked chart total

@@ -25,9 +25,9 @@ use Rattle.loading.specs.Tables.{Accepted, Barriers}
 use Rattle.loading.proofs.Accepted.{accepted, well-formed}
 use Rattle.loading.proofs.Loading.{barriers-most, barriers-below}
 use Rattle.loading.proofs.Rows.{refused-paths, admits}
-use Rattle.entrance.specs.Entered.{entered}
+use Rattle.outermost.specs.Entered.{entered}
 use Rattle.joining.specs.Joined.{lost, lostBarrier, lostIn}
-use Rattle.entrance.specs.declared.Entered.the-variants.{Marked, Refused}
+use Rattle.outermost.specs.declared.Entered.the-variants.{Marked, Refused}
 use Rattle.joining.proofs.Joining.{some-barrier, barrier-lost, both-ways}
 
 pub entered-refused : (o : Option ℕ) (counts : Chart) (barriers : ℕ) {refusal : Refusal} → entered o counts barriers ≡ Refused refusal → o ≡ some (refusal .number)

@@ -1,12 +1,12 @@
--- `entrance::enter_outermost` meets its contract: rows 1 to 9, and where none of them applies row 10.
+-- `outermost::enter_outermost` meets its contract: rows 1 to 9, and where none of them applies row 10.
 -- Assumes nothing.
 use mathlib.Core.Path.{sym, _∙_}
 use borrow.Author.Needs.{needs}
 use Rattle.lists.specs.Truth.{bad}
 use Rattle.loading.proofs.Rows.{refused-before}
-use Rattle.entrance.specs.Entered.{entered}
-use Rattle.entrance.proofs.enter_outermost.Statement.{statement}
-use Rattle.entrance.proofs.enter_outermost.Tie as tie
+use Rattle.outermost.specs.Entered.{entered}
+use Rattle.outermost.proofs.enter_outermost.Statement.{statement}
+use Rattle.outermost.proofs.enter_outermost.Tie as tie
 
 check-requires : tie.Need-check-requires
 check-requires c κs = search needs

@@ -1,4 +1,4 @@
--- `entrance::enter_chart` meets its contract: from start forward, and from finish backward.
+-- `outermost::enter_chart` meets its contract: from start forward, and from finish backward.
 -- Assumes nothing.
 use mathlib.Core.Path.{_≡_, refl, sym, _∙_}
 use mathlib.Core.Bool.{true, false}
@@ -9,10 +9,10 @@ use Rattle.chart.proofs.Records.{nodes-length}
 use Rattle.loading.specs.Tables.{Accepted}
 use Rattle.loading.proofs.Accepted.{accepted, well-formed}
 use Rattle.loading.proofs.Tabling.{blank-none}
-use Rattle.entrance.specs.Entered.{Entry}
-use Rattle.entrance.proofs.Entering.{marked-same, few, not-none, nodes-below, unreached, stuck, connects, refuses, marks}
-use Rattle.entrance.proofs.enter_chart.Statement.{statement}
-use Rattle.entrance.proofs.enter_chart.Tie as tie
+use Rattle.outermost.specs.Entered.{Entry}
+use Rattle.outermost.proofs.Entering.{marked-same, few, not-none, nodes-below, unreached, stuck, connects, refuses, marks}
+use Rattle.outermost.proofs.enter_chart.Statement.{statement}
+use Rattle.outermost.proofs.enter_chart.Tie as tie
 
 -- where the function was called, and what is known of the chart
 abbrev start : (c : tie.After-load-tables) → tie.Start
