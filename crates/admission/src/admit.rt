@@ -4,8 +4,8 @@ ghost use Rattle.admission.specs.Admission.{admitted};
 use crate::count::count;
 use chart::format::Chart;
 use chart::format::Refusal;
-use outermost::Entered;
 use entrance::enter;
+use outermost::Entered;
 
 pub struct Counts {
     pub nodes: usize,

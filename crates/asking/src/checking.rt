@@ -5,8 +5,8 @@ ghost use Rattle.chart.specs.Checked.{countsOf, answer};
 ghost use Rattle.paths.specs.Admission.{admitRows};
 use chart::format::Chart;
 use chart::format::Checked;
-use outermost::Entered;
 use entrance::enter;
+use outermost::Entered;
 
 pub fn check_all(s: &[u8]) -> Checked
     ensures { λ r. ⌜ r ≡ answer (firstOf (admitRows (now (s .entry)))) (countsOf (now (s .entry))) ⌝ }

@@ -82,8 +82,7 @@ impl Cursor {
         ensures { λ r. ⌜ (r % 256 ≡ getD (now (s .entry)) (self .at) 0) × (r / 256 % 256 ≡ getD (now (s .entry)) (self .at + 1) 0) ⌝ }
     {
         let at = self.at;
-        let low = two_bytes(s[at], s[at + 1]);
-        low + 65536 * two_bytes(s[at + 2], s[at + 3])
+        four_bytes(s[at], s[at + 1], s[at + 2], s[at + 3])
     }
 
     // The filter of the construct at the cursor.
@@ -98,11 +97,11 @@ impl Cursor {
     }
 }
 
-// Two bytes as one number, the lower one first.
-fn two_bytes(low: u8, high: u8) -> u32
-    ensures { λ r. ⌜ (r ≡ low + 256 * high) × (low < 256) × (high < 256) ⌝ }
+// Four bytes as one number, the lowest one first.
+fn four_bytes(a: u8, b: u8, c: u8, d: u8) -> u32
+    ensures { λ r. ⌜ (r ≡ a + 256 * b + 65536 * c + 16777216 * d) × (a < 256) × (b < 256) ⌝ }
 {
-    (low as u32) + 256 * (high as u32)
+    (a as u32) + 256 * (b as u32) + 65536 * (c as u32) + 16777216 * (d as u32)
 }
 
 // The bytes of c construct records.

@@ -13,8 +13,8 @@ ghost use Rattle.output.specs.Output.{outputRows, writtenBy, leftBy};
 ghost use Rattle.distances.specs.Distances.{distancesResult, distancesWritten, distancesLeft};
 use chart::format::Chart;
 use closed_nodes::load_closed;
-use outermost::Entered;
 use entrance::enter;
+use outermost::Entered;
 use output::Written;
 use output::room_for;
 

@@ -1,6 +1,6 @@
 // Row 5 of the refusals, over the nodes.
 ghost use mathlib.Core.Path.{_≡_};
-ghost use mathlib.Core.Bool.{_&&_, not};
+ghost use mathlib.Core.Bool.{_&&_, not, cond};
 ghost use lib.Dec.{eqb};
 ghost use lib.ListN.{length};
 ghost use Rattle.lists.specs.Range.{any};
@@ -54,6 +54,16 @@ fn bad_each(s: &[u8], chart: Chart) -> bool
     false
 }
 
+// The first of two answers where the test holds, else the second.
+fn choose(test: bool, a: bool, b: bool) -> bool
+    ensures { λ r. ⌜ r ≡ cond test a b ⌝ }
+{
+    if test {
+        return a;
+    }
+    b
+}
+
 // Whether a node may be bad by itself: a bad one, or a barrier that names a construct, be it a parallel or not. Only bytes are compared, so
 // that many nodes are taken at once.
 fn doubtful(node: Node, constructs: u8) -> bool
@@ -61,16 +71,12 @@ fn doubtful(node: Node, constructs: u8) -> bool
 {
     let kind = node.kind;
     let number = node.number;
-    if Node::END < kind {
-        return true;
-    }
-    if number == Construct::NONE {
-        return Node::BEGIN <= kind;
-    }
-    if constructs <= number {
-        return true;
-    }
-    kind == Node::BARRIER
+    let unnamed = Node::BEGIN <= kind;
+    let named = either(constructs <= number, kind == Node::BARRIER);
+    either(
+        Node::END < kind,
+        choose(number == Construct::NONE, unnamed, named),
+    )
 }
 
 // Whether some node may be. No turn leaves the loop or reads a construct.

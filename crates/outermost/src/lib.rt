@@ -68,4 +68,3 @@ pub fn enter_outermost(
         Checked::Passed(chart) => enter_chart(s, chart, starts, ends, levels),
     }
 }
-
