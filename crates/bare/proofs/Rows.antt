@@ -1,4 +1,4 @@
--- Rows 5 and 9 of a chart without constructs, by what its records tell.
+-- What is bad of an edge after another, and rows 5 and 9 of a chart without constructs, by what the records tell.
 -- Assumes nothing.
 use mathlib.Core.Path.{_≡_, refl, sym, ap, _∙_}
 use mathlib.Core.Logic.{_⊎_, inl, inr, _≢_}
@@ -8,15 +8,15 @@ use native.Mathlib.Omega.{arith}
 use native.Mathlib.Decide.{ℕ-discrete, decLt}
 use lib.Dec.{eqb, ltb, leb}
 use lib.ListN.{length}
-use borrow.Author.Tests.{leb-false, lt-leb, ltb-false, le-ltb, lt-ltb, eqb-false, eq-eqb, ne-eqb}
-use Rattle.lists.specs.Truth.{clash, truth, or-neither, neither-or, not-eqb, eq-not-eqb}
+use borrow.Author.Tests.{leb-false, lt-leb, ltb-false, le-ltb, lt-ltb, eqb-false, eq-eqb, ne-eqb, not-false}
+use Rattle.lists.specs.Truth.{clash, truth, true-not, or-neither, neither-or, not-eqb, eq-not-eqb}
 use Rattle.lists.specs.Range.{any, any-none, none-passes}
-use Rattle.chart.specs.Format.{outside, Decoded, nodeAt, edgeAt}
+use Rattle.chart.specs.Format.{outside, Edge, Decoded, nodeAt, edgeAt}
 use Rattle.chart.specs.Scope.{beginNode, endNode, scope, scopeAt, liesIn}
 use Rattle.chart.specs.Refusal.{badNodes, badEdges}
 use Rattle.chart.proofs.Constructs.{no-construct}
-use Rattle.chart.proofs.Facts.{NodesFit, nodes-fit, fit-nodes, FramesSection, EdgeFits, Rises, EdgesFit, edges-fit, fit-edges}
-use Rattle.bare.specs.Told.{full, nodeTold, edgeTold}
+use Rattle.chart.proofs.Facts.{NodesFit, nodes-fit, fit-nodes, FramesSection, EdgeFits, Rises, rise-fits, fit-rise, EdgesFit, edges-fit, fit-edges}
+use Rattle.bare.specs.Told.{full, nodeTold, edgeTold, badNext}
 
 -- a row that fails exactly where its test does
 same-false : (a b : Bool) → (a ≡ false → b ≡ false) → (b ≡ false → a ≡ false) → a ≡ b
@@ -61,6 +61,39 @@ module _ (n a b from to : ℕ) (some : 1 ≤ n) (most : n ≤ 255) where
         | inl m ↦ omega (arith, none-full (ltb from a) (le-ltb from a (omega arith)), none-full (eqb a from) (ne-eqb a from (λ q. omega arith)))
         | inr (q, m) ↦ omega (arith, none-full (ltb from a) (le-ltb from a (omega arith)), none-full (leb to b) (lt-leb to b m))
       ]
+
+module _ (D : Decoded) (i : ℕ) where
+  abbrev before : Edge
+  before = edgeAt (D .edges) i
+
+  abbrev next : Edge
+  next = edgeAt (D .edges) (suc i)
+
+  next-fits : badNext D i ≡ false → (next .to < length (D .nodes)) × (next .to ≢ 0) × Rises before next
+  unfolding badNext
+  next-fits h =
+      let a = or-neither (leb (length (D .nodes)) (next .to)) _ h in
+      let b = or-neither (eqb (next .to) 0) _ (a .1) in
+      (leb-false _ _ (a .0), eqb-false _ _ (b .0), rise-fits before next (not-false _ (b .1)))
+
+  fit-next : next .to < length (D .nodes) → next .to ≢ 0 → Rises before next → badNext D i ≡ false
+  unfolding badNext
+  fit-next l start r =
+      neither-or _ _ (lt-leb (length (D .nodes)) (next .to) l) (neither-or _ _ (ne-eqb (next .to) 0 start) (true-not _ (fit-rise before next r)))
+
+  pub told-next : 1 ≤ length (D .nodes) → length (D .nodes) ≤ 255
+      → leb (length (D .nodes)) (edgeTold (before .from) (before .to) (next .from) (next .to)) ≡ badNext D i
+  told-next some most = same-false _ _ down up
+    where
+      down : leb (length (D .nodes)) (edgeTold (before .from) (before .to) (next .from) (next .to)) ≡ false → badNext D i ≡ false
+      down h =
+          let (l, start, r) = told-edge _ (before .from) (before .to) (next .from) (next .to) some most (leb-false _ _ h) in
+          fit-next l start r
+
+      up : badNext D i ≡ false → leb (length (D .nodes)) (edgeTold (before .from) (before .to) (next .from) (next .to)) ≡ false
+      up h =
+          let (l, start, r) = next-fits h in
+          lt-leb _ _ (edge-told _ (before .from) (before .to) (next .from) (next .to) some most l start r)
 
 module _ (D : Decoded) (bare : length (D .constructs) ≡ 0) where
   -- what row 5 leaves of a node
@@ -117,7 +150,7 @@ module _ (D : Decoded) (bare : length (D .constructs) ≡ 0) where
       let low = climbs r i d (omega arith) in
       rw q (elim (r (i + d) (omega arith)) [ inl m ↦ omega arith | inr (z, m) ↦ omega arith ])
 
-  module _ (some : 1 ≤ length (D .edges)) (most : length (D .nodes) ≤ 255) (passed : badNodes D ≡ false) where
+  module _ (some : 1 ≤ length (D .edges)) (passed : badNodes D ≡ false) where
     abbrev n : ℕ
     n = length (D .nodes)
 
@@ -127,14 +160,11 @@ module _ (D : Decoded) (bare : length (D .constructs) ≡ 0) where
     abbrev to : ℕ → ℕ
     to i = edgeAt (D .edges) i .to
 
-    abbrev told : ℕ → ℕ
-    told i = edgeTold (from i) (to i) (from (suc i)) (to (suc i))
-
     abbrev last : ℕ
     last = length (D .edges) - 1
 
     abbrev test : Bool
-    test = eqb (to 0) 0 || (leb n (to 0) || (leb n (from last + 1) || any last (λ i. leb n (told i))))
+    test = eqb (to 0) 0 || (leb n (to 0) || (leb n (from last + 1) || any last (badNext D)))
 
     straight : to 0 ≢ 0 → to 0 < n → from last + 1 < n
         → ((i : ℕ) → suc i < length (D .edges) → (to (suc i) < n) × (to (suc i) ≢ 0) × After (from i) (to i) (from (suc i)) (to (suc i))) → EdgesFit D
@@ -172,8 +202,7 @@ module _ (D : Decoded) (bare : length (D .constructs) ≡ 0) where
             let d = or-neither (leb n (from last + 1)) _ (b .1) in
             let low = leb-false n (to 0) (b .0) in
             fit-edges D (straight (eqb-false (to 0) 0 (a .0)) low (leb-false n (from last + 1) (d .0))
-            (λ i l. told-edge n (from i) (to i) (from (suc i)) (to (suc i)) (omega arith) most
-            (leb-false n (told i) (none-passes last (λ i. leb n (told i)) (d .1) i (omega arith)))))
+            (λ i l. next-fits D i (none-passes last (badNext D) (d .1) i (omega arith))))
 
         up : badEdges D ≡ false → test ≡ false
         up h =
@@ -181,7 +210,6 @@ module _ (D : Decoded) (bare : length (D .constructs) ≡ 0) where
             let head = F .alone 0 (omega arith) in
             let tail = F .alone last (omega arith) in
             neither-or _ _ (ne-eqb (to 0) 0 (head .not-into-start)) (neither-or _ _ (lt-leb n (to 0) (head .to-below))
-            (neither-or _ _ (lt-leb n (from last + 1) (omega (arith, tail .from-below, tail .not-out-of-finish))) (any-none last (λ i. leb n (told i)) (λ i l.
-            let next = F .alone (suc i) (omega arith) in
-            lt-leb n (told i) (edge-told n (from i) (to i) (from (suc i)) (to (suc i)) (omega (arith, next .to-below)) most
-            (next .to-below) (next .not-into-start) (F .rising i (omega arith)))))))
+            (neither-or _ _ (lt-leb n (from last + 1) (omega (arith, tail .from-below, tail .not-out-of-finish))) (any-none last (badNext D) (λ i l.
+            let after = F .alone (suc i) (omega arith) in
+            fit-next D i (after .to-below) (after .not-into-start) (F .rising i (omega arith))))))

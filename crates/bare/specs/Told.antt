@@ -1,14 +1,15 @@
--- What the byte places of a chart without constructs tell: of a record that begins there a number that is high where the record is bad,
--- elsewhere 0; and the highest of these.
+-- What the byte places of a chart tell: of a record that begins there a number that is high where the record is bad, elsewhere 0; the
+-- highest of these; and what is bad of an edge after another.
 -- Assumes nothing.
 use mathlib.Core.Path.{_≡_}
-use mathlib.Core.Bool.{Bool, not, cond}
+use mathlib.Core.Bool.{Bool, _||_, not, cond}
 use mathlib.Core.List.{List}
-use Prim.Native.Nat.{ℕ, _+_, _/_, _%_, _≤_, min, max}
+use Prim.Native.Nat.{ℕ, suc, _+_, _/_, _%_, _≤_, min, max}
 use lib.Dec.{eqb, ltb, leb}
-use lib.ListN.{getD}
+use lib.ListN.{length, getD}
 use Rattle.lists.specs.Range.{any}
-use Rattle.chart.specs.Format.{outside}
+use Rattle.chart.specs.Format.{outside, Decoded, edgeAt}
+use Rattle.chart.specs.Refusal.{rises}
 
 -- the highest byte where a test passes
 abbrev pub full : Bool → ℕ
@@ -38,3 +39,10 @@ edgePlace s first k =
 -- The highest of f below n reaches what one of them reaches.
 pub record Highest (f : ℕ → ℕ) (n high : ℕ) : Type 0 where
   pub reaches : (v : ℕ) → 1 ≤ v → leb v high ≡ any n (λ k. leb v (f k))
+
+-- Row 9, of the edge after edge i, but for its scopes and for the node that it leaves.
+unfoldable pub badNext : Decoded → ℕ → Bool
+badNext D i =
+    let before = edgeAt (D .edges) i in
+    let after = edgeAt (D .edges) (suc i) in
+    leb (length (D .nodes)) (after .to) || (eqb (after .to) 0 || not (rises (before .from) (before .to) (after .from) (after .to)))

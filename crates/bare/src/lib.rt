@@ -1,12 +1,13 @@
-// Rows 5 and 9 of the refusals, on charts without constructs. Each byte place tells a number, 0 where no record begins, and the highest
-// decides: with no branch and no place left out the compiler takes 16 places at once.
+// Rows 5 and 9 of the refusals, on charts without constructs, and of row 9 on any chart the order of the edges. Each byte place tells a
+// number, 0 where no record begins, and the highest decides: with no branch and no place left out the compiler takes 16 places at once.
 ghost use mathlib.Core.Path.{_≡_};
 ghost use mathlib.Core.Bool.{false, cond};
 ghost use Prim.Native.Nat.{_*_, _-_, _<_, min, max};
+ghost use Rattle.lists.specs.Range.{any};
 ghost use Rattle.chart.specs.Format.{decode};
 ghost use Rattle.chart.specs.Refusal.{badNodes, badEdges};
 ghost use Rattle.chart.specs.Checked.{Laid};
-ghost use Rattle.bare.specs.Told.{evenly, nodeTold, edgeTold, nodePlace, edgePlace, Highest};
+ghost use Rattle.bare.specs.Told.{evenly, nodeTold, edgeTold, nodePlace, edgePlace, Highest, badNext};
 use chart::cursor::wide;
 use chart::format::Chart;
 use chart::format::Construct;
@@ -97,6 +98,14 @@ fn highest_edge(s: &[u8], chart: Chart) -> u8
     high
 }
 
+// Whether some edge but the first does not rise above the one before it, or comes to start or to no node.
+pub fn bad_order(s: &[u8], chart: Chart) -> bool
+    requires { ⌜ Laid (now s) chart ⌝ }
+    ensures { λ r. ⌜ r ≡ any (chart .edges - 1) (badNext (decode (now (s .entry)))) ⌝ }
+{
+    chart.nodes <= wide(highest_edge(s, chart))
+}
+
 // Row 5: with no construct a node is plain or a barrier, and outside.
 pub fn bad_nodes(s: &[u8], chart: Chart) -> bool
     requires { ⌜ Laid (now s) chart × (chart .constructs ≡ 0) ⌝ }
@@ -122,5 +131,5 @@ pub fn bad_edges(s: &[u8], chart: Chart) -> bool
     if n <= from + 1 {
         return true;
     }
-    n <= wide(highest_edge(s, chart))
+    bad_order(s, chart)
 }

@@ -2,12 +2,12 @@
 -- Assumes nothing.
 use mathlib.Core.Path.{_≡_}
 use mathlib.Core.Logic.{_⊎_}
-use mathlib.Core.Bool.{not}
+use mathlib.Core.Bool.{Bool, not}
 use mathlib.Core.List.{List}
 use Prim.Native.Nat.{ℕ, _≤_, _<_}
 use lib.Dec.{eqb}
 use lib.ListN.{length, getD}
-use Rattle.chart.specs.Format.{Decoded, nodeAt}
+use Rattle.chart.specs.Format.{Decoded, nodeAt, edgeAt}
 use Rattle.chart.specs.Scope.{beginNode, scopeAt}
 use Rattle.chart.specs.Refusal.{badEdge}
 
@@ -40,6 +40,10 @@ pub record ScopeTable (own none : ℕ) (D : Decoded) (table : List ℕ) : Type 0
   pub at : (x : ℕ) → x < length (D .nodes) → getD table x 0 ≡ scopeAt own (D .nodes) (D .constructs) x
   pub byte : (x : ℕ) → x < length (D .nodes) → getD table x 0 < 256
   pub past : (x : ℕ) → length (D .nodes) ≤ x → x < 256 → getD table x 0 ≡ none
+
+-- Row 9 of edge i by itself.
+abbrev pub badByItself : Decoded → ℕ → Bool
+badByItself D i = badEdge (D .nodes) (D .constructs) (edgeAt (D .edges) i .from) (edgeAt (D .edges) i .to)
 
 -- Two tables of scopes that differ exactly where an edge is bad by itself (row 9).
 pub record EdgeScopes (D : Decoded) (leave arrive : List ℕ) : Type 0 where

@@ -8,7 +8,7 @@ ghost use Rattle.chart.specs.Format.{decode};
 ghost use Rattle.chart.specs.Scope.{beginNode, endNode, scopeAt};
 ghost use Rattle.chart.specs.Refusal.{badNodes, rises, badEdgeAt, framesSection, joinsSections, badEdges};
 ghost use Rattle.chart.specs.Checked.{Laid};
-ghost use Rattle.edges.specs.Tables.{noLeaving, noArriving, ScopesOf, NoFrame, FilledTo, ScopeTable, EdgeScopes};
+ghost use Rattle.edges.specs.Tables.{noLeaving, noArriving, ScopesOf, NoFrame, FilledTo, ScopeTable, EdgeScopes, badByItself};
 use chart::cursor::wide;
 use chart::format::Chart;
 use chart::format::Construct;
@@ -112,7 +112,7 @@ pub fn rising(a: Edge, b: Edge) -> bool
     key(a) < key(b)
 }
 
-// Row 9 but for sections, of edge i.
+// Row 9 but for sections, of edge i by itself.
 fn bad_edge_at(
     s: &[u8],
     chart: Chart,
@@ -121,24 +121,18 @@ fn bad_edge_at(
     arrive: &[u16; BYTES],
 ) -> bool
     requires { ⌜ Laid (now s) chart × (i < chart .edges) × EdgeScopes (decode (now s)) (now leave) (now arrive) ⌝ }
-    ensures { λ r. ⌜ r ≡ badEdgeAt (decode (now (s .entry))) i ⌝ }
+    ensures { λ r. ⌜ r ≡ badByItself (decode (now (s .entry))) i ⌝ }
 {
     let edge = Edge::read(s, chart, i);
     let from = wide(edge.from);
     let to = wide(edge.to);
-    if leave[from] != arrive[to] {
-        return true;
-    }
-    if i == 0 {
-        return false;
-    }
-    !rising(Edge::read(s, chart, i - 1), edge)
+    leave[from] != arrive[to]
 }
 
-// Row 9 but for sections, given the scopes of all nodes.
+// Row 9 but for sections and for the order of the edges, given the scopes of all nodes.
 fn bad_edges_by(s: &[u8], chart: Chart, leave: &[u16; BYTES], arrive: &[u16; BYTES]) -> bool
     requires { ⌜ Laid (now s) chart × EdgeScopes (decode (now s)) (now leave) (now arrive) ⌝ }
-    ensures { λ r. ⌜ r ≡ any (length (decode (now (s .entry)) .edges)) (badEdgeAt (decode (now (s .entry)))) ⌝ }
+    ensures { λ r. ⌜ r ≡ any (length (decode (now (s .entry)) .edges)) (badByItself (decode (now (s .entry)))) ⌝ }
 {
     let e = chart.edges;
     let mut i = 0;
@@ -191,8 +185,9 @@ fn joins_sections(s: &[u8], chart: Chart) -> bool
     false
 }
 
-// Row 9 but for sections. The scopes are looked up once for each node, not once for each edge. No edge may come to start or leave finish:
-// there too stand scopes that no other has, so that one comparison is all that an edge takes by itself.
+// Row 9 but for sections. The order is asked of all edges at once, so that one comparison of scopes is all that is left of each, and it is
+// asked after the scopes are filled, which need not be read at once then. They are looked up once for each node, not once for each edge.
+// No edge may come to start or leave finish: there too stand scopes that no other has.
 fn bad_scopes(s: &[u8], chart: Chart) -> bool
     requires { ⌜ Laid (now s) chart × (badNodes (decode (now s)) ≡ false) ⌝ }
     ensures { λ r. ⌜ r ≡ any (length (decode (now (s .entry)) .edges)) (badEdgeAt (decode (now (s .entry)))) ⌝ }
@@ -203,6 +198,9 @@ fn bad_scopes(s: &[u8], chart: Chart) -> bool
     let finish = chart.nodes - 1;
     leave[finish] = NO_LEAVING;
     arrive[0] = NO_ARRIVING;
+    if bare::bad_order(s, chart) {
+        return true;
+    }
     bad_edges_by(s, chart, &leave, &arrive)
 }
 

@@ -1,9 +1,9 @@
 -- `bare::bad_edges` meets its contract.
 -- Assumes nothing.
-use mathlib.Core.Path.{_≡_, ap, _∙_}
+use mathlib.Core.Path.{_≡_, _∙_}
 use mathlib.Core.Bool.{false, _||_}
 use mathlib.Core.List.{List}
-use Prim.Native.Nat.{ℕ, suc, _+_, _-_}
+use Prim.Native.Nat.{ℕ, _+_, _-_}
 use native.Mathlib.Omega.{arith}
 use lib.Dec.{eqb, leb}
 use borrow.Author.Tests.{eq-eqb, ne-eqb, le-leb, lt-leb}
@@ -14,8 +14,7 @@ use Rattle.chart.specs.Refusal.{badNodes, badEdges}
 use Rattle.chart.specs.Checked.{Laid}
 use Rattle.chart.specs.declared.format.Chart.{Chart}
 use Rattle.chart.proofs.Records.{nodes-length, edges-length, constructs-length}
-use Rattle.bare.specs.Told.{edgeTold}
-use Rattle.bare.proofs.Places.{edge-places}
+use Rattle.bare.specs.Told.{badNext}
 use Rattle.bare.proofs.Rows.{edges-row}
 use Rattle.bare.proofs.bad_edges.Statement.{statement}
 use Rattle.bare.proofs.bad_edges.Tie as tie
@@ -27,12 +26,12 @@ row : (s : List ℕ) (chart : Chart) → Laid s chart → chart .constructs ≡ 
     (eqb (edge 0 .to) 0
     || (leb (chart .nodes) (edge 0 .to)
     || (leb (chart .nodes) (edge last .from + 1)
-    || any last (λ i. leb (chart .nodes) (edgeTold (edge i .from) (edge i .to) (edge (suc i) .from) (edge (suc i) .to))))))
+    || any last (badNext (decode s)))))
     ≡ badEdges (decode s)
 row s chart laid bare passed =
     let n = nodes-length s chart laid in
     let e = edges-length s chart laid in
-    rw (n, e) at (edges-row (decode s) (constructs-length s chart laid ∙ bare) (omega (arith, laid .one-edge)) (omega (arith, laid .nodes-most)) passed)
+    rw (n, e) at (edges-row (decode s) (constructs-length s chart laid ∙ bare) (omega (arith, laid .one-edge)) passed)
 
 -- the nodes that are tested, in terms of the decoded chart
 head : (c : tie.After-wide) → c .wide .result ≡ edgeAt (decode (c .before .before .before .args .s .now) .edges) 0 .to
@@ -80,26 +79,19 @@ returns-3 c =
     let e = a .before .before .before .before in
     rw (← head (a .before), ne-eqb _ _ (a .if1 .left), lt-leb _ _ (b .if2 .left), ← tail w, le-leb _ _ (c .if3 .taken)) at (row _ (e .args .chart) (e .pre .0) (e .pre .1) (e .pre .2))
 
-highest-edge-requires : tie.Need-highest-edge-requires
-highest-edge-requires c κs = search needs
-
-wide-requires-3 : tie.Need-wide-requires-3
-wide-requires-3 c κs = search needs
+bad-order-requires : tie.Need-bad-order-requires
+bad-order-requires c κs = search needs
 
 returns-4 : tie.Need-returns-4
 returns-4 c =
-    let h = c .before in
-    let d = h .before in
+    let d = c .before in
     let w = d .before in
     let b = w .before .before .before in
     let a = b .before in
     let e = a .before .before .before .before in
-    let chart = e .args .chart in
     let (laid, bare, passed) = e .pre in
-    ap (leb (chart .nodes)) (c .wide3 .ensures .0)
-    ∙ h .highest-edge .ensures .reaches (chart .nodes) (omega (arith, laid .two-nodes))
-    ∙ edge-places (chart .nodes) (omega (arith, laid .two-nodes)) (omega (arith, laid .nodes-most)) _ chart laid
-    ∙ (rw (← head (a .before), ne-eqb _ _ (a .if1 .left), lt-leb _ _ (b .if2 .left), ← tail w, lt-leb _ _ (d .if3 .left)) at (row _ chart laid bare passed))
+    c .bad-order .ensures
+    ∙ (rw (← head (a .before), ne-eqb _ _ (a .if1 .left), lt-leb _ _ (b .if2 .left), ← tail w, lt-leb _ _ (d .if3 .left)) at (row _ (e .args .chart) laid bare passed))
 
 pub bad-edges-spec : {M : Type 1} → statement M
 bad-edges-spec =
@@ -114,6 +106,5 @@ bad-edges-spec =
     wide-requires-2
     add-if3
     returns-3
-    highest-edge-requires
-    wide-requires-3
+    bad-order-requires
     returns-4)

@@ -7,13 +7,13 @@ use native.Mathlib.Omega.{arith}
 use lib.ListN.{length}
 use Rattle.lists.specs.Range.{any, at-any, any-more}
 use Rattle.chart.proofs.Records.{edges-length}
-use Rattle.chart.specs.Refusal.{badEdgeAt}
 use Rattle.chart.specs.Format.{decode}
+use Rattle.edges.specs.Tables.{badByItself}
 use Rattle.edges.proofs.bad_edges_by.Statement.{statement}
 use Rattle.edges.proofs.bad_edges_by.Tie as tie
 
 abbrev Inv-loop : tie.InvT-loop
-Inv-loop s chart leave arrive e i₀ i = (i ≤ chart .edges) × (any i (badEdgeAt (decode s)) ≡ false)
+Inv-loop s chart leave arrive e i₀ i = (i ≤ chart .edges) × (any i (badByItself (decode s)) ≡ false)
 
 abbrev μ-loop : tie.MeasureT-loop
 μ-loop s chart leave arrive e i₀ i = chart .edges - i
@@ -29,7 +29,7 @@ returns : tie.Need-returns Inv-loop μ-loop
 returns c =
     let l = c .before .before .before in
     let e = l .before .before in
-    sym (at-any _ (badEdgeAt (decode (e .args .s .now))) (l .loop .i) (omega (arith, edges-length _ (e .args .chart) (e .pre .0))) (sym (c .before .bad-edge-at .ensures) ∙ c .if1 .taken))
+    sym (at-any _ (badByItself (decode (e .args .s .now))) (l .loop .i) (omega (arith, edges-length _ (e .args .chart) (e .pre .0))) (sym (c .before .bad-edge-at .ensures) ∙ c .if1 .taken))
 
 add-i : tie.Need-add-i Inv-loop μ-loop
 add-i c = omega arith
@@ -46,7 +46,7 @@ returns-2 : tie.Need-returns-2 Inv-loop μ-loop
 returns-2 c =
     let e = c .before .before .before in
     let q : length (decode (e .args .s .now) .edges) ≡ c .before .loop .i = omega (arith, edges-length _ (e .args .chart) (e .pre .0)) in
-    sym (ap (λ (k : ℕ). any k (badEdgeAt (decode (e .args .s .now)))) q ∙ c .before .loop .inv .1)
+    sym (ap (λ (k : ℕ). any k (badByItself (decode (e .args .s .now)))) q ∙ c .before .loop .inv .1)
 
 pub bad-edges-by-spec : {M : Type 1} → statement M
 bad-edges-by-spec =
