@@ -1,6 +1,6 @@
 -- Filling a table of scopes; two such tables, shut at start and finish, tell row 9 of one edge; and edges are ordered by one number.
 -- Assumes nothing.
-use mathlib.Core.Bool.{Bool, true, false, _||_, _&&_, not, cond}
+use mathlib.Core.Bool.{true, false, _||_, _&&_, not}
 use mathlib.Core.Logic.{_⊎_, inl, inr, _≢_}
 use mathlib.Core.Path.{_≡_, refl, sym, ap, subst, _∙_}
 use mathlib.Core.List.{List}
@@ -13,90 +13,123 @@ use lib.Seq.{getD-set-same, getD-set-other}
 use borrow.Author.Count.{below-none}
 use borrow.Author.Tests.{le-leb, lt-leb, lt-ltb, ltb-true, eq-eqb, ne-eqb, eqb-true}
 use Rattle.lists.specs.Truth.{same-truth, and-both, both-and, or-cases, or-left, or-right}
-use Rattle.chart.specs.Format.{Decoded, nodeAt}
-use Rattle.chart.specs.Scope.{beginNode, endNode, scope, liesIn, scopeAt}
+use Rattle.lists.specs.Range.{at-any, first-passes}
+use Rattle.chart.specs.Format.{Node, Decoded, nodeAt}
+use Rattle.chart.specs.Scope.{beginNode, endNode, scope, scopeAt, parentOf}
+use Rattle.chart.specs.Reading.{frameOf}
 use Rattle.chart.specs.Refusal.{badNodes, badEdge, rises}
-use Rattle.chart.proofs.Facts.{nodes-fit, frame-construct}
-use Rattle.edges.specs.Tables.{noLeaving, noArriving, ScopesOf, NoFrame, FilledTo, ScopeTable, EdgeScopes}
+use Rattle.chart.proofs.Facts.{FrameAt, OneFrame, isFrame, frame-is, is-frame, nodes-fit, frame-construct}
+use Rattle.chart.proofs.Reading.{Frame, begin, end}
+use Rattle.chart.proofs.Scopes.{byteOf, frame-byte, lies-number, lies-parent, scope-own, scope-other}
+use Rattle.edges.specs.Tables.{noLeaving, noArriving, ScopesOf, FilledTo, ScopeTable, EdgeScopes}
 
 -- what row 5 leaves of a begin or an end: its number is that of a construct
 pub frame-below : (D : Decoded) (x : ℕ) → badNodes D ≡ false → x < length (D .nodes) → beginNode ≤ nodeAt (D .nodes) x .kind → nodeAt (D .nodes) x .number < length (D .constructs)
 frame-below D x h l k = frame-construct (nodes-fit D h .alone x l) k
 
--- any other node has its number as its scope
-pub number-scope : (own : ℕ) (D : Decoded) (x : ℕ) → NoFrame D x → nodeAt (D .nodes) x .number ≡ scopeAt own (D .nodes) (D .constructs) x
-unfolding scopeAt scope liesIn
-number-scope own D x k = rw (lt-ltb _ beginNode k) (go (eqb (nodeAt (D .nodes) x .kind) own))
+-- the other of a begin and an end
+abbrev pub other : Frame → Frame
+other begin = end
+other end = begin
+
+other-apart : (f : Frame) → byteOf (other f) ≢ byteOf f
+other-apart begin q = omega arith
+other-apart end q = omega arith
+
+other-left : (f : Frame) {kind : ℕ} → beginNode ≤ kind → kind ≤ endNode → kind ≢ byteOf f → kind ≡ byteOf (other f)
+other-left begin a b n = omega arith
+other-left end a b n = omega arith
+
+-- a node that is none of the other kind has its number as its scope
+pub number-scope : (f : Frame) (D : Decoded) (x : ℕ) → badNodes D ≡ false → x < length (D .nodes) → FilledTo D (byteOf (other f)) 0 x
+    → nodeAt (D .nodes) x .number ≡ scopeAt (byteOf f) (D .nodes) (D .constructs) x
+unfolding scopeAt
+number-scope f D x h l q =
+    let k = nodeAt (D .nodes) x in
+    sym (go (k .kind) (k .number) _ (nodes-fit D h .alone x l .known) q (ℕ-discrete (k .kind) (byteOf f)) (decLt (k .kind) beginNode))
   where
-    go : (b : Bool) → nodeAt (D .nodes) x .number ≡ cond b (nodeAt (D .nodes) x .number) (nodeAt (D .nodes) x .number)
-    go true = refl
-    go false = refl
+    go : (kind number parent : ℕ) → kind ≤ endNode → (kind ≡ byteOf (other f) → number < 0) → Dec (kind ≡ byteOf f) → Dec (kind < beginNode)
+        → scope (byteOf f) kind number parent ≡ number
+    go kind number parent m q (yes k) d = scope-own number parent k
+    go kind number parent m q (no k) (yes d) = scope-other number parent k ∙ lies-number number parent d
+    go kind number parent m q (no k) (no d) = absurd (below-none (λ _. ⊥) number (q (other-left f (omega arith) m k)))
+
+-- one of the other kind has the parent of its construct
+other-scope : (f : Frame) (D : Decoded) (x c : ℕ) → FrameAt (D .nodes) (byteOf (other f)) c x → scopeAt (byteOf f) (D .nodes) (D .constructs) x ≡ parentOf (D .constructs) c
+unfolding scopeAt
+other-scope f D x c h =
+    scope-other _ _ (λ q. other-apart f (sym (h .0) ∙ q)) ∙ lies-parent _ _ (subst (λ (kind : ℕ). beginNode ≤ kind) (sym (h .0)) (frame-byte (other f)))
+    ∙ ap (parentOf (D .constructs)) (h .1)
 
 pub scopes-none : (P : ℕ → Type 0) (own none : ℕ) (D : Decoded) → ScopesOf P own none D 0 (replicate 256 none)
 scopes-none P own none D = record { long = refl; at = below-none _; byte = below-none _; past = λ x h m. getD-replicate 256 x none 0 m }
 
 -- a store at x, the only node that may be new
 stored : {P Q : ℕ → Type 0} {own none : ℕ} {D : Decoded} {n m x v : ℕ} {table : List ℕ} → x < 256 → x < m → n ≤ m → ((y : ℕ) → y < m → y ≢ x → y < n)
-    → ScopesOf P own none D n table → ((y : ℕ) → y ≢ x → Q y → P y) → (Q x → v ≡ scopeAt own (D .nodes) (D .constructs) x) → v < 256
+    → ScopesOf P own none D n table → ((y : ℕ) → y < m → y ≢ x → Q y → P y) → (Q x → v ≡ scopeAt own (D .nodes) (D .constructs) x) → v < 256
     → ScopesOf Q own none D m (set table x v)
 stored {P} {Q} {own} {none} {D} {n} {m} {x} {v} {table} l h grown old T weaker here b = record {
   long = length-set table x v ∙ T .long;
   at = λ y k q. at y k q (ℕ-discrete y x);
   byte = λ y k. byte y k (ℕ-discrete y x);
-  past = λ y k z. other y (λ q. omega arith) ∙ T .past y (omega arith) z;
+  past = λ y k z. kept y (λ q. omega arith) ∙ T .past y (omega arith) z;
 }
   where
     same : getD (set table x v) x 0 ≡ v
     same = getD-set-same table x v 0 (omega (arith, T .long))
 
-    other : (y : ℕ) → y ≢ x → getD (set table x v) y 0 ≡ getD table y 0
-    other y q = getD-set-other table x y v 0 q
+    kept : (y : ℕ) → y ≢ x → getD (set table x v) y 0 ≡ getD table y 0
+    kept y q = getD-set-other table x y v 0 q
 
     at : (y : ℕ) → y < m → Q y → Dec (y ≡ x) → getD (set table x v) y 0 ≡ scopeAt own (D .nodes) (D .constructs) y
     at y k q (yes e) = rw e (same ∙ here (subst Q e q))
-    at y k q (no e) = other y e ∙ T .at y (old y k e) (weaker y e q)
+    at y k q (no e) = kept y e ∙ T .at y (old y k e) (weaker y k e q)
 
     byte : (y : ℕ) → y < m → Dec (y ≡ x) → getD (set table x v) y 0 < 256
     byte y k (yes e) = rw e (omega (arith, same, b))
-    byte y k (no e) = omega (arith, other y e, T .byte y (old y k e))
+    byte y k (no e) = omega (arith, kept y e, T .byte y (old y k e))
 
 -- one node more
 pub scopes-more : {P : ℕ → Type 0} {own none : ℕ} {D : Decoded} {x v : ℕ} {table : List ℕ} → x < 256 → ScopesOf P own none D x table
     → (P x → v ≡ scopeAt own (D .nodes) (D .constructs) x) → v < 256 → ScopesOf P own none D (x + 1) (set table x v)
-scopes-more l T = stored l (omega arith) (omega arith) (λ y k e. omega arith) T (λ y e p. p)
+scopes-more l T = stored l (omega arith) (omega arith) (λ y k e. omega arith) T (λ y k e p. p)
 
--- before the first begin or end
-pub filled-none : {own none : ℕ} {D : Decoded} {n : ℕ} {table : List ℕ} → ScopesOf (NoFrame D) own none D n table → ScopesOf (FilledTo D 0) own none D n table
-filled-none {D = D} T = record { long = T .long; at = λ y k q. T .at y k (go y q); byte = T .byte; past = T .past }
+-- the one begin or end of a construct is the one that is found
+found-node : (nodes : List Node) (kind c : ℕ) (one : OneFrame nodes kind c) → frameOf nodes kind c ≡ one .node
+unfolding frameOf
+found-node nodes kind c one =
+    let test = isFrame nodes kind c in
+    let p = first-passes (length nodes) test (at-any (length nodes) test (one .node) (one .below) (frame-is nodes kind c (one .node) (one .there))) in
+    one .only _ (p .0) (is-frame nodes kind c _ (p .1))
+
+-- one construct more: its parent is stored at its node of the other kind
+pub filled-more : (f : Frame) {none n c x v : ℕ} {D : Decoded} {table : List ℕ} → length (D .nodes) ≡ n → n < 256 → OneFrame (D .nodes) (byteOf (other f)) c → x ≡ frameOf (D .nodes) (byteOf (other f)) c
+    → ScopesOf (FilledTo D (byteOf (other f)) c) (byteOf f) none D n table → v ≡ parentOf (D .constructs) c → v < 256
+    → ScopesOf (FilledTo D (byteOf (other f)) (c + 1)) (byteOf f) none D n (set table x v)
+filled-more f {n = n} {c = c} {x = x} {D = D} e l one h T v = stored (omega (arith, below)) (omega (arith, below)) (omega arith) (λ y k q. k) T older (λ q. v ∙ sym (other-scope f D x c there))
   where
-    go : (y : ℕ) → FilledTo D 0 y → NoFrame D y
-    go y (inl z) = absurd (below-none (λ _. ⊥) y z)
-    go y (inr z) = z
+    here : x ≡ one .node
+    here = h ∙ found-node (D .nodes) (byteOf (other f)) c one
 
--- past a node that is neither
-pub filled-same : {own none : ℕ} {D : Decoded} {n x : ℕ} {table : List ℕ} → NoFrame D x → ScopesOf (FilledTo D x) own none D n table → ScopesOf (FilledTo D (x + 1)) own none D n table
-filled-same {D = D} {x = x} h T = record { long = T .long; at = λ y k q. T .at y k (go y q (ℕ-discrete y x)); byte = T .byte; past = T .past }
-  where
-    go : (y : ℕ) → FilledTo D (x + 1) y → Dec (y ≡ x) → FilledTo D x y
-    go y q (yes e) = inr (subst (NoFrame D) (sym e) h)
-    go y (inl z) (no e) = inl (omega arith)
-    go y (inr z) (no e) = inr z
+    below : x < length (D .nodes)
+    below = rw here (one .below)
 
--- one begin or end more
-pub filled-more : {own none : ℕ} {D : Decoded} {n x v : ℕ} {table : List ℕ} → x < 256 → x < n → ScopesOf (FilledTo D x) own none D n table
-    → v ≡ scopeAt own (D .nodes) (D .constructs) x → v < 256 → ScopesOf (FilledTo D (x + 1)) own none D n (set table x v)
-filled-more {D = D} {x = x} l h T e = stored l h (omega arith) (λ y k q. k) T go (λ q. e)
-  where
-    go : (y : ℕ) → y ≢ x → FilledTo D (x + 1) y → FilledTo D x y
-    go y q (inl z) = inl (omega arith)
-    go y q (inr z) = inr z
+    there : FrameAt (D .nodes) (byteOf (other f)) c x
+    there = rw here (one .there)
 
-pub filled-all : {own none : ℕ} {D : Decoded} {n x : ℕ} {table : List ℕ} → x ≡ n → n ≡ length (D .nodes) → ScopesOf (FilledTo D x) own none D n table → ScopeTable own none D table
-filled-all f e T = record {
+    older : (y : ℕ) → y < n → y ≢ x → FilledTo D (byteOf (other f)) (c + 1) y → FilledTo D (byteOf (other f)) c y
+    older y k d q g = elim (ℕ-discrete (nodeAt (D .nodes) y .number) c) [
+      | yes z ↦ absurd (d (one .only y (omega arith) (g, z) ∙ sym here))
+      | no z ↦ omega (arith, q g)
+    ]
+
+pub filled-all : (f : Frame) {none n c : ℕ} {D : Decoded} {table : List ℕ} → badNodes D ≡ false → length (D .nodes) ≡ n → length (D .constructs) ≤ c
+    → ScopesOf (FilledTo D (byteOf (other f)) c) (byteOf f) none D n table → ScopeTable (byteOf f) none D table
+filled-all f {D = D} h e l T = record {
   long = T .long;
-  at = λ x h. T .at x (omega arith) (inl (omega arith));
-  byte = λ x h. T .byte x (omega arith);
-  past = λ x h m. T .past x (omega arith) m;
+  at = λ x k. T .at x (omega arith) (λ q. omega (arith, frame-below D x h k (omega (arith, frame-byte (other f), q))));
+  byte = λ x k. T .byte x (omega arith);
+  past = λ x k m. T .past x (omega arith) m;
 }
 
 differ : {u v : ℕ} → u ≢ v → not (eqb u v) ≡ true

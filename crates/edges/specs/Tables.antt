@@ -1,15 +1,17 @@
 -- What the checks note of a chart's nodes: their scopes, and two tables of these that tell row 9 of one edge by itself.
 -- Assumes nothing.
 use mathlib.Core.Path.{_≡_}
-use mathlib.Core.Logic.{_⊎_}
-use mathlib.Core.Bool.{Bool, not}
+use mathlib.Core.Bool.{Bool, false, not}
 use mathlib.Core.List.{List}
 use Prim.Native.Nat.{ℕ, _≤_, _<_}
 use lib.Dec.{eqb}
 use lib.ListN.{length, getD}
-use Rattle.chart.specs.Format.{Decoded, nodeAt, edgeAt}
-use Rattle.chart.specs.Scope.{beginNode, scopeAt}
-use Rattle.chart.specs.Refusal.{badEdge}
+use Rattle.chart.specs.Format.{Decoded, decode, nodeAt, edgeAt}
+use Rattle.chart.specs.Scope.{beginNode, endNode, scopeAt}
+use Rattle.chart.specs.Refusal.{badNodes, badFrames, badEdge}
+use Rattle.chart.specs.Checked.{Laid}
+use Rattle.chart.specs.declared.format.Chart.{Chart}
+use Rattle.node_counts.specs.Framed.{Framed}
 
 -- Scopes that no node has.
 abbrev pub noLeaving : ℕ
@@ -26,13 +28,10 @@ pub record ScopesOf (P : ℕ → Type 0) (own none : ℕ) (D : Decoded) (n : ℕ
   pub byte : (x : ℕ) → x < n → getD table x 0 < 256
   pub past : (x : ℕ) → n ≤ x → x < 256 → getD table x 0 ≡ none
 
--- Node x is no begin and no end: its scope is its number.
-abbrev pub NoFrame : Decoded → ℕ → Type 0
-NoFrame D x = nodeAt (D .nodes) x .kind < beginNode
-
--- Node x has its scope when those of the begins and the ends before node n are in the table.
-abbrev pub FilledTo : Decoded → ℕ → ℕ → Type 0
-FilledTo D n x = (x < n) ⊎ NoFrame D x
+-- Node x has its scope when the nodes of this kind, begins or ends, of the first c constructs have theirs: it is one of them, or of another
+-- kind.
+abbrev pub FilledTo : Decoded → ℕ → ℕ → ℕ → Type 0
+FilledTo D kind c x = nodeAt (D .nodes) x .kind ≡ kind → nodeAt (D .nodes) x .number < c
 
 -- For each byte the scope of the node of that number, and `none` where there is no such node.
 pub record ScopeTable (own none : ℕ) (D : Decoded) (table : List ℕ) : Type 0 where
@@ -40,6 +39,11 @@ pub record ScopeTable (own none : ℕ) (D : Decoded) (table : List ℕ) : Type 0
   pub at : (x : ℕ) → x < length (D .nodes) → getD table x 0 ≡ scopeAt own (D .nodes) (D .constructs) x
   pub byte : (x : ℕ) → x < length (D .nodes) → getD table x 0 < 256
   pub past : (x : ℕ) → length (D .nodes) ≤ x → x < 256 → getD table x 0 ≡ none
+
+-- What row 9 rests on: a chart that rows 1 to 5 and row 7 let pass, with the begins and the ends of its constructs.
+abbrev pub FramesKnown : List ℕ → Chart → List ℕ → List ℕ → Type 0
+FramesKnown s chart begins ends =
+    Laid s chart × (badNodes (decode s) ≡ false) × (badFrames (decode s) ≡ false) × Framed (decode s) beginNode begins × Framed (decode s) endNode ends
 
 -- Row 9 of edge i by itself.
 abbrev pub badByItself : Decoded → ℕ → Bool

@@ -8,7 +8,7 @@ ghost use Rattle.chart.specs.Format.{decode};
 ghost use Rattle.chart.specs.Scope.{beginNode, endNode, scopeAt};
 ghost use Rattle.chart.specs.Refusal.{badNodes, rises, badEdgeAt, framesSection, joinsSections, badEdges};
 ghost use Rattle.chart.specs.Checked.{Laid};
-ghost use Rattle.edges.specs.Tables.{noLeaving, noArriving, ScopesOf, NoFrame, FilledTo, ScopeTable, EdgeScopes, badByItself};
+ghost use Rattle.edges.specs.Tables.{noLeaving, noArriving, ScopesOf, FilledTo, ScopeTable, EdgeScopes, FramesKnown, badByItself};
 use chart::cursor::wide;
 use chart::format::Chart;
 use chart::format::Construct;
@@ -47,13 +47,13 @@ fn widened(scope: u8) -> u16
     scope as u16
 }
 
-// The number of each node as its scope, on leaving and on arriving, which it is but for begins and ends; a number that no node has gets a
-// scope that no other has. No turn branches, so that several nodes are taken at once.
+// The number of each node as its scope, on leaving and on arriving, which it is but for ends on leaving and begins on arriving; a number
+// that no node has gets a scope that no other has. No turn branches, so that several nodes are taken at once.
 fn fill_numbers(s: &[u8], chart: Chart, leave: &mut [u16; BYTES], arrive: &mut [u16; BYTES])
-    requires { ⌜ Laid (now s) chart ⌝ }
+    requires { ⌜ Laid (now s) chart × (badNodes (decode (now s)) ≡ false) ⌝ }
     ensures { λ _.
         let D = decode (now (s .entry)) in
-        ⌜ ScopesOf (NoFrame D) beginNode noLeaving D (chart .nodes) (now (leave .exit)) × ScopesOf (NoFrame D) endNode noArriving D (chart .nodes) (now (arrive .exit)) ⌝ }
+        ⌜ ScopesOf (FilledTo D endNode 0) beginNode noLeaving D (chart .nodes) (now (leave .exit)) × ScopesOf (FilledTo D beginNode 0) endNode noArriving D (chart .nodes) (now (arrive .exit)) ⌝ }
 {
     *leave = [NO_LEAVING; BYTES];
     *arrive = [NO_ARRIVING; BYTES];
@@ -67,34 +67,27 @@ fn fill_numbers(s: &[u8], chart: Chart, leave: &mut [u16; BYTES], arrive: &mut [
     }
 }
 
-// The scopes of node x in place of its number, if it is a begin or an end.
-fn fill_frame(s: &[u8], chart: Chart, x: usize, leave: &mut [u16; BYTES], arrive: &mut [u16; BYTES])
-    requires { ⌜ Laid (now s) chart × (x < chart .nodes) × (badNodes (decode (now s)) ≡ false) ⌝ }
-    requires { let D = decode (now s) in
-        ⌜ ScopesOf (FilledTo D x) beginNode noLeaving D (chart .nodes) (now leave) × ScopesOf (FilledTo D x) endNode noArriving D (chart .nodes) (now arrive) ⌝ }
-    ensures { λ _.
-        let D = decode (now (s .entry)) in
-        ⌜ ScopesOf (FilledTo D (x + 1)) beginNode noLeaving D (chart .nodes) (now (leave .exit)) × ScopesOf (FilledTo D (x + 1)) endNode noArriving D (chart .nodes) (now (arrive .exit)) ⌝ }
-{
-    if Node::BEGIN <= Node::read(s, chart, x).kind {
-        let from = widened(scope(s, chart, x, Node::BEGIN));
-        let to = widened(scope(s, chart, x, Node::END));
-        leave[x] = from;
-        arrive[x] = to;
-    }
-}
-
-// The scopes of all nodes, by number, on leaving and on arriving; a number that no node has gets a scope that no other has.
-fn fill_scopes(s: &[u8], chart: Chart, leave: &mut [u16; BYTES], arrive: &mut [u16; BYTES])
-    requires { ⌜ Laid (now s) chart × (badNodes (decode (now s)) ≡ false) ⌝ }
+// The scopes of all nodes, by number, on leaving and on arriving; a number that no node has gets a scope that no other has. Ends on
+// leaving and begins on arriving get the parent of their construct in place of its number: by constructs, as most nodes are neither.
+fn fill_scopes(
+    s: &[u8],
+    chart: Chart,
+    begins: &[u8; Chart::BARRIERS],
+    ends: &[u8; Chart::BARRIERS],
+    leave: &mut [u16; BYTES],
+    arrive: &mut [u16; BYTES],
+)
+    requires { ⌜ FramesKnown (now s) chart (now begins) (now ends) ⌝ }
     ensures { λ _. ⌜ ScopeTable beginNode noLeaving (decode (now (s .entry))) (now (leave .exit)) × ScopeTable endNode noArriving (decode (now (s .entry))) (now (arrive .exit)) ⌝ }
 {
     fill_numbers(s, chart, leave, arrive);
-    let n = chart.nodes;
-    let mut x = 0;
-    while x < n {
-        fill_frame(s, chart, x, leave, arrive);
-        x += 1;
+    let n = chart.constructs;
+    let mut c = 0;
+    while c < n {
+        let parent = widened(Construct::read(s, chart, c).parent);
+        leave[wide(ends[c])] = parent;
+        arrive[wide(begins[c])] = parent;
+        c += 1;
     }
 }
 
@@ -186,15 +179,20 @@ fn joins_sections(s: &[u8], chart: Chart) -> bool
 }
 
 // Row 9 but for sections. The order is asked of all edges at once, so that one comparison of scopes is all that is left of each, and it is
-// asked after the scopes are filled, which need not be read at once then. They are looked up once for each node, not once for each edge.
+// asked after the scopes are filled, which need not be read at once then. They are noted once for each node, not looked up for each edge.
 // No edge may come to start or leave finish: there too stand scopes that no other has.
-fn bad_scopes(s: &[u8], chart: Chart) -> bool
-    requires { ⌜ Laid (now s) chart × (badNodes (decode (now s)) ≡ false) ⌝ }
+fn bad_scopes(
+    s: &[u8],
+    chart: Chart,
+    begins: &[u8; Chart::BARRIERS],
+    ends: &[u8; Chart::BARRIERS],
+) -> bool
+    requires { ⌜ FramesKnown (now s) chart (now begins) (now ends) ⌝ }
     ensures { λ r. ⌜ r ≡ any (length (decode (now (s .entry)) .edges)) (badEdgeAt (decode (now (s .entry)))) ⌝ }
 {
     let mut leave = [0u16; BYTES];
     let mut arrive = [0u16; BYTES];
-    fill_scopes(s, chart, &mut leave, &mut arrive);
+    fill_scopes(s, chart, begins, ends, &mut leave, &mut arrive);
     let finish = chart.nodes - 1;
     leave[finish] = NO_LEAVING;
     arrive[0] = NO_ARRIVING;
@@ -205,14 +203,19 @@ fn bad_scopes(s: &[u8], chart: Chart) -> bool
 }
 
 // Row 9. Edges are asked for sections only where there is one, and for scopes only where there is a construct.
-pub fn bad_edges(s: &[u8], chart: Chart) -> bool
-    requires { ⌜ Laid (now s) chart × (badNodes (decode (now s)) ≡ false) ⌝ }
+pub fn bad_edges(
+    s: &[u8],
+    chart: Chart,
+    begins: &[u8; Chart::BARRIERS],
+    ends: &[u8; Chart::BARRIERS],
+) -> bool
+    requires { ⌜ FramesKnown (now s) chart (now begins) (now ends) ⌝ }
     ensures { λ r. ⌜ r ≡ badEdges (decode (now (s .entry))) ⌝ }
 {
     if chart.constructs == 0 {
         return bare::bad_edges(s, chart);
     }
-    if bad_scopes(s, chart) {
+    if bad_scopes(s, chart, begins, ends) {
         return true;
     }
     if !Construct::occurs(s, chart, Construct::SECTION) {

@@ -1,6 +1,6 @@
 -- The table that spreads the bits of a byte, eight numbers by it, and their covers.
 -- Assumes nothing.
-use mathlib.Core.Path.{_≡_, refl, ap, sym, _∙_}
+use mathlib.Core.Path.{_≡_, ap, sym, _∙_}
 use mathlib.Core.Bool.{Bool, true, false, cond}
 use mathlib.Core.List.{List}
 use Prim.Native.Nat.{ℕ, zero, suc, _+_, _*_, _-_, _/_, _%_, _^_, _≤_, _<_}
@@ -10,7 +10,7 @@ use native.Mathlib.Nat.{div-eq-of-lt}
 use native.Mathlib.Numerals.{one-add}
 use lib.Bits.{bitOr, or-comm, or-lt, or-zero-r}
 use lib.Dec.{eqb}
-use lib.ListN.{getD}
+use lib.ListN.{length, getD}
 use lib.Pow.{pow-pos, shr-shr}
 use Rattle.lists.specs.Mask.{or-more}
 use Rattle.lists.specs.Digits.{digit-bit}
@@ -56,27 +56,28 @@ pub bits-most : (f : ℕ → ℕ) → ((k : ℕ) → f k ≤ 1) → fan f 8 ≤ 
 unfolding fan
 bits-most f h = fan-most f 8 1 h
 
+abbrev at : ℕ → ℕ → ℕ → ℕ
+at i set k = set / 2 ^ (8 * i + k) % 2
+
+-- eight numbers by one set: 1 where it has no bit
+pub ones : (i set b : ℕ) → b ≡ fan (at i set) 8 → 72340172838076673 - b ≡ fan (λ k. 1 - at i set k) 8
+unfolding fan
+ones i set b e = rw e (fan-less (at i set) 8 (λ k. omega arith))
+
 module _ (p : Planes) (i : ℕ) where
-  abbrev at : ℕ → ℕ → ℕ
-  at set k = set / 2 ^ (8 * i + k) % 2
-
-  ones : 72340172838076673 - fan (at (p .both)) 8 ≡ fan (λ k. 1 - at (p .both) k) 8
-  unfolding fan
-  ones = fan-less (at (p .both)) 8 (λ k. omega arith)
-
-  pub plain-eight : (b : ℕ) → Plain p → b ≡ fan (at (p .both)) 8 → 72340172838076673 - b ≡ fan (λ k. digit p (8 * i + k)) 8
+  pub plain-eight : (b : ℕ) → Plain p → b ≡ fan (at i (p .both)) 8 → 72340172838076673 - b ≡ fan (λ k. digit p (8 * i + k)) 8
   unfolding digit
   plain-eight b s e =
-      rw (e, ones) (fan-same (λ k. 1 - at (p .both) k) (λ k. digit p (8 * i + k)) 8 (λ k l. rw (s .odd, s .twos, s .fours) (omega (arith, none (8 * i + k)))))
+      ones i (p .both) b e ∙ fan-same (λ k. 1 - at i (p .both) k) (λ k. digit p (8 * i + k)) 8 (λ k l. rw (s .odd, s .twos, s .fours) (omega (arith, none (8 * i + k))))
     where
       none : (j : ℕ) → 0 / 2 ^ j % 2 ≡ 0
       none j = let z : 0 / 2 ^ j ≡ 0 = div-eq-of-lt (pow-pos j) in omega arith
 
-  pub full-eight : (b o t f : ℕ) → b ≡ fan (at (p .both)) 8 → o ≡ fan (at (p .odd)) 8 → t ≡ fan (at (p .twos)) 8 → f ≡ fan (at (p .fours)) 8
+  pub full-eight : (b o t f : ℕ) → b ≡ fan (at i (p .both)) 8 → o ≡ fan (at i (p .odd)) 8 → t ≡ fan (at i (p .twos)) 8 → f ≡ fan (at i (p .fours)) 8
       → 72340172838076673 - b + o + 2 * t + 4 * f ≡ fan (λ k. digit p (8 * i + k)) 8
   unfolding digit
   full-eight b o t f b-is o-is t-is f-is =
-      rw (b-is, o-is, t-is, f-is, ones) (sym (fan-bits (at (p .both)) (at (p .odd)) (at (p .twos)) (at (p .fours)) 8))
+      rw (ones i (p .both) b b-is, o-is, t-is, f-is) (sym (fan-bits (at i (p .both)) (at i (p .odd)) (at i (p .twos)) (at i (p .fours)) 8))
 
 -- the sets beside the first are empty where their union is 0
 pub none-plain : (p : Planes) → bitOr (bitOr (p .odd) (p .twos)) (p .fours) ≡ 0 → Plain p
@@ -112,37 +113,45 @@ or-cover : (d : ℕ) (b : Bool) → d < 256 → bitOr d (cond b 0 255) ≡ cond 
 or-cover d true l = or-zero-r d
 or-cover d false l = omega (arith, or-lt 8 d 255 l (omega arith), or-more 255 d, or-comm d 255)
 
-digit-most : (p : Planes) (j : ℕ) → digit p j < 256
+pub digit-most : (p : Planes) (j : ℕ) → digit p j < 256
 unfolding digit
 digit-most p j = omega arith
 
--- byte k of eight entries with their covers
-pub covered-byte : (p : Planes) (closed fence : List ℕ) (w i k word v : ℕ) → Fence closed fence → w < 3 → i < 8 → k < 8
-    → word ≡ fan (λ k. digit p (8 * i + k)) 8 → v ≡ bitOr word (getD fence (8 * w + i) 0) / 2 ^ (8 * k) % 256
-    → v ≡ covered closed (64 * w + (8 * i + k)) (digit p (8 * i + k))
-unfolding covered
-covered-byte p closed fence w i k word v F lw li lk e q =
-    let place : 64 * w + (8 * i + k) ≡ 8 * (8 * w + i) + k = omega arith in
-    q ∙ rw (e, F .at (8 * w + i) (omega arith), place)
-    (fan-or (λ k. digit p (8 * i + k)) cover 8 k (λ k. digit-most p (8 * i + k)) (λ k. omega (arith, cover-small (eqb (getD closed (8 * (8 * w + i) + k) 0) 0))) lk
-    ∙ or-cover (digit p (8 * i + k)) (eqb (getD closed (8 * (8 * w + i) + k) 0) 0) (digit-most p (8 * i + k)))
-  where
-    cover : ℕ → ℕ
-    cover k = cond (eqb (getD closed (8 * (8 * w + i) + k) 0) 0) 0 255
+-- a row with i words put from entry 64 * w on: of each entry its number, covered, and those below kept
+abbrev pub Filled : (ℕ → ℕ) → ℕ → List ℕ → List ℕ → List ℕ → ℕ → Type 0
+Filled f w fence old row i =
+    (i ≤ 8) × (length row ≡ 192)
+    × ((closed : List ℕ) → Fence closed fence → (j : ℕ) → j < 8 * i → getD row (64 * w + j) 0 ≡ covered closed (64 * w + j) (f j))
+    × ((x : ℕ) → x < 64 * w → getD row x 0 ≡ getD old x 0)
 
--- eight entries more
-pub eights-more : (p : Planes) (closed fence : List ℕ) (w i word : ℕ) (old new : List ℕ) → Fence closed fence → w < 3 → i < 8
-    → word ≡ fan (λ k. digit p (8 * i + k)) 8 → ((j : ℕ) → j < 8 * i → getD old (64 * w + j) 0 ≡ covered closed (64 * w + j) (digit p j))
-    → ((k : ℕ) → k < 8 → getD new (64 * w + 8 * i + k) 0 ≡ bitOr word (getD fence (8 * w + i) 0) / 2 ^ (8 * k) % 256)
-    → ((x : ℕ) → x < 64 * w + 8 * i → getD new x 0 ≡ getD old x 0)
-    → (j : ℕ) → j < 8 * (i + 1) → getD new (64 * w + j) 0 ≡ covered closed (64 * w + j) (digit p j)
-eights-more p closed fence w i word old new F lw li e done put kept j h = go (decLt j (8 * i))
-  where
-    last : (k : ℕ) → k < 8 → j ≡ 8 * i + k → getD new (64 * w + j) 0 ≡ covered closed (64 * w + j) (digit p j)
-    last k l q =
-        let place : 64 * w + (8 * i + k) ≡ 64 * w + 8 * i + k = omega arith in
-        rw q (covered-byte p closed fence w i k word (getD new (64 * w + (8 * i + k)) 0) F lw li l e (ap (λ (x : ℕ). getD new x 0) place ∙ put k l))
+module _ (f : ℕ → ℕ) (f-most : (j : ℕ) → f j < 256) (w : ℕ) (lw : w < 3) (fence : List ℕ) where
+  -- byte k of eight entries with their covers
+  covered-byte : (closed : List ℕ) (i k word v : ℕ) → Fence closed fence → i < 8 → k < 8
+      → word ≡ fan (λ k. f (8 * i + k)) 8 → v ≡ bitOr word (getD fence (8 * w + i) 0) / 2 ^ (8 * k) % 256
+      → v ≡ covered closed (64 * w + (8 * i + k)) (f (8 * i + k))
+  unfolding covered
+  covered-byte closed i k word v F li lk e q =
+      let place : 64 * w + (8 * i + k) ≡ 8 * (8 * w + i) + k = omega arith in
+      q ∙ rw (e, F .at (8 * w + i) (omega arith), place)
+      (fan-or (λ k. f (8 * i + k)) cover 8 k (λ k. f-most (8 * i + k)) (λ k. omega (arith, cover-small (eqb (getD closed (8 * (8 * w + i) + k) 0) 0))) lk
+      ∙ or-cover (f (8 * i + k)) (eqb (getD closed (8 * (8 * w + i) + k) 0) 0) (f-most (8 * i + k)))
+    where
+      cover : ℕ → ℕ
+      cover k = cond (eqb (getD closed (8 * (8 * w + i) + k) 0) 0) 0 255
 
-    go : Dec (j < 8 * i) → getD new (64 * w + j) 0 ≡ covered closed (64 * w + j) (digit p j)
-    go (yes l) = kept (64 * w + j) (omega arith) ∙ done j l
-    go (no l) = last (j - 8 * i) (omega arith) (omega arith)
+  -- eight entries more
+  pub eights-more : (old row new : List ℕ) (i word : ℕ) → i < 8 → Filled f w fence old row i → word ≡ fan (λ k. f (8 * i + k)) 8 → length new ≡ 192
+      → ((k : ℕ) → k < 8 → getD new (64 * w + 8 * i + k) 0 ≡ bitOr word (getD fence (8 * w + i) 0) / 2 ^ (8 * k) % 256)
+      → ((x : ℕ) → x < 64 * w + 8 * i → getD new x 0 ≡ getD row x 0)
+      → Filled f w fence old new (i + 1)
+  eights-more old row new i word li (most, long, done, below) e long-new put kept =
+      (omega arith, long-new, λ closed F j h. go closed F j h (decLt j (8 * i)), λ x h. kept x (omega arith) ∙ below x h)
+    where
+      last : (closed : List ℕ) → Fence closed fence → (j k : ℕ) → k < 8 → j ≡ 8 * i + k → getD new (64 * w + j) 0 ≡ covered closed (64 * w + j) (f j)
+      last closed F j k l q =
+          let place : 64 * w + (8 * i + k) ≡ 64 * w + 8 * i + k = omega arith in
+          rw q (covered-byte closed i k word (getD new (64 * w + (8 * i + k)) 0) F li l e (ap (λ (x : ℕ). getD new x 0) place ∙ put k l))
+
+      go : (closed : List ℕ) → Fence closed fence → (j : ℕ) → j < 8 * (i + 1) → Dec (j < 8 * i) → getD new (64 * w + j) 0 ≡ covered closed (64 * w + j) (f j)
+      go closed F j h (yes l) = kept (64 * w + j) (omega arith) ∙ done closed F j l
+      go closed F j h (no l) = last closed F j (j - 8 * i) (omega arith) (omega arith)

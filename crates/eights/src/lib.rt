@@ -2,7 +2,7 @@
 ghost use mathlib.Core.Path.{_≡_};
 ghost use mathlib.Core.Bool.{cond};
 ghost use mathlib.Core.List.{List};
-ghost use Prim.Native.Nat.{ℕ, _+_, _*_, _/_, _%_, _^_, _≤_, _<_};
+ghost use Prim.Native.Nat.{ℕ, _+_, _*_, _-_, _/_, _%_, _^_, _≤_, _<_};
 ghost use lib.Dec.{eqb};
 ghost use lib.ListN.{length, getD};
 ghost use Rattle.eights.specs.Fan.{fan};
@@ -89,6 +89,28 @@ pub fn put_word(
     while i < 8 {
         put(
             eight(p, rest, i, table) | fence[8 * w + i],
+            64 * w + 8 * i,
+            row,
+        );
+        i += 1;
+    }
+}
+
+// Such entries by one set alone: 1 where it has no bit. Most rows are of this kind, and no planes are made for them.
+pub fn put_phase(
+    both: u64,
+    w: usize,
+    fence: &[u64; WORDS],
+    table: &[u64; BYTES],
+    row: &mut [u8; Chart::NODES],
+)
+    requires { ⌜ (w < 3) × Spread (now table) × (length (now row) ≡ 192) ⌝ }
+    ensures { λ _. ⌜ (length (now (row .exit)) ≡ 192) × ((closed : List ℕ) → Fence closed (now (fence .entry)) → (j : ℕ) → j < 64 → getD (now (row .exit)) (64 * w + j) 0 ≡ covered closed (64 * w + j) (1 - both / 2 ^ j % 2)) × ((x : ℕ) → x < 64 * w → getD (now (row .exit)) x 0 ≡ getD (now (row .entry)) x 0) ⌝ }
+{
+    let mut i = 0;
+    while i < 8 {
+        put(
+            (EACH - spread(both, i, table)) | fence[8 * w + i],
             64 * w + 8 * i,
             row,
         );

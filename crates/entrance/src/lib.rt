@@ -56,7 +56,7 @@ fn mark_region(
     let mut nodes = [0u8; Chart::BARRIERS];
     let extent = load_tables(s, chart, &mut edges, &mut places, &mut stops, &mut nodes);
     fill_starts(&edges, &places, &stops, &nodes, extent, starts, levels);
-    fill_ends(&edges, &stops, &nodes, extent, ends);
+    fill_ends(&edges, &nodes, extent, ends);
     extent.barriers
 }
 

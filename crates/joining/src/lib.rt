@@ -2,11 +2,12 @@
 // it: first which barriers are joined to start (to finish), then whether some barrier leads to each other node, which levels tell as well.
 // Of the barriers the masks forward tell both: taken the other way round they say from where finish is reached.
 ghost use mathlib.Core.Path.{_≡_};
-ghost use mathlib.Core.Bool.{true, false, _&&_, cond};
+ghost use mathlib.Core.Bool.{true, false, _&&_, not, cond};
 ghost use Prim.Native.Nat.{ℕ, _-_, _^_, _≤_, _<_};
 ghost use lib.Bits.{bitAnd, bitOr};
 ghost use lib.Dec.{eqb};
 ghost use lib.ListN.{getD};
+ghost use Rattle.lists.specs.Range.{count};
 ghost use Rattle.lists.specs.Mask.{Mask};
 ghost use Rattle.lists.specs.Bits.{has as Bits·has};
 ghost use Rattle.chart.specs.Region.{Region};
@@ -154,21 +155,7 @@ fn missed(stop: u8, none: bool) -> bool
     false
 }
 
-// Whether one of the first n nodes was missed, by their masks. No turn leaves the loop, so that several are taken at once.
-pub fn any_missed(stops: &[u8; Chart::NODES], masks: &[u64; Chart::NODES], n: usize) -> bool
-    requires { ⌜ n ≤ 192 ⌝ }
-    ensures { λ r. ⌜ r ≡ missing (now (stops .entry)) (now (masks .entry)) n ⌝ }
-{
-    let mut found = false;
-    let mut x = 0;
-    while x < n {
-        found = either(found, missed(stops[x], masks[x] == 0));
-        x += 1;
-    }
-    found
-}
-
-// The same by their levels, which are an eighth of the bytes.
+// Whether one of the first n nodes was missed, by their levels. No turn leaves the loop, so that several are taken at once.
 pub fn any_unleveled(stops: &[u8; Chart::NODES], levels: &[u8; Chart::NODES], n: usize) -> bool
     requires { ⌜ n ≤ 192 ⌝ }
     ensures { λ r. ⌜ r ≡ missing (now (stops .entry)) (now (levels .entry)) n ⌝ }
@@ -180,4 +167,29 @@ pub fn any_unleveled(stops: &[u8; Chart::NODES], levels: &[u8; Chart::NODES], n:
         x += 1;
     }
     found
+}
+
+// 1 for a mask without a bit.
+fn blank(mask: u64) -> usize
+    ensures { λ r. ⌜ r ≡ cond (eqb mask 0) 1 0 ⌝ }
+{
+    if mask == 0 {
+        return 1;
+    }
+    0
+}
+
+// The same by their masks, which are eight times the bytes: those of the barriers are blank, and no other is if there are as many blank ones.
+// So the stops are not read.
+pub fn any_missed(masks: &[u64; Chart::NODES], n: usize, barriers: usize) -> bool
+    requires { ⌜ n ≤ 192 ⌝ }
+    ensures { λ r. ⌜ r ≡ not (eqb (count n (λ x. eqb (getD (now (masks .entry)) x 0) 0)) barriers) ⌝ }
+{
+    let mut found = 0;
+    let mut x = 0;
+    while x < n {
+        found += blank(masks[x]);
+        x += 1;
+    }
+    found != barriers
 }

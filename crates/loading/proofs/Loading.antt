@@ -1,35 +1,33 @@
--- What the loops that load a chart keep: stops, barriers, begins and ends, and the rows of the table of the edges that are not written.
+-- What the loops that load a chart keep: stops and barriers.
 -- Assumes nothing.
-use mathlib.Core.Path.{_≡_, refl, ap, sym, _∙_, subst}
+use mathlib.Core.Path.{_≡_, refl, ap, sym, _∙_}
 use mathlib.Core.Bool.{Bool, true, false, _&&_, not, cond}
 use mathlib.Core.List.{List, [], _∷_, _++_}
 use Prim.Native.Nat.{ℕ, _+_, _-_, _≤_, _<_}
 use native.Mathlib.Omega.{arith}
-use native.Mathlib.Decide.{ℕ-discrete, decLt}
+use native.Mathlib.Decide.{decLt}
 use lib.Dec.{eqb, leb}
-use lib.ListN.{length, getD, set, replicate, length-set, length-append, length-replicate, List·getD-eq-default}
-use borrow.Author.Tests.{eq-eqb, ne-eqb, not-true}
+use lib.ListN.{length, getD, replicate, length-set, length-append, length-replicate, List·getD-eq-default}
+use borrow.Author.Tests.{not-true}
 use Rattle.lists.specs.Truth.{same-truth}
-use Rattle.lists.specs.Range.{count, first-passes, at-any}
+use Rattle.lists.specs.Range.{count}
 use Rattle.lists.specs.Counting.{count-hit, count-mono, count-up}
 use Rattle.lists.specs.Store.{at-set, zeros}
 use Rattle.lists.specs.Select.{select, select-hit, select-miss, select-length, select-passes, append-at, append-off}
-use Rattle.chart.specs.Format.{Node, decode, nodeAt}
+use Rattle.chart.specs.Format.{decode, nodeAt}
 use Rattle.chart.specs.Region.{Role, Region}
 use Rattle.chart.specs.Nested.{roleIn}
-use Rattle.chart.specs.Reading.{frameOf}
 use Rattle.chart.specs.Refusal.{barrierOf}
 use Rattle.chart.specs.Checked.{reading}
 use Rattle.chart.specs.declared.format.Chart.{Chart}
-use Rattle.chart.proofs.Records.{nodes-length, constructs-length}
-use Rattle.chart.proofs.Facts.{FrameAt, OneFrame, isFrame, is-frame, frame-is, frame-construct}
+use Rattle.chart.proofs.Records.{nodes-length}
 use Rattle.chart.proofs.Tables.{no-node}
 use Rattle.chart.proofs.Kept.{barrier-counted, counted-barrier}
 use Rattle.paths.specs.Decide.{noBarrier}
 use Rattle.phases.specs.Phases.{barriers}
 use Rattle.phases.specs.PhasesLaws.{is-barrier}
 use Rattle.loading.proofs.Accepted.{tables}
-use Rattle.loading.specs.Tables.{Accepted, Stops, Barriers, Noted, skip, put, Framed}
+use Rattle.loading.specs.Tables.{Accepted, Stops, Barriers, Noted, skip, put}
 
 -- a barrier of the region by its bytes, as row 8 counts them
 
@@ -152,83 +150,3 @@ unfolding barriers
 listing-all s chart A nodes total L =
     let q = nodes-length s chart (A .laid) in
     record { count = rw q (L .count); at = λ b. rw q (L .at b) }
-
--- the nodes of one kind, by the numbers of their constructs
-
-pub record Framing (nodes : List Node) (kind x : ℕ) (frames : List ℕ) : Type 0 where
-  pub long : length frames ≡ 64
-  pub at : (c y : ℕ) → y < x → FrameAt nodes kind c y → getD frames c 0 ≡ y
-  pub node : (c : ℕ) → getD frames c 0 < 192
-
-pub framing-none : (nodes : List Node) (kind : ℕ) → Framing nodes kind 0 (replicate 64 0)
-framing-none nodes kind = record {
-  long = length-replicate {A = ℕ} 64 0;
-  at = λ c y l. absurd (omega arith);
-  node = λ c. omega (arith, zeros 64 c);
-}
-
-module _ (s : List ℕ) (chart : Chart) (A : Accepted s chart) (kind : ℕ) (low : 2 ≤ kind) (high : kind ≤ 3) where
-  one-frame : (c : ℕ) → c < length (decode s .constructs) → OneFrame (decode s .nodes) kind c
-  one-frame c l = elim (ℕ-discrete kind 2) [
-    | yes e ↦ rw e (tables s chart A .frames .begins c l)
-    | no n ↦ (let e : kind ≡ 3 = omega arith in rw e (tables s chart A .frames .ends c l))
-  ]
-
-  pub frame-below : (x : ℕ) → x < chart .nodes → nodeAt (decode s .nodes) x .kind ≡ kind → nodeAt (decode s .nodes) x .number < length (decode s .constructs)
-  frame-below x l e =
-      frame-construct (tables s chart A .nodes .alone x (omega (arith, nodes-length s chart (A .laid)))) (omega arith)
-
-  pub framing-more : (x : ℕ) (frames frames′ : List ℕ) (k c : ℕ) → x < chart .nodes → k ≡ nodeAt (decode s .nodes) x .kind → c ≡ nodeAt (decode s .nodes) x .number
-      → Framing (decode s .nodes) kind x frames → frames′ ≡ cond (eqb k kind) (set frames c x) frames → Framing (decode s .nodes) kind (x + 1) frames′
-  framing-more x frames frames′ k c l ek ec F e = go (ℕ-discrete k kind)
-    where
-      same : (d y : ℕ) → y < x → FrameAt (decode s .nodes) kind d y → FrameAt (decode s .nodes) kind d x → x ≡ y
-      same d y m p q =
-          let n = nodes-length s chart (A .laid) in
-          let b : d < length (decode s .constructs) = subst (λ (i : ℕ). i < length (decode s .constructs)) (q .1) (frame-below x l (q .0)) in
-          let O = one-frame d b in
-          O .only x (omega arith) q ∙ sym (O .only y (omega arith) p)
-
-      stored : k ≡ kind → Framing (decode s .nodes) kind (x + 1) (set frames c x)
-      stored h =
-          let b : c < length frames = omega (arith, F .long, ec, frame-below x l (sym ek ∙ h), constructs-length s chart (A .laid), A .laid .constructs-most) in
-          record {
-            long = length-set frames c x ∙ F .long;
-            at = λ d y m p. at-set (λ v. v ≡ y) frames c x d b
-                (λ q. elim (ℕ-discrete y x) [ yes z ↦ sym z | no z ↦ same d y (omega arith) p (sym ek ∙ h, sym (q ∙ ec)) ])
-                (λ n. elim (ℕ-discrete y x) [
-                  | yes z ↦ absurd (n (sym (p .1) ∙ ap (λ (i : ℕ). nodeAt (decode s .nodes) i .number) z ∙ sym ec))
-                  | no z ↦ F .at d y (omega arith) p
-                ]);
-            node = λ d. at-set (λ v. v < 192) frames c x d b (λ q. omega (arith, A .laid .nodes-most)) (λ n. F .node d);
-          }
-
-      passed : (k ≡ kind → ⊥) → Framing (decode s .nodes) kind (x + 1) frames
-      passed n = record {
-        long = F .long;
-        at = λ d y m p. elim (ℕ-discrete y x) [
-          | yes z ↦ absurd (n (ek ∙ ap (λ (i : ℕ). nodeAt (decode s .nodes) i .kind) (sym z) ∙ p .0))
-          | no z ↦ F .at d y (omega arith) p
-        ];
-        node = F .node;
-      }
-
-      go : Dec (k ≡ kind) → Framing (decode s .nodes) kind (x + 1) frames′
-      go (yes h) = rw (e, eq-eqb k kind h) (stored h)
-      go (no n) = rw (e, ne-eqb k kind n) (passed n)
-
-  found : (c : ℕ) → c < length (decode s .constructs)
-      → (frameOf (decode s .nodes) kind c < length (decode s .nodes)) × FrameAt (decode s .nodes) kind c (frameOf (decode s .nodes) kind c)
-  unfolding frameOf
-  found c l =
-      let nodes = decode s .nodes in
-      let O = one-frame c l in
-      let (b, p) = first-passes (length nodes) (isFrame nodes kind c) (at-any (length nodes) (isFrame nodes kind c) (O .node) (O .below) (frame-is nodes kind c (O .node) (O .there))) in
-      (b, is-frame nodes kind c _ p)
-
-  pub framing-all : (frames : List ℕ) → Framing (decode s .nodes) kind (chart .nodes) frames → Framed (decode s) kind frames
-  framing-all frames F = record {
-    at = λ c l. F .at c _ (omega (arith, found c l .0, nodes-length s chart (A .laid))) (found c l .1);
-    node = F .node;
-    there = λ c l. found c l .1 .0;
-  }

@@ -10,10 +10,9 @@ use lib.Dec.{ltb}
 use lib.ListN.{length, getD, set}
 use Rattle.lists.specs.Range.{count}
 use Rattle.lists.specs.Store.{Written}
-use Rattle.chart.specs.Format.{Edge as Edge·Edge, Decoded, decode, nodeAt, edgeAt}
+use Rattle.chart.specs.Format.{Edge as Edge·Edge, Decoded, decode, edgeAt}
 use Rattle.chart.specs.Region.{Region}
 use Rattle.chart.specs.Refusal.{firstOf, tableRows}
-use Rattle.chart.specs.Reading.{frameOf}
 use Rattle.chart.specs.Scope.{leavingAt}
 use Rattle.chart.specs.Nested.{liesWithin}
 use Rattle.chart.specs.Checked.{Laid}
@@ -113,12 +112,6 @@ Levels d R levels = (x : ℕ) → Open R x → getD levels x 0 ≡ nearest d R x
 pub data Noted (stop x : ℕ) (nodes : List ℕ) (total : ℕ) : List ℕ → ℕ → Type 0 where
   skip : stop ≡ 0 → Noted stop x nodes total nodes total
   put : (stop ≡ 0 → ⊥) → Noted stop x nodes total (set nodes total x) (total + 1)
-
--- For each construct its node of a kind, begin or end.
-pub record Framed (D : Decoded) (kind : ℕ) (frames : List ℕ) : Type 0 where
-  pub at : (c : ℕ) → c < length (D .constructs) → getD frames c 0 ≡ frameOf (D .nodes) kind c
-  pub node : (c : ℕ) → getD frames c 0 < 192
-  pub there : (c : ℕ) → c < length (D .constructs) → nodeAt (D .nodes) (frameOf (D .nodes) kind c) .kind ≡ kind
 
 -- One edge more for the first `total` rows of two columns: it has no flag, or it is put behind the others.
 pub data Stored (flag from to : ℕ) (froms tos : List ℕ) (total : ℕ) : List ℕ → List ℕ → ℕ → Type 0 where

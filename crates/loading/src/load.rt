@@ -3,14 +3,14 @@ ghost use mathlib.Core.Path.{_≡_};
 ghost use mathlib.Core.Bool.{_&&_, cond};
 ghost use Prim.Native.Nat.{_≤_, _<_};
 ghost use lib.Dec.{eqb, leb};
-ghost use lib.ListN.{length, set};
 ghost use Rattle.chart.specs.Format.{decode};
 ghost use Rattle.chart.specs.Scope.{beginNode, endNode};
 ghost use Rattle.chart.specs.Checked.{reading};
-ghost use Rattle.loading.specs.Tables.{Accepted, Stops, Barriers, Noted, Framed};
-use chart::cursor::wide;
+ghost use Rattle.node_counts.specs.Framed.{Framed};
+ghost use Rattle.loading.specs.Tables.{Accepted, Stops, Barriers, Noted};
 use chart::format::Chart;
 use chart::format::Node;
+use node_counts::bad_frames;
 
 // The region by the byte that its nodes have for a number: on bytes alone the compiler takes several nodes at a time.
 pub fn region_byte(chart: Chart) -> u8
@@ -81,36 +81,7 @@ pub fn barriers(
     total
 }
 
-// One node more: where it is of this kind, it is that of its construct.
-fn frame(node: Node, kind: u8, x: usize, frames: &mut [u8; Chart::BARRIERS])
-    requires { ⌜ (x < 192) × (length (now frames) ≡ 64) × (node .kind ≡ kind → node .number < 64) ⌝ }
-    ensures { λ _. ⌜ now (frames .exit) ≡ cond (eqb (node .kind) kind) (set (now (frames .entry)) (node .number) x) (now (frames .entry)) ⌝ }
-{
-    if node.kind == kind {
-        let c = wide(node.number);
-        frames[c] = (x % 256) as u8;
-    }
-}
-
-// One node more, by one test where it is neither.
-fn frame_either(
-    node: Node,
-    x: usize,
-    begins: &mut [u8; Chart::BARRIERS],
-    ends: &mut [u8; Chart::BARRIERS],
-)
-    requires { ⌜ (x < 192) × (length (now begins) ≡ 64) × (length (now ends) ≡ 64) × (2 ≤ node .kind → node .kind ≤ 3 → node .number < 64) ⌝ }
-    ensures { λ _. ⌜ now (begins .exit) ≡ cond (eqb (node .kind) beginNode) (set (now (begins .entry)) (node .number) x) (now (begins .entry)) ⌝ }
-    ensures { λ _. ⌜ now (ends .exit) ≡ cond (eqb (node .kind) endNode) (set (now (ends .entry)) (node .number) x) (now (ends .entry)) ⌝ }
-{
-    if node.kind < Node::BEGIN {
-        return;
-    }
-    frame(node, Node::BEGIN, x, begins);
-    frame(node, Node::END, x, ends);
-}
-
-// For each construct its begin, and its end.
+// For each construct its begin, and its end: row 7, which does not apply, finds them.
 pub fn frames(
     s: &[u8],
     chart: Chart,
@@ -120,12 +91,5 @@ pub fn frames(
     requires { ⌜ Accepted (now s) chart ⌝ }
     ensures { λ _. ⌜ Framed (decode (now (s .entry))) beginNode (now (begins .exit)) × Framed (decode (now (s .entry))) endNode (now (ends .exit)) ⌝ }
 {
-    *begins = [0u8; Chart::BARRIERS];
-    *ends = [0u8; Chart::BARRIERS];
-    let n = chart.nodes;
-    let mut x = 0;
-    while x < n {
-        frame_either(Node::read(s, chart, x), x, begins, ends);
-        x += 1;
-    }
+    bad_frames(s, chart, begins, ends);
 }

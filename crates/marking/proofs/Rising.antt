@@ -24,7 +24,8 @@ use Rattle.paths.specs.PathLaws.{first-edge, last-edge}
 use Rattle.paths.specs.Decide.{noBarrier, no-barrier, free-path, returns}
 use Rattle.phases.specs.Phases.{returning}
 use Rattle.phases.specs.PhasesLaws.{is-barrier}
-use Rattle.loading.specs.Tables.{Accepted, Arranged, Stops, Framed}
+use Rattle.node_counts.specs.Framed.{Framed}
+use Rattle.loading.specs.Tables.{Accepted, Arranged, Stops}
 use Rattle.loading.proofs.Accepted.{tables, few-constructs, well-formed}
 use Rattle.marking.proofs.Searching.{clear-node, none-back}
 

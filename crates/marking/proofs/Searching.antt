@@ -2,13 +2,15 @@
 -- Assumes nothing.
 use mathlib.Core.Path.{_≡_, refl, ap, sym, _∙_, subst}
 use mathlib.Core.Logic.{_⊎_, inl, inr}
-use mathlib.Core.Bool.{Bool, true, false, cond}
+use mathlib.Core.Bool.{Bool, true, false, not, cond}
 use mathlib.Core.List.{List}
 use Prim.Native.Nat.{ℕ, _≤_, _<_}
 use native.Mathlib.Omega.{arith}
+use lib.Dec.{eqb}
 use lib.ListN.{length, getD}
 use borrow.Author.Tests.{eqb-true}
 use Rattle.lists.specs.Truth.{truth, clash, false-if}
+use Rattle.lists.specs.Range.{count}
 use Rattle.lists.specs.Mask.{Mask, mask-carry, maskOf, mask-is}
 use Rattle.lists.specs.Least.{least-unique}
 use Rattle.lists.specs.Bits.{has, has-of, mask-same, mask-empty}
@@ -32,11 +34,13 @@ use Rattle.paths.specs.FoundLaws.{found-carry, leveled-carry}
 use Rattle.phases.specs.Phases.{Direction, forward, backward, leads, isBoundary, barriers, barrierAt, marked, marks, edgesFree, nearest, returning}
 use Rattle.phases.specs.PhasesLaws.{is-barrier, number-barrier, barrier-number, leads-free, free-leads}
 use Rattle.paths.specs.Cut.{edgesOf}
-use Rattle.loading.specs.Tables.{Accepted, Along, Arranged, Handed, Stops, Barriers, Framed}
+use Rattle.node_counts.specs.Framed.{Framed}
+use Rattle.loading.specs.Tables.{Accepted, Along, Arranged, Handed, Stops, Barriers}
 use Rattle.loading.proofs.Accepted.{tables, few-constructs, well-formed}
 use Rattle.loading.proofs.Columns.{places-first}
 use Rattle.splitting.specs.Parts.{row}
-use Rattle.joining.specs.Joined.{Reaches}
+use Rattle.joining.specs.Joined.{missing, Reaches}
+use Rattle.joining.proofs.Blanks.{missing-counted}
 use Rattle.joining.proofs.Joining.{masks-reach}
 use Rattle.search.specs.Search.{Ready, Standing, Spread, Cleared}
 
@@ -107,6 +111,11 @@ module _ {R : Region} {stops : List ℕ} (S : Stops R stops) where
 
   stopped : (z : ℕ) → noBarrier (R .role z) ≡ false → Clear stops z → ⊥
   stopped z t h = clash (clear-free (noBarrier (R .role z)) (sym (S .at z) ∙ h)) t
+
+  -- where the stops have no mask, the blank ones tell whether a node was missed
+  pub blanks : {E : ℕ → ℕ → Type 0} {nodes masks : List ℕ} {total : ℕ} → Barriers R nodes total → Cleared E stops nodes total masks
+      → not (eqb (count (R .nodes) (λ x. eqb (getD masks x 0) 0)) total) ≡ missing stops masks (R .nodes)
+  blanks {masks = masks} B w = missing-counted masks S B (λ x t. w .stop x (stopped x t))
 
   -- stops stand on the barriers
   pub standing : WellFormed R → {nodes : List ℕ} {total : ℕ} → Barriers R nodes total → Standing stops nodes total

@@ -50,16 +50,15 @@ pub fn fill_starts(
 // The ends, and whether a node that is no barrier has none: where each barrier reaches the last one, whether a node is cut off from there.
 pub fn fill_ends(
     edges: &[[u8; Chart::EDGES]; Parts::ROWS],
-    stops: &[u8; Chart::NODES],
     nodes: &[u8; Chart::BARRIERS],
     extent: Extent,
     masks: &mut [u64; Chart::NODES],
 ) -> bool
     requires { ⌜ (extent .barriers ≤ 64) × (0 < extent .barriers) × (extent .nodes ≤ 192) × ((e : ℕ) × (stops : List ℕ) × Split (now edges) e stops (extent .parts .ups) (extent .parts .low) (extent .parts .ins)) ⌝ }
     requires { ⌜ ((b : ℕ) → getD (now nodes) b 0 < 192) ⌝ }
-    ensures { λ r. ⌜ ((R : Region) (places : List ℕ) → WellFormed R → Arranged R (now (edges .entry)) places (now (stops .entry)) (extent .parts .ups) (extent .parts .low) (extent .parts .ins) → Stops R (now (stops .entry)) → Barriers R (now (nodes .entry)) (extent .barriers) → extent .nodes ≡ R .nodes → (lostBarrier backward R (extent .barriers - 1) || r) ≡ lost backward R (barrierAt R (extent .barriers - 1))) ⌝ }
-    ensures { λ _. ⌜ ((R : Region) (places : List ℕ) → WellFormed R → Arranged R (now (edges .entry)) places (now (stops .entry)) (extent .parts .ups) (extent .parts .low) (extent .parts .ins) → Stops R (now (stops .entry)) → Barriers R (now (nodes .entry)) (extent .barriers) → Masks backward R (now (masks .exit))) ⌝ }
+    ensures { λ r. ⌜ ((R : Region) (places stops : List ℕ) → WellFormed R → Arranged R (now (edges .entry)) places stops (extent .parts .ups) (extent .parts .low) (extent .parts .ins) → Stops R stops → Barriers R (now (nodes .entry)) (extent .barriers) → extent .nodes ≡ R .nodes → (lostBarrier backward R (extent .barriers - 1) || r) ≡ lost backward R (barrierAt R (extent .barriers - 1))) ⌝ }
+    ensures { λ _. ⌜ ((R : Region) (places stops : List ℕ) → WellFormed R → Arranged R (now (edges .entry)) places stops (extent .parts .ups) (extent .parts .low) (extent .parts .ins) → Stops R stops → Barriers R (now (nodes .entry)) (extent .barriers) → Masks backward R (now (masks .exit))) ⌝ }
 {
     ends(edges, extent, nodes, masks);
-    any_missed(stops, masks, extent.nodes)
+    any_missed(masks, extent.nodes, extent.barriers)
 }

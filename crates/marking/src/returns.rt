@@ -1,19 +1,21 @@
 // Which constructs return: one search from their ends, past no barrier.
 ghost use mathlib.Core.Path.{_≡_};
 ghost use mathlib.Core.Bool.{true, cond};
+ghost use mathlib.Core.List.{List};
 ghost use Prim.Native.Nat.{ℕ, _^_, _≤_, _<_};
 ghost use lib.Bits.{bitOr};
 ghost use lib.ListN.{getD};
 ghost use Rattle.lists.specs.Mask.{maskOf};
 ghost use Rattle.lists.specs.Bits.{has as Bits·has};
 ghost use Rattle.chart.specs.Format.{decode};
+ghost use Rattle.chart.specs.Scope.{beginNode, endNode};
 ghost use Rattle.chart.specs.Checked.{reading};
+ghost use Rattle.node_counts.specs.Framed.{Framed};
 ghost use Rattle.phases.specs.Phases.{returning};
 ghost use Rattle.loading.specs.Tables.{Accepted, Arranged, Handed, Stops};
 use bits::has;
 use chart::cursor::wide;
 use chart::format::Chart;
-use loading::load::frames;
 use search::ahead;
 use splitting::Parts;
 
@@ -58,31 +60,31 @@ fn all_before(begins: &[u8; Chart::BARRIERS], ends: &[u8; Chart::BARRIERS], n: u
     true
 }
 
-// The mask of the constructs that return. Where no edge falls between nodes that are no barriers, no path leads back.
+// The mask of the constructs that return, given where each begins and ends. Where no edge falls between nodes that are no barriers, no path
+// leads back.
 pub fn returns(
     s: &[u8],
     chart: Chart,
+    begins: &[u8; Chart::BARRIERS],
+    ends: &[u8; Chart::BARRIERS],
     edges: &[[u8; Chart::EDGES]; Parts::ROWS],
     places: &[usize; Chart::PLACES],
     parts: Parts,
-    stops: &[u8; Chart::NODES],
 ) -> u64
-    requires { ⌜ Accepted (now s) chart × Arranged (reading (now s) chart) (now edges) (now places) (now stops) (parts .ups) (parts .low) (parts .ins) × Stops (reading (now s) chart) (now stops) × Handed (chart .region) (decode (now s)) (now edges) (now places) (parts .ups) (parts .low) (parts .ins) ⌝ }
+    requires { ⌜ Accepted (now s) chart × Framed (decode (now s)) beginNode (now begins) × Framed (decode (now s)) endNode (now ends) ⌝ }
+    requires { ⌜ Handed (chart .region) (decode (now s)) (now edges) (now places) (parts .ups) (parts .low) (parts .ins) × ((stops : List ℕ) × (Arranged (reading (now s) chart) (now edges) (now places) stops (parts .ups) (parts .low) (parts .ins) × Stops (reading (now s) chart) stops)) ⌝ }
     ensures { λ r. ⌜ r ≡ returning (reading (now (s .entry)) chart) ⌝ }
 {
     let n = chart.constructs;
     if n == 0 {
         return 0;
     }
-    let mut begins = [0u8; Chart::BARRIERS];
-    let mut ends = [0u8; Chart::BARRIERS];
-    frames(s, chart, &mut begins, &mut ends);
     if parts.low == Chart::EDGES {
-        if all_before(&begins, &ends, n) {
+        if all_before(begins, ends, n) {
             return 0;
         }
     }
     let mut masks = [0u64; Chart::NODES];
-    ahead(edges, places, parts, &ends, n, &mut masks);
-    diagonal(&masks, &begins, n)
+    ahead(edges, places, parts, ends, n, &mut masks);
+    diagonal(&masks, begins, n)
 }

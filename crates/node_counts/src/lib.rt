@@ -1,6 +1,6 @@
 // Rows 7 and 8 of the refusals: nodes are counted by their kinds and numbers.
 ghost use mathlib.Core.Path.{_≡_};
-ghost use mathlib.Core.Bool.{_&&_, not, cond};
+ghost use mathlib.Core.Bool.{false, _&&_, not, cond};
 ghost use Prim.Native.Nat.{ℕ, _+_, _≤_, _<_};
 ghost use lib.Dec.{eqb, leb};
 ghost use lib.ListN.{getD, length};
@@ -8,9 +8,10 @@ ghost use Rattle.lists.specs.Range.{any, count};
 ghost use Rattle.chart.specs.Format.{outside, decode};
 ghost use Rattle.chart.specs.Scope.{barrierNode, beginNode, endNode};
 ghost use Rattle.chart.specs.Nested.{isParallel};
-ghost use Rattle.chart.specs.Refusal.{badFrames, barrierOf, tooManyIn, badBarriers};
+ghost use Rattle.chart.specs.Refusal.{badNodes, badFrames, barrierOf, tooManyIn, badBarriers};
 ghost use Rattle.chart.specs.Checked.{Laid};
-ghost use Rattle.node_counts.specs.Counted.{Counted, isFrame};
+ghost use Rattle.node_counts.specs.Counted.{Counted};
+ghost use Rattle.node_counts.specs.Framed.{Room, Turn, Noted, Framed};
 use chart::cursor::wide;
 use chart::format::Chart;
 use chart::format::Construct;
@@ -30,29 +31,60 @@ fn count_if(holds: bool, number: u8, found: &mut [u8; NUMBERS])
     }
 }
 
-// A begin or an end counts for its number; of any other node the kind alone is asked.
-fn count_frame(node: Node, begins: &mut [u8; NUMBERS], ends: &mut [u8; NUMBERS])
-    requires { ⌜ (length (now begins) ≡ 256) × ((c : ℕ) → getD (now begins) c 0 < 192) × (length (now ends) ≡ 256) × ((c : ℕ) → getD (now ends) c 0 < 192) ⌝ }
-    ensures { λ _. ⌜ (length (now (begins .exit)) ≡ 256) × ((c : ℕ) → getD (now (begins .exit)) c 0 ≡ getD (now (begins .entry)) c 0 + cond (isFrame beginNode (node .kind) && eqb (node .number) c) 1 0) ⌝ }
-    ensures { λ _. ⌜ (length (now (ends .exit)) ≡ 256) × ((c : ℕ) → getD (now (ends .exit)) c 0 ≡ getD (now (ends .entry)) c 0 + cond (isFrame endNode (node .kind) && eqb (node .number) c) 1 0) ⌝ }
+// Where the node is of this kind, it counts for its number, and x is noted as the number's place.
+fn note_frame(
+    node: Node,
+    kind: u8,
+    x: usize,
+    found: &mut [u8; NUMBERS],
+    places: &mut [u8; Chart::BARRIERS],
+)
+    requires { ⌜ (x < 192) × (node .kind ≡ kind → node .number < 64) × Room (now found) (now places) ⌝ }
+    ensures { λ _. ⌜ Turn kind (node .kind) (node .number) x (now (found .entry)) (now (places .entry)) (now (found .exit)) (now (places .exit)) ⌝ }
 {
-    let kind = node.kind;
-    let number = node.number;
-    if Node::BEGIN <= kind {
-        count_if(kind == Node::BEGIN, number, begins);
-        count_if(kind == Node::END, number, ends);
+    if node.kind == kind {
+        let c = wide(node.number);
+        found[c] += 1;
+        places[c] = (x % 256) as u8;
     }
 }
 
-// How many begins and how many ends each construct has.
-fn count_frames(s: &[u8], chart: Chart, begins: &mut [u8; NUMBERS], ends: &mut [u8; NUMBERS])
-    requires { ⌜ Laid (now s) chart × Counted (decode (now s)) (isFrame beginNode) 0 (now begins) × Counted (decode (now s)) (isFrame endNode) 0 (now ends) ⌝ }
-    ensures { λ _. ⌜ Counted (decode (now (s .entry))) (isFrame beginNode) (chart .nodes) (now (begins .exit)) × Counted (decode (now (s .entry))) (isFrame endNode) (chart .nodes) (now (ends .exit)) ⌝ }
+// A begin or an end is noted; of any other node the kind alone is asked.
+fn count_frame(
+    node: Node,
+    x: usize,
+    begun: &mut [u8; NUMBERS],
+    ended: &mut [u8; NUMBERS],
+    begins: &mut [u8; Chart::BARRIERS],
+    ends: &mut [u8; Chart::BARRIERS],
+)
+    requires { ⌜ (x < 192) × (beginNode ≤ node .kind → node .number < 64) × Room (now begun) (now begins) × Room (now ended) (now ends) ⌝ }
+    ensures { λ _. ⌜ Turn beginNode (node .kind) (node .number) x (now (begun .entry)) (now (begins .entry)) (now (begun .exit)) (now (begins .exit)) ⌝ }
+    ensures { λ _. ⌜ Turn endNode (node .kind) (node .number) x (now (ended .entry)) (now (ends .entry)) (now (ended .exit)) (now (ends .exit)) ⌝ }
+{
+    if Node::BEGIN <= node.kind {
+        note_frame(node, Node::BEGIN, x, begun, begins);
+        note_frame(node, Node::END, x, ended, ends);
+    }
+}
+
+// How many begins and how many ends each construct has, and where they stand.
+fn count_frames(
+    s: &[u8],
+    chart: Chart,
+    begun: &mut [u8; NUMBERS],
+    ended: &mut [u8; NUMBERS],
+    begins: &mut [u8; Chart::BARRIERS],
+    ends: &mut [u8; Chart::BARRIERS],
+)
+    requires { ⌜ Laid (now s) chart × (badNodes (decode (now s)) ≡ false) ⌝ }
+    requires { ⌜ Noted (decode (now s)) beginNode 0 (now begun) (now begins) × Noted (decode (now s)) endNode 0 (now ended) (now ends) ⌝ }
+    ensures { λ _. ⌜ Noted (decode (now (s .entry))) beginNode (chart .nodes) (now (begun .exit)) (now (begins .exit)) × Noted (decode (now (s .entry))) endNode (chart .nodes) (now (ended .exit)) (now (ends .exit)) ⌝ }
 {
     let n = chart.nodes;
     let mut x = 0;
     while x < n {
-        count_frame(Node::read(s, chart, x), begins, ends);
+        count_frame(Node::read(s, chart, x), x, begun, ended, begins, ends);
         x += 1;
     }
 }
@@ -72,22 +104,30 @@ fn not_ones(found: &[u8; NUMBERS], c: usize) -> bool
     false
 }
 
-// Row 7. Without constructs there is none that could lack a frame.
-pub fn bad_frames(s: &[u8], chart: Chart) -> bool
-    requires { ⌜ Laid (now s) chart ⌝ }
+// Row 7, and for each construct its begin and its end where the row does not apply. Without constructs there is none that could lack a frame.
+pub fn bad_frames(
+    s: &[u8],
+    chart: Chart,
+    begins: &mut [u8; Chart::BARRIERS],
+    ends: &mut [u8; Chart::BARRIERS],
+) -> bool
+    requires { ⌜ Laid (now s) chart × (badNodes (decode (now s)) ≡ false) ⌝ }
     ensures { λ r. ⌜ r ≡ badFrames (decode (now (s .entry))) ⌝ }
+    ensures { λ r. ⌜ (r ≡ false → Framed (decode (now (s .entry))) beginNode (now (begins .exit)) × Framed (decode (now (s .entry))) endNode (now (ends .exit))) ⌝ }
 {
+    *begins = [0u8; Chart::BARRIERS];
+    *ends = [0u8; Chart::BARRIERS];
     if chart.constructs == 0 {
         return false;
     }
-    let mut begins = [0u8; NUMBERS];
-    let mut ends = [0u8; NUMBERS];
-    count_frames(s, chart, &mut begins, &mut ends);
+    let mut begun = [0u8; NUMBERS];
+    let mut ended = [0u8; NUMBERS];
+    count_frames(s, chart, &mut begun, &mut ended, begins, ends);
     let c = chart.constructs;
-    if not_ones(&begins, c) {
+    if not_ones(&begun, c) {
         return true;
     }
-    not_ones(&ends, c)
+    not_ones(&ended, c)
 }
 
 // What a node counts for the outermost region: one if it is a barrier there.

@@ -47,7 +47,7 @@ fn enter_chart(
     if fill_starts(&edges, &places, &stops, &nodes, extent, starts, levels) {
         return Entered::Refused(Refusal::PATHS);
     }
-    if fill_ends(&edges, &stops, &nodes, extent, ends) {
+    if fill_ends(&edges, &nodes, extent, ends) {
         return Entered::Refused(Refusal::PATHS);
     }
     Entered::Marked(chart, extent.barriers)
@@ -63,7 +63,9 @@ pub fn enter_outermost(
     ensures { λ r. ⌜ r ≡ entered (firstOf (admitRows (now (s .entry)))) (countsOf (now (s .entry))) (length (barriersOf (region (decode (now (s .entry)))))) ⌝ }
     ensures { λ r. ⌜ ((chart : Chart) (total : ℕ) → r ≡ Marked chart total → Entry (now (s .entry)) chart total (now (starts .exit)) (now (ends .exit)) (now (levels .exit))) ⌝ }
 {
-    match check(s) {
+    let mut begin_nodes = [0u8; Chart::BARRIERS];
+    let mut end_nodes = [0u8; Chart::BARRIERS];
+    match check(s, &mut begin_nodes, &mut end_nodes) {
         Checked::Refused(refusal) => Entered::Refused(refusal),
         Checked::Passed(chart) => enter_chart(s, chart, starts, ends, levels),
     }

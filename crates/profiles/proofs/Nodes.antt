@@ -6,7 +6,7 @@ use mathlib.Core.Bool.{true, false}
 use mathlib.Core.List.{List, [], _∷_}
 use Prim.Native.Nat.{ℕ, _≤_, _<_}
 use native.Mathlib.Omega.{arith}
-use native.Mathlib.Decide.{ℕ-discrete}
+use native.Mathlib.Decide.{ℕ-discrete, decLt}
 use lib.Bits.{bitAnd, bitOr}
 use lib.ListN.{length, getD, set, replicate}
 use Rattle.lists.specs.Truth.{bad, clash}
@@ -137,6 +137,14 @@ module _ (s : List ℕ) (chart : Chart) (A : Accepted s chart) where
       where
         none : (d : ℕ) → (R .role x ≡ opens d) ⊎ (R .role x ≡ closes d) → ⊥
         none d w = omega (arith, frames x d w .0)
+
+    -- a node that names no construct lies in none and frames none
+    pub outside-held : nodeAt (decode s .nodes) x .number ≡ outside → Held (reading s chart) x 0
+    unfolding maskAt
+    outside-held q = elim (decLt (kind x) beginNode) [
+      | yes k ↦ rw q at (plain-held k)
+      | no k ↦ absurd (omega (arith, q, frame-number x (omega arith), few s chart A))
+    ]
 
     -- a begin or an end
     module _ (k : beginNode ≤ nodeAt (decode s .nodes) x .kind) where

@@ -25,7 +25,8 @@ use Rattle.chart.proofs.Constructs.{parallel-below}
 use Rattle.chart.proofs.Facts.{frame-construct}
 use Rattle.chart.proofs.Tables.{node-fit, no-node}
 use Rattle.chart.proofs.Tree.{outside-encloses, computed}
-use Rattle.loading.specs.Tables.{Accepted, Framed}
+use Rattle.node_counts.specs.Framed.{Framed}
+use Rattle.loading.specs.Tables.{Accepted}
 use Rattle.loading.proofs.Accepted.{tables}
 use Rattle.profiles.proofs.Constructs.{ordered-parent}
 use Rattle.replay_steps.specs.Tables.{roleBy, Tabled}

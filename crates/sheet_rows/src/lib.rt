@@ -1,6 +1,6 @@
 // The row of a node, from sets of nodes: for each bit of a mask the nodes that have it.
 ghost use mathlib.Core.Path.{_≡_};
-ghost use mathlib.Core.Bool.{true, false, _||_};
+ghost use mathlib.Core.Bool.{true, _||_};
 ghost use mathlib.Core.List.{List, []};
 ghost use Prim.Native.Nat.{ℕ, _<_};
 ghost use lib.ListN.{length, getD};
@@ -16,6 +16,7 @@ use eights::BYTES;
 use eights::Planes;
 use eights::WORDS;
 use eights::fill_fence;
+use eights::put_phase;
 use eights::put_word;
 use nodesets::gather;
 use pairs::rules::Profile;
@@ -116,18 +117,6 @@ fn phase_only(held: u64, sets: Sets) -> bool
     (held | sets.missing) == 0
 }
 
-// That rule, of 64 nodes.
-fn phase_planes(both: u64) -> Planes
-    ensures { λ r. ⌜ ((j : ℕ) → digit r j ≡ byRules (has both j) false false false false) ⌝ }
-{
-    Planes {
-        both,
-        odd: 0,
-        twos: 0,
-        fours: 0,
-    }
-}
-
 // The row of such a node, from the nodes that share a start with it and those that share an end: no set of a kind of construct is joined.
 fn work_phase_row(
     starts: Words,
@@ -139,12 +128,9 @@ fn work_phase_row(
     requires { ⌜ Spread (now spread) × (length (now last) ≡ 192) ⌝ }
     ensures { λ _. ⌜ (length (now (last .exit)) ≡ 192) × ((closed : List ℕ) (marks : List (List ℕ)) (sets : Sets) (own : Profile) → Fence closed (now (fence .entry)) → Sharing closed (startsIn marks) (own .starts) starts → Sharing closed (endsIn marks) (own .ends) ends → PhaseOnly sets (own .held) → (j : ℕ) → j < 192 → getD (now (last .exit)) j 0 ≡ rowOf closed sets marks own j) ⌝ }
 {
-    let first = phase_planes(starts.low & ends.low);
-    put_word(first, 0, fence, spread, last);
-    let second = phase_planes(starts.middle & ends.middle);
-    put_word(second, 1, fence, spread, last);
-    let third = phase_planes(starts.high & ends.high);
-    put_word(third, 2, fence, spread, last);
+    put_phase(starts.low & ends.low, 0, fence, spread, last);
+    put_phase(starts.middle & ends.middle, 1, fence, spread, last);
+    put_phase(starts.high & ends.high, 2, fence, spread, last);
 }
 
 // The row of a node that has these masks and that a claim may name.

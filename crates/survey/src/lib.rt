@@ -2,9 +2,12 @@
 ghost use mathlib.Core.Path.{_≡_};
 ghost use Prim.Native.Nat.{ℕ, _<_};
 ghost use lib.ListN.{length, getD};
+ghost use Rattle.chart.specs.Format.{decode};
+ghost use Rattle.chart.specs.Scope.{beginNode, endNode};
 ghost use Rattle.chart.specs.Refusal.{firstOf};
 ghost use Rattle.chart.specs.Checked.{countsOf, readFor, answer, checked, reading};
 ghost use Rattle.chart.specs.declared.format.Checked.the-variants.{Passed};
+ghost use Rattle.node_counts.specs.Framed.{Framed};
 ghost use Rattle.paths.specs.Admission.{admitRows, regionRows};
 ghost use Rattle.loading.specs.Tables.{Accepted};
 ghost use Rattle.profiles.specs.Marks.{Held, Kinds};
@@ -14,6 +17,8 @@ use chart::format::Chart;
 use chart::format::Checked;
 use chart::format::Refusal;
 use entrance::enter;
+use held_nodes::fill_held;
+use loading::load::frames;
 use loading::tables::load_tables;
 use marking::masks::fill_ends;
 use marking::masks::fill_starts;
@@ -24,7 +29,6 @@ use profiles::marks::ENDS;
 use profiles::marks::HELD;
 use profiles::marks::MaskTable;
 use profiles::marks::STARTS;
-use profiles::marks::fill_held;
 use refusals::check::check;
 use splitting::Parts;
 
@@ -34,9 +38,16 @@ pub enum Surveyed {
     Refused(Refusal),
 }
 
-// Row 10 and the masks, of a chart that rows 1 to 9 let pass.
-fn survey_chart(s: &[u8], chart: Chart, marks: &mut MaskTable) -> Surveyed
+// Row 10 and the masks, of a chart that rows 1 to 9 let pass, given where its constructs begin and end.
+fn survey_chart(
+    s: &[u8],
+    chart: Chart,
+    begin_nodes: &[u8; Chart::BARRIERS],
+    end_nodes: &[u8; Chart::BARRIERS],
+    marks: &mut MaskTable,
+) -> Surveyed
     requires { ⌜ (checked (now s) ≡ Passed chart) × (length (now marks) ≡ 3) ⌝ }
+    requires { ⌜ Framed (decode (now s)) beginNode (now «begin_nodes») × Framed (decode (now s)) endNode (now «end_nodes») ⌝ }
     ensures { λ r. ⌜ checkedOf r ≡ answer (firstOf (admitRows (now (s .entry)))) (countsOf (now (s .entry))) ⌝ }
     ensures { λ r. ⌜ ((chart : Chart) (sets : Sets) → r ≡ Marked chart sets → Survey (now (s .entry)) chart (now (marks .exit)) sets) ⌝ }
 {
@@ -51,10 +62,11 @@ fn survey_chart(s: &[u8], chart: Chart, marks: &mut MaskTable) -> Surveyed
         return Surveyed::Refused(Refusal::PATHS);
     }
     let ends = &mut marks[ENDS];
-    if fill_ends(&edges, &stops, &nodes, extent, ends) {
+    if fill_ends(&edges, &nodes, extent, ends) {
         return Surveyed::Refused(Refusal::PATHS);
     }
-    let returning = returns(s, chart, &edges, &places, extent.parts, &stops);
+    let parts = extent.parts;
+    let returning = returns(s, chart, begin_nodes, end_nodes, &edges, &places, parts);
     let sets = fill_held(s, chart, returning, &mut marks[HELD]);
     Surveyed::Marked(chart, sets)
 }
@@ -65,9 +77,11 @@ fn survey_outermost(s: &[u8], marks: &mut MaskTable) -> Surveyed
     ensures { λ r. ⌜ checkedOf r ≡ answer (firstOf (admitRows (now (s .entry)))) (countsOf (now (s .entry))) ⌝ }
     ensures { λ r. ⌜ ((chart : Chart) (sets : Sets) → r ≡ Marked chart sets → Survey (now (s .entry)) chart (now (marks .exit)) sets) ⌝ }
 {
-    match check(s) {
+    let mut begin_nodes = [0u8; Chart::BARRIERS];
+    let mut end_nodes = [0u8; Chart::BARRIERS];
+    match check(s, &mut begin_nodes, &mut end_nodes) {
         Checked::Refused(refusal) => Surveyed::Refused(refusal),
-        Checked::Passed(chart) => survey_chart(s, chart, marks),
+        Checked::Passed(chart) => survey_chart(s, chart, &begin_nodes, &end_nodes, marks),
     }
 }
 
@@ -82,7 +96,11 @@ fn hold(s: &[u8], chart: Chart, held: &mut [u64; Chart::NODES]) -> Sets
     let mut stops = [0u8; Chart::NODES];
     let mut nodes = [0u8; Chart::BARRIERS];
     let extent = load_tables(s, chart, &mut edges, &mut places, &mut stops, &mut nodes);
-    let returning = returns(s, chart, &edges, &places, extent.parts, &stops);
+    let mut begin_nodes = [0u8; Chart::BARRIERS];
+    let mut end_nodes = [0u8; Chart::BARRIERS];
+    frames(s, chart, &mut begin_nodes, &mut end_nodes);
+    let parts = extent.parts;
+    let returning = returns(s, chart, &begin_nodes, &end_nodes, &edges, &places, parts);
     fill_held(s, chart, returning, held)
 }
 

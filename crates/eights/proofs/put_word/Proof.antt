@@ -1,20 +1,15 @@
 -- `eights::put_word` meets its contract. The loop's invariant: the entries passed are there, and those below the word are kept.
 -- Assumes nothing.
-use mathlib.Core.Path.{_≡_, refl, ap, sym, _∙_}
-use mathlib.Core.List.{List}
-use Prim.Native.Nat.{ℕ, _+_, _*_, _-_, _≤_, _<_}
+use mathlib.Core.Path.{refl}
+use Prim.Native.Nat.{_-_}
 use native.Mathlib.Omega.{arith}
-use lib.ListN.{length, getD}
-use Rattle.eights.specs.Eights.{Fence, digit, covered}
-use Rattle.eights.proofs.Spreads.{none-plain, eights-more}
+use Rattle.eights.specs.Eights.{digit}
+use Rattle.eights.proofs.Spreads.{none-plain, digit-most, Filled, eights-more}
 use Rattle.eights.proofs.put_word.Statement.{statement}
 use Rattle.eights.proofs.put_word.Tie as tie
 
 abbrev Inv-loop : tie.InvT-loop
-Inv-loop p w fence table row₀ rest i₀ row i =
-    (i ≤ 8) × (length row ≡ 192)
-    × ((closed : List ℕ) → Fence closed fence → (j : ℕ) → j < 8 * i → getD row (64 * w + j) 0 ≡ covered closed (64 * w + j) (digit p j))
-    × ((x : ℕ) → x < 64 * w → getD row x 0 ≡ getD row₀ x 0)
+Inv-loop p w fence table row₀ rest i₀ row i = Filled (digit p) w fence row₀ row i
 
 abbrev μ-loop : tie.MeasureT-loop
 μ-loop p w fence table row₀ rest i₀ row i = 8 - i
@@ -60,13 +55,9 @@ loop-again c =
     let g = c .before .before .before in
     let l = g .before .before in
     let s = l .before .before .before in
-    let e = s .args in (
-      omega arith,
-      c .put .ensures .0,
-      λ closed F. eights-more (e .p) closed (e .fence .now) (e .w) (l .loop .i) (g .eight .result) (l .loop .row) (c .put .last .1 .1 .0) F (s .pre .0) (omega arith) (g .eight .ensures) (l .loop .inv .2 closed F)
-          (c .put .ensures .1) (c .put .ensures .2),
-      λ x h. c .put .ensures .2 x (omega arith) ∙ l .loop .inv .3 x h,
-    )
+    let e = s .args in
+    eights-more (digit (e .p)) (digit-most (e .p)) (e .w) (s .pre .0) (e .fence .now) (e .row .now) (l .loop .row) (c .put .last .1 .1 .0) (l .loop .i) (g .eight .result) (omega arith) (l .loop .inv) (g .eight .ensures)
+    (c .put .ensures .0) (c .put .ensures .1) (c .put .ensures .2)
 
 returns : tie.Need-returns Inv-loop μ-loop
 returns c = let l = c .before in (l .loop .inv .1, λ closed F j h. l .loop .inv .2 closed F j (omega arith), l .loop .inv .3)

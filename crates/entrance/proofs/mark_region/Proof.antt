@@ -27,14 +27,14 @@ fill-starts-requires c κs =
 
 fill-ends-requires : tie.Need-fill-ends-requires
 fill-ends-requires c κs =
-    let l = loaded (c .before .before .before .before) in
+    let l = loaded (c .before .before .before) in
     let A = start l .pre in
     let (T, (H, (S, N, Q))) = l .load-tables .ensures in
     ((few A N, not-none A N, omega (arith, Q, A .laid .nodes-most), (_, _, H .split)), nodes-below A N)
 
 returns : tie.Need-returns
 returns c =
-    let forth = c .before .before .before .before .before in
+    let forth = c .before .before .before .before in
     let l = loaded forth in
     let A = start l .pre in
     let W = well-formed _ _ A in
@@ -45,7 +45,7 @@ returns c =
       accepted = A;
       count = N .count;
       has-starts = starts _ W T S N .0;
-      has-ends = ends _ _ W T S N;
+      has-ends = ends _ _ _ W T S N;
       has-levels = starts _ W T S N .1;
     }
 

@@ -1,39 +1,46 @@
--- `joining::any_missed` meets its contract: after x turns the first x nodes are asked.
+-- `joining::any_missed` meets its contract: after x turns the blank masks among the first x are counted.
 -- Assumes nothing.
-use mathlib.Core.Path.{_≡_, refl}
-use Prim.Native.Nat.{_≤_, _-_}
+use mathlib.Core.Path.{_≡_, refl, ap}
+use Prim.Native.Nat.{ℕ, _+_, _≤_, _-_}
 use native.Mathlib.Omega.{arith}
 use borrow.Author.Needs.{needs}
-use Rattle.lists.specs.Range.{any}
-use Rattle.joining.specs.Joined.{missing}
-use Rattle.joining.proofs.Joining.{missing-more}
+use lib.Dec.{eqb}
+use lib.ListN.{getD}
+use Rattle.lists.specs.Range.{count, count-most, count-more}
 use Rattle.joining.proofs.any_missed.Statement.{statement}
 use Rattle.joining.proofs.any_missed.Tie as tie
 
 abbrev Inv-loop : tie.InvT-loop
-Inv-loop stops masks n found₀ x₀ found x = (x ≤ n) × (found ≡ missing stops masks x)
+Inv-loop masks n barriers found₀ x₀ found x = (x ≤ n) × (found ≡ count x (λ y. eqb (getD masks y 0) 0))
 
 abbrev μ-loop : tie.MeasureT-loop
-μ-loop stops masks n found₀ x₀ found x = n - x
+μ-loop masks n barriers found₀ x₀ found x = n - x
 
 loop-holds : tie.Need-loop-holds Inv-loop μ-loop
-unfolding any
+unfolding count
 loop-holds c = (omega arith, refl)
 
-element-copy-out-missed : tie.Need-element-copy-out-missed Inv-loop μ-loop
-element-copy-out-missed c = omega arith
+mul-blank : tie.Need-mul-blank Inv-loop μ-loop
+mul-blank c = omega arith
 
-mul-missed : tie.Need-mul-missed Inv-loop μ-loop
-mul-missed c = omega arith
+element-copy-out-blank : tie.Need-element-copy-out-blank Inv-loop μ-loop
+element-copy-out-blank c = omega arith
 
-element-copy-out-missed-2 : tie.Need-element-copy-out-missed-2 Inv-loop μ-loop
-element-copy-out-missed-2 c = omega arith
+blank-requires : tie.Need-blank-requires Inv-loop μ-loop
+blank-requires c κs = search needs
 
-missed-requires : tie.Need-missed-requires Inv-loop μ-loop
-missed-requires c κs = search needs
+-- the count with one mask more
+next : (c : tie.After-blank Inv-loop μ-loop) →
+    let l = c .before .before .before in
+    l .loop .found + c .blank .result ≡ count (l .loop .x + 1) (λ y. eqb (getD (l .before .args .masks .now) y 0) 0)
+next c =
+    let l = c .before .before .before in
+    cc (l .loop .inv .1, c .blank .ensures, count-more (l .loop .x) (λ y. eqb (getD (l .before .args .masks .now) y 0) 0))
 
-either-requires : tie.Need-either-requires Inv-loop μ-loop
-either-requires c κs = search needs
+add-found : tie.Need-add-found Inv-loop μ-loop
+add-found c =
+    let l = c .before .before .before in
+    omega (arith, next c, count-most (l .loop .x + 1) (λ y. eqb (getD (l .before .args .masks .now) y 0) 0), l .before .pre)
 
 add-x : tie.Need-add-x Inv-loop μ-loop
 add-x c = omega arith
@@ -42,16 +49,14 @@ loop-less : tie.Need-loop-less Inv-loop μ-loop
 loop-less c = omega arith
 
 loop-again : tie.Need-loop-again Inv-loop μ-loop
-loop-again c =
-    let l = c .before .before .before .before .before in
-    let args = l .before .args in
-    (omega arith, missing-more (args .stops .now) (args .masks .now) (l .loop .x) (l .loop .inv .1) (c .before .missed .ensures) (c .either .ensures))
+loop-again c = (omega arith, next c)
 
 returns : tie.Need-returns Inv-loop μ-loop
 returns c =
     let l = c .before in
-    let q : l .loop .x ≡ l .before .args .n = omega arith in
-    rw q at (l .loop .inv .1)
+    let e = l .before in
+    let q : l .loop .x ≡ e .args .n = omega arith in
+    rw (l .loop .inv .1, q)
 
 pub any-missed-spec : {M : Type 1} → statement M
 any-missed-spec =
@@ -60,11 +65,10 @@ any-missed-spec =
     Inv-loop
     μ-loop
     loop-holds
-    element-copy-out-missed
-    mul-missed
-    element-copy-out-missed-2
-    missed-requires
-    either-requires
+    mul-blank
+    element-copy-out-blank
+    blank-requires
+    add-found
     add-x
     loop-less
     loop-again

@@ -1,33 +1,42 @@
--- `node_counts::count_frames` meets its contract.
+-- `node_counts::count_frames` meets its contract: after x turns the begins and the ends below x are noted.
 -- Assumes nothing.
-use mathlib.Core.Path.{_≡_, subst}
-use Prim.Native.Nat.{ℕ, _≤_, _-_}
+use mathlib.Core.Path.{_≡_}
+use Prim.Native.Nat.{_≤_, _<_, _-_}
 use native.Mathlib.Omega.{arith}
 use Rattle.chart.specs.Format.{decode}
 use Rattle.chart.specs.Scope.{beginNode, endNode}
-use Rattle.node_counts.specs.Counted.{Counted, isFrame}
-use Rattle.node_counts.proofs.Counted.{count-on, counted-most}
+use Rattle.node_counts.specs.Framed.{Noted}
+use Rattle.node_counts.proofs.Framing.{few-numbers, room, noted-more}
 use Rattle.node_counts.proofs.count_frames.Statement.{statement}
 use Rattle.node_counts.proofs.count_frames.Tie as tie
 
 abbrev Inv-loop : tie.InvT-loop
-Inv-loop s chart begins₀ ends₀ n x₀ begins ends x = (x ≤ chart .nodes) × Counted (decode s) (isFrame beginNode) x begins × Counted (decode s) (isFrame endNode) x ends
+Inv-loop s chart begun₀ ended₀ begins₀ ends₀ n x₀ begun ended begins ends x =
+    (x ≤ chart .nodes) × Noted (decode s) beginNode x begun begins × Noted (decode s) endNode x ended ends
 
 abbrev μ-loop : tie.MeasureT-loop
-μ-loop s chart begins₀ ends₀ n x₀ begins ends x = chart .nodes - x
+μ-loop s chart begun₀ ended₀ begins₀ ends₀ n x₀ begun ended begins ends x = chart .nodes - x
 
 loop-holds : tie.Need-loop-holds Inv-loop μ-loop
-loop-holds c = (omega arith, c .before .pre .1, c .before .pre .2)
+loop-holds c = (omega arith, c .before .pre .1 .0, c .before .pre .1 .1)
 
 read-requires : tie.Need-read-requires Inv-loop μ-loop
-read-requires c κs = (c .before .before .before .pre .0, omega arith)
+read-requires c κs = (c .before .before .before .pre .0 .0, omega arith)
+
+-- the number of the node, if it is noted
+few : (c : tie.After-read Inv-loop μ-loop) → beginNode ≤ c .read .result .kind → c .read .result .number < 64
+few c k =
+    let l = c .before .before in
+    let (L, h) = l .before .before .pre .0 in
+    let (is, numbered) = c .read .ensures in
+    omega (arith, numbered, few-numbers _ _ L h (l .loop .x) (omega arith) (omega (arith, is, k)))
 
 count-frame-requires : tie.Need-count-frame-requires Inv-loop μ-loop
 count-frame-requires c κs =
-    let l = c .before .before .before .before in
-    let (x, B, E) = l .loop .inv in
-    let most = l .before .before .pre .0 .nodes-most in
-    (B .long, λ i. omega (arith, counted-most _ B i, most), E .long, λ i. omega (arith, counted-most _ E i, most))
+    let r = c .before .before .before .before in
+    let l = r .before .before in
+    let b : l .loop .x < 192 = omega (arith, l .before .before .pre .0 .0 .nodes-most) in
+    (b, few r, room _ b (l .loop .inv .1), room _ b (l .loop .inv .2))
 
 add-x : tie.Need-add-x Inv-loop μ-loop
 add-x c = omega arith
@@ -37,20 +46,21 @@ loop-less c = omega arith
 
 loop-again : tie.Need-loop-again Inv-loop μ-loop
 loop-again c =
-    let r = c .before .before .before in
+    let r = c .before .before .before .before .before in
     let l = r .before .before in
-    let D = decode (l .before .before .args .s .now) in
-    let k = r .read .ensures in
-    let f = c .count-frame .ensures in
-    (omega arith, count-on D (l .loop .inv .1) (k .0) (k .1) (f .0 .0) (f .0 .1), count-on D (l .loop .inv .2) (k .0) (k .1) (f .1 .0) (f .1 .1))
+    let b : l .loop .x < 192 = omega (arith, l .before .before .pre .0 .0 .nodes-most) in
+    let (is, numbered) = r .read .ensures in (
+      omega arith,
+      noted-more _ b (λ q. few r (omega (arith, q))) is numbered (l .loop .inv .1) (c .count-frame .ensures .0),
+      noted-more _ b (λ q. few r (omega (arith, q))) is numbered (l .loop .inv .2) (c .count-frame .ensures .1),
+    )
 
 returns : tie.Need-returns Inv-loop μ-loop
 returns c =
     let l = c .before in
     let e = l .before .before in
-    let D = decode (e .args .s .now) in
     let q : l .loop .x ≡ e .args .chart .nodes = omega arith in
-    (subst (λ (n : ℕ). Counted D (isFrame beginNode) n (l .loop .begins)) q (l .loop .inv .1), subst (λ (n : ℕ). Counted D (isFrame endNode) n (l .loop .ends)) q (l .loop .inv .2))
+    (rw q at (l .loop .inv .1), rw q at (l .loop .inv .2))
 
 pub count-frames-spec : {M : Type 1} → statement M
 count-frames-spec =

@@ -26,7 +26,7 @@ abbrev loaded : (c : tie.After-fill-starts) → tie.After-load-tables
 loaded c = c .before .before .before .before .before .before .before
 
 abbrev forth : (c : tie.After-fill-ends) → tie.Else1
-forth c = c .before .before .before .before .before
+forth c = c .before .before .before .before
 
 load-tables-requires : tie.Need-load-tables-requires
 load-tables-requires c κs = (accepted _ _ (c .before .before .before .before .before .pre), blank-none)
@@ -49,7 +49,7 @@ returns c =
 
 fill-ends-requires : tie.Need-fill-ends-requires
 fill-ends-requires c κs =
-    let l = loaded (c .before .before .before .before .before) in
+    let l = loaded (c .before .before .before .before) in
     let A = is-accepted l in
     let (T, (H, (S, N, Q))) = l .load-tables .ensures in
     ((few A N, not-none A N, omega (arith, Q, A .laid .nodes-most), (_, _, H .split)), nodes-below A N)
@@ -60,7 +60,7 @@ returns-2 c =
     let e = start l in
     let A = is-accepted l in
     let (T, (H, (S, N, Q))) = l .load-tables .ensures in
-    let lost = c .before .fill-ends .ensures .0 _ _ (well-formed _ _ A) T S N (Q ∙ sym (nodes-length _ _ (A .laid))) in
+    let lost = c .before .fill-ends .ensures .0 _ _ _ (well-formed _ _ A) T S N (Q ∙ sym (nodes-length _ _ (A .laid))) in
     (refuses _ _ (e .pre) 10 (stuck _ _ (e .pre) N lost (c .if2 .taken)), λ chart total q. absurd (bad (cc)))
 
 returns-3 : tie.Need-returns-3
@@ -74,13 +74,13 @@ returns-3 c =
     let n = Q ∙ sym (nodes-length _ _ (A .laid)) in
     let (lost, starts) = left .before .fill-starts .ensures in
     let (lost′, ends) = c .before .fill-ends .ensures in
-    let admits = connects _ _ (e .pre) N (lost′ _ _ W T S N n) (sym (lost _ W T S N n) ∙ left .if1 .left) (c .if2 .left) in (
+    let admits = connects _ _ (e .pre) N (lost′ _ _ _ W T S N n) (sym (lost _ W T S N n) ∙ left .if1 .left) (c .if2 .left) in (
       marks _ _ (e .pre) _ (N .count) admits,
-      λ chart total q. marked-same q (λ k m. Entry (e .args .s .now) k m (left .before .fill-starts .last .1 .1 .1 .1 .1 .0) (c .before .fill-ends .last .1 .1 .1 .1 .0) (left .before .fill-starts .last .1 .1 .1 .1 .1 .1 .0)) (record {
+      λ chart total q. marked-same q (λ k m. Entry (e .args .s .now) k m (left .before .fill-starts .last .1 .1 .1 .1 .1 .0) (c .before .fill-ends .last .1 .1 .1 .0) (left .before .fill-starts .last .1 .1 .1 .1 .1 .1 .0)) (record {
         accepted = A;
         count = N .count;
         has-starts = starts _ W T S N .0;
-        has-ends = ends _ _ W T S N;
+        has-ends = ends _ _ _ W T S N;
         has-levels = starts _ W T S N .1;
       }),
     )

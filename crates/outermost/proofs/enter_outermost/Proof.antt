@@ -18,13 +18,13 @@ enum-known-chart : tie.Need-enum-known-chart
 enum-known-chart c = search needs
 
 enter-chart-requires : tie.Need-enter-chart-requires
-enter-chart-requires c κs = sym (c .before .before .before .before .before .before .check .ensures) ∙ c .before .before .before .before .chart .given .1
+enter-chart-requires c κs = sym (c .before .before .before .before .before .before .check .ensures .0) ∙ c .before .before .before .before .chart .given .1
 
 returns : tie.Need-returns
 unfolding entered
 returns c =
     let k = c .before .before .before in
-    let e = refused-before (k .before .before .args .s .now) _ (sym (k .check .ensures) ∙ c .before .refusal .given .1) in
+    let e = refused-before (k .before .before .before .before .args .s .now) _ (sym (k .check .ensures .0) ∙ c .before .refusal .given .1) in
     (rw e, λ chart total q. absurd (bad (cc)))
 
 returns-2 : tie.Need-returns-2

@@ -44,10 +44,7 @@ close-requires c κs =
 returns : tie.Need-returns
 returns c =
     let fd = c .before .before .before .before in
-    let ((few, sources), table) = fd .before .before .before .before .before .before .before .before .pre in (
-      (λ e stops T S. spread-behind T S (stood fd .stand .ensures) (fd .feed .ensures) (c .close .ensures .0) (c .close .ensures .1)),
-      carried-long (fed-fits few (stood fd .stand .ensures) (fd .feed .ensures) .0) (c .close .ensures .0),
-    )
+    λ e stops T S. spread-behind T S (stood fd .stand .ensures) (fd .feed .ensures) (c .close .ensures .0) (c .close .ensures .1)
 
 pub behind-spec : {M : Type 1} → statement M
 behind-spec =

@@ -12,7 +12,7 @@ clear-requires : tie.Need-clear-requires
 clear-requires c κs = search needs
 
 returns : tie.Need-returns
-returns c = λ e stops T S. cleared-ends T S (c .before .before .behind .ensures .0 e stops T S) (c .clear .ensures)
+returns c = λ e stops T S. cleared-ends T S (c .before .before .behind .ensures e stops T S) (c .clear .ensures)
 
 pub ends-spec : {M : Type 1} → statement M
 ends-spec = tie.close (tie.spec behind-requires clear-requires returns)

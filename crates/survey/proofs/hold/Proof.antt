@@ -8,8 +8,15 @@ use Rattle.survey.proofs.hold.Tie as tie
 load-tables-requires : tie.Need-load-tables-requires
 load-tables-requires c κs = (c .before .before .before .before .before .pre, blank-none)
 
+frames-requires : tie.Need-frames-requires
+frames-requires c κs = search needs
+
 returns-requires : tie.Need-returns-requires
-returns-requires c κs = search needs
+returns-requires c κs =
+    let framed = c .before .before .before .before .before in
+    let l = framed .before .before .before in
+    let (T, (H, (S, N, Q))) = l .load-tables .ensures in
+    ((l .before .before .before .before .before .before .pre, framed .frames .ensures .0, framed .frames .ensures .1), (H, (_, (T, S))))
 
 fill-held-requires : tie.Need-fill-held-requires
 fill-held-requires c κs = search needs
@@ -18,4 +25,4 @@ returns : tie.Need-returns
 returns c = search needs
 
 pub hold-spec : {M : Type 1} → statement M
-hold-spec = tie.close (tie.spec load-tables-requires returns-requires fill-held-requires returns)
+hold-spec = tie.close (tie.spec load-tables-requires frames-requires returns-requires fill-held-requires returns)

@@ -1,6 +1,6 @@
 -- `survey::survey_chart` meets its contract: from start forward, from finish backward, and what each node holds.
 -- Assumes nothing.
-use mathlib.Core.Path.{_≡_, refl, sym, _∙_}
+use mathlib.Core.Path.{_≡_, sym, _∙_}
 use native.Mathlib.Omega.{arith}
 use borrow.Author.Needs.{needs}
 use Rattle.lists.specs.Truth.{bad}
@@ -22,17 +22,17 @@ abbrev start : (c : tie.After-load-tables) → tie.Start
 start c = c .before .before .before .before .before .before
 
 is-accepted : (c : tie.After-load-tables) → Accepted (start c .args .s .now) (start c .args .chart)
-is-accepted c = accepted _ _ (start c .pre .0)
+is-accepted c = accepted _ _ (start c .pre .0 .0)
 
 -- before the first search, and before the second
 abbrev loaded : (c : tie.After-fill-starts) → tie.After-load-tables
 loaded c = c .before .before .before .before .before .before .before
 
 abbrev forth : (c : tie.After-fill-ends) → tie.Else1
-forth c = c .before .before .before .before .before
+forth c = c .before .before .before .before
 
 load-tables-requires : tie.Need-load-tables-requires
-load-tables-requires c κs = (accepted _ _ (c .before .before .before .before .before .pre .0), blank-none)
+load-tables-requires c κs = (accepted _ _ (c .before .before .before .before .before .pre .0 .0), blank-none)
 
 index-1-starts : tie.Need-index-1-starts
 index-1-starts c = search needs
@@ -48,7 +48,7 @@ returns : tie.Need-returns
 unfolding checkedOf answer
 returns c =
     let l = loaded (c .before) in
-    let h = start l .pre .0 in
+    let h = start l .pre .0 .0 in
     let A = is-accepted l in
     let (T, (H, (S, N, Q))) = l .load-tables .ensures in
     let lost = c .before .fill-starts .ensures .0 _ (well-formed _ _ A) T S N (Q ∙ sym (nodes-length _ _ (A .laid))) in
@@ -59,7 +59,7 @@ index-1-ends c = search needs
 
 fill-ends-requires : tie.Need-fill-ends-requires
 fill-ends-requires c κs =
-    let l = loaded (c .before .before .before .before .before) in
+    let l = loaded (c .before .before .before .before) in
     let A = is-accepted l in
     let (T, (H, (S, N, Q))) = l .load-tables .ensures in
     ((few A N, not-none A N, omega (arith, Q, A .laid .nodes-most), (_, _, H .split)), nodes-below A N)
@@ -68,17 +68,17 @@ returns-2 : tie.Need-returns-2
 unfolding checkedOf answer
 returns-2 c =
     let l = loaded (forth (c .before) .before) in
-    let h = start l .pre .0 in
+    let h = start l .pre .0 .0 in
     let A = is-accepted l in
     let (T, (H, (S, N, Q))) = l .load-tables .ensures in
-    let lost = c .before .fill-ends .ensures .0 _ _ (well-formed _ _ A) T S N (Q ∙ sym (nodes-length _ _ (A .laid))) in
+    let lost = c .before .fill-ends .ensures .0 _ _ _ (well-formed _ _ A) T S N (Q ∙ sym (nodes-length _ _ (A .laid))) in
     (rw (stuck _ _ h N lost (c .if2 .taken)), λ chart sets q. absurd (bad (cc)))
 
 returns-requires : tie.Need-returns-requires
 returns-requires c κs =
     let l = loaded (forth (c .before .before .before .before) .before) in
     let (T, (H, (S, N, Q))) = l .load-tables .ensures in
-    (is-accepted l, T, S, H)
+    ((is-accepted l, start l .pre .1 .0, start l .pre .1 .1), (H, (_, (T, S))))
 
 index-1-fill-held : tie.Need-index-1-fill-held
 index-1-fill-held c = search needs
@@ -102,15 +102,15 @@ returns-3 c =
     let n = Q ∙ sym (nodes-length _ _ (A .laid)) in
     let (lost, starts) = left′ .before .fill-starts .ensures in
     let (lost′, ends) = back .fill-ends .ensures in
-    let admits = connects _ _ (e .pre .0) N (lost′ _ _ W T S N n) (sym (lost _ W T S N n) ∙ left′ .if1 .left) (left .if2 .left) in
-    let counts = passed-none (firstOf (chartRows (e .args .s .now))) (countsOf (e .args .s .now)) (e .args .chart) (e .pre .0) .1 in (
+    let admits = connects _ _ (e .pre .0 .0) N (lost′ _ _ _ W T S N n) (sym (lost _ W T S N n) ∙ left′ .if1 .left) (left .if2 .left) in
+    let counts = passed-none (firstOf (chartRows (e .args .s .now))) (countsOf (e .args .s .now)) (e .args .chart) (e .pre .0 .0) .1 in (
       rw (admits, counts),
       λ chart sets q.
           let a : e .args .chart ≡ chart = cc in
           let b : c .fill-held .result ≡ sets = cc in
           rw (← a, ← b) (record {
             accepted = A;
-            marked = all-marks _ _ A (e .args .marks .now) _ _ _ (e .pre .1) (starts _ W T S N .0) (ends _ _ W T S N) (c .fill-held .ensures .1) (c .fill-held .ensures .0);
+            marked = all-marks _ _ A (e .args .marks .now) _ _ _ (e .pre .0 .1) (starts _ W T S N .0) (ends _ _ _ W T S N) (c .fill-held .ensures .1) (c .fill-held .ensures .0);
           }),
     )
 

@@ -20,15 +20,15 @@ enum-known-chart c = search needs
 
 survey-chart-requires : tie.Need-survey-chart-requires
 survey-chart-requires c κs =
-    let m = c .before .before in
+    let m = c .before .before .before .before in
     let k = m .before .before in
-    (sym (k .check .ensures) ∙ m .chart .given .1, k .before .before .pre)
+    ((sym (k .check .ensures .0) ∙ m .chart .given .1, k .before .before .before .before .pre), k .check .ensures .1 _ (m .chart .given .1))
 
 returns : tie.Need-returns
 unfolding checkedOf answer
 returns c =
     let k = c .before .before .before in
-    let e = refused-before (k .before .before .args .s .now) _ (sym (k .check .ensures) ∙ c .before .refusal .given .1) in
+    let e = refused-before (k .before .before .before .before .args .s .now) _ (sym (k .check .ensures .0) ∙ c .before .refusal .given .1) in
     (rw e, λ chart sets q. absurd (bad (cc)))
 
 returns-2 : tie.Need-returns-2

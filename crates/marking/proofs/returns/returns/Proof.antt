@@ -17,52 +17,41 @@ returns : tie.Need-returns
 unfolding returning maskOf
 returns c =
     let e = c .before .before in
-    let q : length (decode (e .args .s .now) .constructs) ≡ 0 = omega (arith, constructs-length _ (e .args .chart) (e .pre .0 .laid), c .if1 .taken) in
+    let q : length (decode (e .args .s .now) .constructs) ≡ 0 = omega (arith, constructs-length _ (e .args .chart) (e .pre .0 .0 .laid), c .if1 .taken) in
     rw q refl
-
-frames-requires : tie.Need-frames-requires
-frames-requires c κs = search needs
-
--- where the function was called, and where its frames were found
-abbrev start : (c : tie.After-frames) → tie.Start
-start c = c .before .before .before .before .before
 
 all-before-requires : tie.Need-all-before-requires
 all-before-requires c κs =
-    let e = start (c .before .before .before .before) in
-    omega (arith, e .pre .0 .laid .constructs-most)
+    let e = c .before .before .before .before in
+    omega (arith, e .pre .0 .0 .laid .constructs-most)
 
 returns-2 : tie.Need-returns-2
 returns-2 c =
     let asked = c .before in
-    let test = asked .before .before .before in
-    let framed = test .before .before in
-    let e = start framed in
+    let test = asked .before in
+    let e = test .before .before .before .before in
     let s = e .args .s .now in
-    let (A, F, S, H) = e .pre in
+    let ((A, B, E), (H, (stops, (F, S)))) = e .pre in
     let q = constructs-length s (e .args .chart) (A .laid) in
-    none-return s (e .args .chart) A F S (test .if2 .taken) (framed .frames .ensures .0) (framed .frames .ensures .1) (λ d l. asked .all-before .ensures (c .if3 .taken) d (omega arith))
+    none-return s (e .args .chart) A F S (test .if2 .taken) B E (λ d l. asked .all-before .ensures (c .if3 .taken) d (omega arith))
 
 ahead-requires : tie.Need-ahead-requires
 ahead-requires c κs =
-    let framed = c .before .before .before .before in
-    let (A, F, S, H) = start framed .pre in
-    ((omega (arith, A .laid .constructs-most), ready H), framed .frames .ensures .1 .node)
+    let ((A, B, E), (H, F)) = c .before .before .before .before .before .pre in
+    ((omega (arith, A .laid .constructs-most), ready H), E .node)
 
 diagonal-requires : tie.Need-diagonal-requires
 diagonal-requires c κs = search needs
 
 returns-3 : tie.Need-returns-3
 returns-3 c =
-    let found = c .before .before .before in
-    let framed = found .before .before .before .before .before in
-    let e = start framed in
+    let found = c .before .before in
+    let e = found .before .before .before .before .before .before in
     let s = e .args .s .now in
-    let (A, F, S, H) = e .pre in
-    c .diagonal .ensures
-    ∙ ends-reach s _ A _ (sym (constructs-length s _ (A .laid))) F S (framed .frames .ensures .0) (framed .frames .ensures .1) (found .ahead .ensures _ _ (F .split) (F .begins))
+    let ((A, B, E), (H, (stops, (F, S)))) = e .pre in
+    c .diagonal .ensures ∙ ends-reach s _ A _ (sym (constructs-length s _ (A .laid))) F S B E (found .ahead .ensures _ _ (F .split) (F .begins))
 
 pub returns-spec : {M : Type 1} → statement M
 returns-spec =
     tie.close
-    (tie.spec returns frames-requires all-before-requires returns-2 ahead-requires diagonal-requires returns-3)
+    (tie.spec returns all-before-requires returns-2 ahead-requires diagonal-requires returns-3)

@@ -1,11 +1,11 @@
--- `profiles::marks::fill_held` meets its contract.
+-- `held_nodes::fill_held` meets its contract.
 -- Assumes nothing.
 use mathlib.Core.Path.{refl}
 use borrow.Author.Needs.{needs}
 use Rattle.lists.specs.Store.{zeros}
 use Rattle.profiles.proofs.Nodes.{none-held}
-use Rattle.profiles.proofs.marks.fill_held.Statement.{statement}
-use Rattle.profiles.proofs.marks.fill_held.Tie as tie
+use Rattle.held_nodes.proofs.fill_held.Statement.{statement}
+use Rattle.held_nodes.proofs.fill_held.Tie as tie
 
 sets-of-requires : tie.Need-sets-of-requires
 sets-of-requires c κs = search needs

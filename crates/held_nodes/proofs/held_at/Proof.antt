@@ -1,4 +1,4 @@
--- `profiles::marks::held_at` meets its contract.
+-- `held_nodes::held_at` meets its contract.
 -- Assumes nothing.
 use mathlib.Core.Path.{sym, subst}
 use Prim.Native.Nat.{_<_}
@@ -9,10 +9,10 @@ use Rattle.chart.specs.Format.{decode}
 use Rattle.chart.specs.Scope.{parentOf}
 use Rattle.chart.proofs.Records.{constructs-length}
 use Rattle.chart.proofs.Tree.{Below}
 use Rattle.profiles.proofs.Constructs.{index-below}
 use Rattle.profiles.proofs.Nodes.{number-place, frame-number, parent-place, plain-held, frame-held}
-use Rattle.profiles.proofs.marks.held_at.Statement.{statement}
-use Rattle.profiles.proofs.marks.held_at.Tie as tie
+use Rattle.held_nodes.proofs.held_at.Statement.{statement}
+use Rattle.held_nodes.proofs.held_at.Tie as tie
 
 read-requires : tie.Need-read-requires
 read-requires c κs = search needs
