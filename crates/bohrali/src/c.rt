@@ -69,7 +69,7 @@ pub extern "C" fn bohrali_phases(chart: &[u8], region: usize, out: &mut [u8]) ->
     ensures { λ _. ⌜ now (out .exit) ≡ phasesLeft (now (chart .entry)) region (now (out .entry)) ⌝ }
     ensures { λ r. ⌜ PhasesCorrect (now (chart .entry)) region (now (out .entry)) r (now (out .exit)) ⌝ }
 {
-    written::number_of(writing::phases(chart, region, out))
+    written::number_of(phase_writing::phases(chart, region, out))
 }
 
 #[no_mangle]

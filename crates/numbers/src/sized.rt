@@ -25,7 +25,7 @@ pub fn sheet(chart: &[u8], region: usize, size: Size, out: &mut [u8]) -> i64
     ensures { λ r. ⌜ r ≡ Output·numberOf (sheetWrittenFor (now (chart .entry)) region size (now (out .entry))) ⌝ }
     ensures { λ _. ⌜ now (out .exit) ≡ sheetLeftFor (now (chart .entry)) region size (now (out .entry)) ⌝ }
 {
-    written::number_of(writing::sheet(chart, region, size, out))
+    written::number_of(sheet_writing::sheet(chart, region, size, out))
 }
 
 pub fn judge(chart: &[u8], region: usize, size: Size, claims: &[u8]) -> i64

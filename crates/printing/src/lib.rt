@@ -10,8 +10,8 @@ use answers::Size;
 use chart::cursor::wide;
 use chart::format::Chart;
 use chart::format::Refusal;
-use writing::phases;
-use writing::sheet;
+use phase_writing::phases;
+use sheet_writing::sheet;
 
 pub fn print_refusal(refusal: Refusal) {
     io::write_all(1, b"refused ");

@@ -1,4 +1,4 @@
--- `writing::sheet` meets its contract: rows 1 to 10 and 23, and where none of them applies rows 11 and 21 and the bytes.
+-- `sheet_writing::sheet` meets its contract: rows 1 to 10 and 23, and where none of them applies rows 11 and 21 and the bytes.
 -- Assumes nothing.
 use mathlib.Core.Path.{refl, ap, sym, _∙_}
 use borrow.Author.Needs.{needs}
@@ -13,8 +13,8 @@ use Rattle.survey.specs.Surveyed.{checkedOf}
 use Rattle.output.proofs.Outputs.{refused-before}
 use Rattle.calls.specs.Sheet.{sheetResult}
 use Rattle.calls.proofs.Passed.{output-passed}
-use Rattle.writing.proofs.sheet.Statement.{statement}
-use Rattle.writing.proofs.sheet.Tie as tie
+use Rattle.sheet_writing.proofs.sheet.Statement.{statement}
+use Rattle.sheet_writing.proofs.sheet.Tie as tie
 
 survey-requires : tie.Need-survey-requires
 survey-requires c κs = refl

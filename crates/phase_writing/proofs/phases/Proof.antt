@@ -1,4 +1,4 @@
--- `writing::phases` meets its contract: rows 1 to 10 and 23, and where none of them applies row 11 and the bytes.
+-- `phase_writing::phases` meets its contract: rows 1 to 10 and 23, and where none of them applies row 11 and the bytes.
 -- Assumes nothing.
 use mathlib.Core.Path.{ap, sym, _∙_}
 use mathlib.Core.List.{[]}
@@ -12,8 +12,8 @@ use Rattle.outermost.proofs.Entering.{entered-refused, entered-marked, entered-
 use Rattle.output.proofs.Outputs.{refused-before}
 use Rattle.calls.specs.Phases.{phasesResult}
 use Rattle.calls.proofs.Passed.{output-passed}
-use Rattle.writing.proofs.phases.Statement.{statement}
-use Rattle.writing.proofs.phases.Tie as tie
+use Rattle.phase_writing.proofs.phases.Statement.{statement}
+use Rattle.phase_writing.proofs.phases.Tie as tie
 
 enter-requires : tie.Need-enter-requires
 enter-requires c κs = search needs

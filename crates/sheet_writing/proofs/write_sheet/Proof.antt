@@ -1,4 +1,4 @@
--- `writing::write_sheet` meets its contract: row 11, then row 21, then the bytes.
+-- `sheet_writing::write_sheet` meets its contract: row 11, then row 21, then the bytes.
 -- Assumes nothing.
 use mathlib.Core.Path.{_≡_, ap, sym, _∙_}
 use mathlib.Core.Bool.{cond}
@@ -17,8 +17,8 @@ use Rattle.answers.specs.Size.{sizeRows}
 use Rattle.answers.specs.Sheet.{sheet, sheet-length}
 use Rattle.output.specs.Output.{outputRows, writtenBy}
 use Rattle.output.proofs.Outputs.{had-room, room-refused, room-passed, refused, passed}
-use Rattle.writing.proofs.write_sheet.Statement.{statement}
-use Rattle.writing.proofs.write_sheet.Tie as tie
+use Rattle.sheet_writing.proofs.write_sheet.Statement.{statement}
+use Rattle.sheet_writing.proofs.write_sheet.Tie as tie
 
 -- where the function was called
 abbrev start : (c : tie.After-room-for) → tie.Start
