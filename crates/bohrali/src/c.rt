@@ -24,14 +24,14 @@ ghost use Rattle.correctness.specs.ListingCorrect.{ListingCorrect};
 ghost use Rattle.edits.specs.Edits.{insertWritten, insertLeft, removeWritten, removeLeft};
 ghost use Rattle.edits.specs.declared.Receipt.{Receipt};
 use answers::Size;
-use editing::inserting::insert_edge;
-use editing::removing::remove_edge;
 use edits::Receipt;
+use inserting::insert_edge;
 use numbers::counts;
 use numbers::sized::judge;
 use numbers::sized::pair;
 use numbers::sized::sheet;
 use numbers::written;
+use removing::remove_edge;
 
 #[no_mangle]
 pub extern "C" fn bohrali_admit(chart: &[u8]) -> i64

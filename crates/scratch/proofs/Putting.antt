@@ -1,11 +1,13 @@
--- Bytes put one after the other: a store, and a row of them.
+-- Bytes put one after the other: a store, a row of them, and a part at the front.
 -- Assumes nothing.
-use mathlib.Core.Path.{_≡_, ap, _∙_}
+use mathlib.Core.Path.{_≡_, ap, sym, _∙_}
 use mathlib.Core.List.{List, [], _∷_, _++_, append-assoc}
-use Prim.Native.Nat.{ℕ, _+_, _<_}
+use Prim.Native.Nat.{ℕ, _+_, _≤_, _<_}
+use native.Mathlib.Nat.{zero-add}
 use native.Mathlib.Numerals.{add-one}
-use lib.ListN.{length, take, set}
-use lib.Seq.{take-suc-set}
+use native.Mathlib.Omega.{arith}
+use lib.ListN.{length, take, drop, set, take-append-drop}
+use lib.Seq.{take-suc-set, length-take-le}
 use Rattle.encoding.specs.Bytes.{fieldBytes}
 
 pub byte-put : (l : List ℕ) (at v : ℕ) → at < length l → take (at + 1) (set l at v) ≡ take at l ++ (v ∷ [])
@@ -22,3 +24,13 @@ four-fields l₀ a b c d p q r s =
     let two = chained l₀ (fieldBytes a []) (fieldBytes b []) p q in
     let three = chained l₀ (fieldBytes a (fieldBytes b [])) (fieldBytes c []) two r in
     chained l₀ (fieldBytes a (fieldBytes b (fieldBytes c []))) (fieldBytes d []) three s
+
+-- a part put to the front
+pub front : (part old new : List ℕ) → take (0 + length part) new ≡ part → drop (0 + length part) new ≡ drop (0 + length part) old
+    → new ≡ part ++ drop (length part) old
+front part old new p q =
+    let n = 0 + length part in
+    sym (take-append-drop n new) ∙ ap (λ (l : List ℕ). l ++ drop n new) p ∙ ap (λ (l : List ℕ). part ++ l) q ∙ rw (zero-add (length part))
+
+pub part-room : (l : List ℕ) (n room : ℕ) → n ≤ length l → n ≤ room → 0 + length (take n l) ≤ room
+part-room l n room a b = omega (arith, length-take-le n l a)

@@ -1,25 +1,27 @@
--- `editing::inserting::commit` meets its contract.
+-- `inserting::commit` meets its contract.
 -- Assumes nothing.
-use mathlib.Core.Path.{sym, _∙_}
+use mathlib.Core.Path.{refl, sym, _∙_}
 use Prim.Native.Nat.{_+_}
 use native.Mathlib.Omega.{arith}
 use lib.ListN.{length, take}
 use lib.Seq.{length-take-le}
 use borrow.Author.Needs.{needs}
-use Rattle.editing.proofs.CommitLaws.{refused, passed, part-room, front, other-length, other-place, no-space, space}
-use Rattle.editing.proofs.inserting.commit.Statement.{statement}
-use Rattle.editing.proofs.inserting.commit.Tie as tie
+use Rattle.output.proofs.Outputs.{refused, passed}
+use Rattle.scratch.proofs.Putting.{front, part-room}
+use Rattle.inserting.proofs.CommitLaws.{other-length, other-place, no-space, space}
+use Rattle.inserting.proofs.commit.Statement.{statement}
+use Rattle.inserting.proofs.commit.Tie as tie
 
 returns : tie.Need-returns
 returns c =
     let e = c .before .before .before .before .before in
-    refused _ _ _ _ _ (other-length (length (e .args .buffer .now)) (e .args .receipt) (e .args .present) (c .if1 .taken))
+    refused _ _ _ _ (other-length (length (e .args .buffer .now)) (e .args .receipt) (e .args .present) (c .if1 .taken))
 
 returns-2 : tie.Need-returns-2
 returns-2 c =
     let same = c .before .before .before in
     let e = same .before .before .before .before .before in
-    refused _ _ _ _ _ (other-place (length (e .args .buffer .now)) (e .args .receipt) (e .args .present) (same .if1 .left) (c .if2 .taken))
+    refused _ _ _ _ (other-place (length (e .args .buffer .now)) (e .args .receipt) (e .args .present) (same .if1 .left) (c .if2 .taken))
 
 add-size : tie.Need-add-size
 add-size c = search needs
@@ -29,7 +31,7 @@ returns-3 c =
     let agrees = c .before .before in
     let same = agrees .before .before .before in
     let e = same .before .before .before .before .before in
-    refused _ _ _ _ _ (no-space (length (e .args .buffer .now)) (e .args .receipt) (e .args .present) (same .if1 .left) (agrees .if2 .left) (c .if3 .taken))
+    refused _ _ _ _ (no-space (length (e .args .buffer .now)) (e .args .receipt) (e .args .present) (same .if1 .left) (agrees .if2 .left) (c .if3 .taken))
 
 slice-aggregate-put-part : tie.Need-slice-aggregate-put-part
 slice-aggregate-put-part c =
@@ -55,7 +57,7 @@ returns-4 c =
     let buffer = e .args .buffer .now in
     let result = take (e .args .present .length + 2) (e .args .longer .now) in
     let late = space (length buffer) (e .args .receipt) (e .args .present) (same .if1 .left) (agrees .if2 .left) (room .if3 .left) in
-    let (size, left) = passed _ _ result buffer late in
+    let (size, left) = passed _ _ result buffer refl late in
     (size, front result buffer _ (put .put-part .ensures .0) (put .put-part .ensures .1) ∙ left)
 
 pub commit-spec : {M : Type 1} → statement M

@@ -1,2 +1,1 @@
 pub mod CommitLaws
-pub mod RemoveLaws

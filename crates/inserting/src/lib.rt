@@ -1,10 +1,10 @@
-// Putting an edge into a chart in a lent buffer, by the receipt that asking gave.
+// Putting an edge into a chart in a lent buffer, by the receipt that asking gave (02, Note 6).
 ghost use mathlib.Core.Path.{_≡_};
 ghost use Prim.Native.Nat.{_+_, _≤_};
 ghost use lib.ListN.{length, take};
 ghost use Rattle.output.specs.Output.{writtenBy, leftBy};
 ghost use Rattle.edits.specs.Edits.{insertWritten, insertLeft};
-ghost use Rattle.editing.specs.Inserting.{lateRows};
+ghost use Rattle.inserting.specs.Inserting.{lateRows};
 use asking::ask_into;
 use chart::format::Chart;
 use chart::format::Edge;

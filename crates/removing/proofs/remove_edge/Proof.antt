@@ -1,4 +1,4 @@
--- `editing::removing::remove_edge` meets its contract.
+-- `removing::remove_edge` meets its contract.
 -- Assumes nothing.
 use mathlib.Core.Path.{_≡_, ap, sym, _∙_}
 use mathlib.Core.List.{List}
@@ -9,10 +9,10 @@ use lib.Seq.{length-take-le}
 use borrow.Author.Needs.{needs}
 use Rattle.output.specs.Output.{writtenBy}
 use Rattle.output.proofs.Outputs.{bytes-none, refused-some}
-use Rattle.editing.proofs.CommitLaws.{part-room, front}
-use Rattle.editing.proofs.RemoveLaws.{beyond, removal-refused, removal-passed}
-use Rattle.editing.proofs.removing.remove_edge.Statement.{statement}
-use Rattle.editing.proofs.removing.remove_edge.Tie as tie
+use Rattle.scratch.proofs.Putting.{front, part-room}
+use Rattle.removing.proofs.RemoveLaws.{beyond, removal-refused, removal-passed}
+use Rattle.removing.proofs.remove_edge.Statement.{statement}
+use Rattle.removing.proofs.remove_edge.Tie as tie
 
 returns : tie.Need-returns
 returns c =

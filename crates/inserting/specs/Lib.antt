@@ -1,2 +1,1 @@
 pub mod Inserting
-pub mod Removing

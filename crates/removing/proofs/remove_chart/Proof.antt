@@ -1,4 +1,4 @@
--- `editing::removing::remove_chart` meets its contract.
+-- `removing::remove_chart` meets its contract.
 -- Assumes nothing.
 use mathlib.Core.Path.{sym, _∙_}
 use mathlib.Core.List.{[]}
@@ -6,11 +6,11 @@ use native.Mathlib.Omega.{arith}
 use borrow.Author.Needs.{needs}
 use Rattle.chart.proofs.Rows.{first-decides}
 use Rattle.paths.specs.Admission.{admitRows}
+use Rattle.output.proofs.Outputs.{refused}
 use Rattle.asking.proofs.CheckLaws.{passed-none, refused-some, chart-most}
-use Rattle.editing.proofs.CommitLaws.{refused}
-use Rattle.editing.proofs.RemoveLaws.{apart, present-passed}
-use Rattle.editing.proofs.removing.remove_chart.Statement.{statement}
-use Rattle.editing.proofs.removing.remove_chart.Tie as tie
+use Rattle.removing.proofs.RemoveLaws.{apart, present-passed}
+use Rattle.removing.proofs.remove_chart.Statement.{statement}
+use Rattle.removing.proofs.remove_chart.Tie as tie
 
 check-all-requires : tie.Need-check-all-requires
 check-all-requires c κs = search needs
@@ -33,7 +33,7 @@ returns c =
     let k = c .before .before .before in
     let e = k .before .before .before in
     let h = refused-some _ _ (sym (k .check-all .ensures) ∙ c .before .refusal .given .1) in
-    (refused _ _ [] [] _ (first-decides (admitRows (e .args .s .now)) _ _ h) .0, λ count q. absurd (apart q))
+    (refused _ _ [] [] (first-decides (admitRows (e .args .s .now)) _ _ h) .0, λ count q. absurd (apart q))
 
 same-length : tie.Need-same-length
 same-length c = search needs

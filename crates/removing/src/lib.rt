@@ -1,4 +1,4 @@
-// Taking an edge out of a chart in a lent buffer.
+// Taking an edge out of a chart in a lent buffer (02, Note 7).
 ghost use mathlib.Core.Path.{_≡_};
 ghost use mathlib.Core.List.{[], _∷_, _++_};
 ghost use mathlib.Core.Option.{none};
@@ -11,7 +11,7 @@ ghost use Rattle.output.specs.Output.{writtenBy};
 ghost use Rattle.output.specs.declared.Written.the-variants.{Bytes};
 ghost use Rattle.edits.specs.Splice.{removed};
 ghost use Rattle.edits.specs.Edits.{removeWritten, removeLeft};
-ghost use Rattle.editing.specs.Removing.{shortRows};
+ghost use Rattle.removing.specs.Removing.{shortRows};
 use asking::checking::check_all;
 use chart::format::Chart;
 use chart::format::Checked;

@@ -1,6 +1,6 @@
--- `editing::removing::remove_from` meets its contract.
+-- `removing::remove_from` meets its contract.
 -- Assumes nothing.
-use mathlib.Core.Path.{_≡_, sym, _∙_}
+use mathlib.Core.Path.{_≡_, refl, sym, _∙_}
 use mathlib.Core.Bool.{false, not}
 use mathlib.Core.List.{[]}
 use native.Mathlib.Omega.{arith}
@@ -12,13 +12,13 @@ use Rattle.chart.specs.Reading.{edgeIn}
 use Rattle.chart.specs.Checked.{Laid}
 use Rattle.chart.proofs.Accepted.{laid}
 use Rattle.chart.proofs.Records.{edges-length}
+use Rattle.output.proofs.Outputs.{refused, passed}
 use Rattle.edits.specs.PlaceLaws.{at-place}
 use Rattle.edits.specs.EditLaws.{admitted-rising}
 use Rattle.asking.proofs.CheckLaws.{passed-none, refused-some, trailer-passes, chart-least, chart-most}
-use Rattle.editing.proofs.CommitLaws.{refused, passed}
-use Rattle.editing.proofs.RemoveLaws.{apart, no-edge, edge-there, short-front}
-use Rattle.editing.proofs.removing.remove_from.Statement.{statement}
-use Rattle.editing.proofs.removing.remove_from.Tie as tie
+use Rattle.removing.proofs.RemoveLaws.{apart, no-edge, edge-there, short-front}
+use Rattle.removing.proofs.remove_from.Statement.{statement}
+use Rattle.removing.proofs.remove_from.Tie as tie
 
 place-of-requires : tie.Need-place-of-requires
 place-of-requires c κs = let (admits, counts, long) = c .before .before .pre in rw counts (laid _ (trailer-passes _ admits))
@@ -38,7 +38,7 @@ returns c =
     let asked = c .before in
     let e = asked .before .before .before .before in
     let none-such = no-edge (e .args .s .now) (e .args .edge .from) (e .args .edge .to) (sym (asked .lacks-edge .ensures) ∙ c .if1 .taken) in
-    (refused _ _ [] [] 19 none-such .0, λ count q. absurd (apart q))
+    (refused _ _ [] [] none-such .0, λ count q. absurd (apart q))
 
 sub-size : tie.Need-sub-size
 sub-size c = let least = chart-least _ (c .before .before .before .before .before .pre .0) in omega arith
@@ -94,7 +94,7 @@ returns-2 c =
     let y = e .args .edge .to in
     let is = put .put-shorter .ensures x y (placed .place-of .ensures .0) in
     let h = refused-some _ _ (sym (k .check-all .ensures) ∙ c .before .refusal .given .1) in
-    (refused _ _ [] [] _ (edge-there s x y (there has) ∙ rw (short-front s x y (there has) (e .pre .0) _ is) at h) .0, λ count q. absurd (apart q))
+    (refused _ _ [] [] (edge-there s x y (there has) ∙ rw (short-front s x y (there has) (e .pre .0) _ is) at h) .0, λ count q. absurd (apart q))
 
 same-length-2 : tie.Need-same-length-2
 same-length-2 c = search needs
@@ -111,7 +111,7 @@ returns-3 c =
     let y = e .args .edge .to in
     let is = put .put-shorter .ensures x y (placed .place-of .ensures .0) in
     let h = passed-none _ _ (sym (k .check-all .ensures) ∙ c .enum-told .given .1) .0 in
-    (passed _ _ [] [] (edge-there s x y (there has) ∙ rw (short-front s x y (there has) (e .pre .0) _ is) at h) .0, λ count q. is)
+    (passed _ _ [] [] refl (edge-there s x y (there has) ∙ rw (short-front s x y (there has) (e .pre .0) _ is) at h) .0, λ count q. is)
 
 pub remove-from-spec : {M : Type 1} → statement M
 remove-from-spec =

@@ -1,6 +1,6 @@
 -- Removal: row 4 for the length, the rows of the present chart, row 19 and the rows of the shorter chart, which is copied to the front of the buffer.
 -- Assumes nothing.
-use mathlib.Core.Path.{_≡_, ap, sym, _∙_}
+use mathlib.Core.Path.{_≡_, refl, ap, sym, _∙_}
 use mathlib.Core.Bool.{true, false, not}
 use mathlib.Core.List.{List, [], _∷_, _++_}
 use mathlib.Core.Option.{none, some}
@@ -18,12 +18,12 @@ use Rattle.chart.proofs.Rows.{second-decides}
 use Rattle.paths.specs.Admission.{admitRows}
 use Rattle.output.specs.Output.{writtenBy}
 use Rattle.output.specs.declared.Written.the-variants.{Bytes, Refused}
+use Rattle.output.proofs.Outputs.{refused, passed}
 use Rattle.edits.specs.Splice.{removed}
 use Rattle.edits.specs.Edits.{lengthRow, noEdgeRow, removeRows, removeWritten, removeLeft}
 use Rattle.edits.specs.SpliceLaws.{removed-length}
 use Rattle.edits.specs.EditLaws.{admitted-laid, admitted-rising}
-use Rattle.editing.specs.Removing.{shortRows}
-use Rattle.editing.proofs.CommitLaws.{refused, passed}
+use Rattle.removing.specs.Removing.{shortRows}
 
 pub apart : {refusal : Refusal} {count : ℕ} → Refused refusal ≡ Bytes count → ⊥
 apart h = bad (cc)
@@ -58,7 +58,7 @@ module _ (buffer : List ℕ) (len x y : ℕ) where
 
   pub beyond : length buffer < len → (Refused (record { number = 4 }) ≡ removeWritten buffer len x y) × (buffer ≡ removeLeft buffer len x y)
   unfolding removeWritten removeLeft
-  beyond l = refused (removeRows buffer len x y) _ _ buffer 4 (too-long l)
+  beyond l = refused (removeRows buffer len x y) _ _ buffer (too-long l)
 
   module _ (l : len ≤ length buffer) where
     rows : firstOf (removeRows buffer len x y) ≡ firstOf (admitRows s ++ shortRows s x y)
@@ -68,11 +68,11 @@ module _ (buffer : List ℕ) (len x y : ℕ) where
     pub removal-refused : (number : ℕ) → firstOf (admitRows s ++ shortRows s x y) ≡ some number
         → (Refused (record { number = number }) ≡ removeWritten buffer len x y) × (buffer ≡ removeLeft buffer len x y)
     unfolding removeWritten removeLeft
-    removal-refused number h = refused (removeRows buffer len x y) _ _ buffer number (rows ∙ h)
+    removal-refused number h = refused (removeRows buffer len x y) _ _ buffer (rows ∙ h)
 
     pub removal-passed : {size : ℕ} {new : List ℕ} (part : List ℕ) → firstOf (admitRows s ++ shortRows s x y) ≡ none → len - 2 ≡ size → part ≡ removed s x y ++ (0 ∷ 0 ∷ [])
         → new ≡ part ++ drop (length part) buffer → (Bytes size ≡ removeWritten buffer len x y) × (new ≡ removeLeft buffer len x y)
     unfolding removeWritten removeLeft
     removal-passed part h q e n =
-        let (count, left) = passed (removeRows buffer len x y) (len - 2) (removed s x y ++ (0 ∷ 0 ∷ [])) buffer (rows ∙ h) in
+        let (count, left) = passed (removeRows buffer len x y) (len - 2) (removed s x y ++ (0 ∷ 0 ∷ [])) buffer refl (rows ∙ h) in
         (rw (← q) count, rw e at n ∙ left)

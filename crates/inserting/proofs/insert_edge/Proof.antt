@@ -1,13 +1,13 @@
--- `editing::inserting::insert_edge` meets its contract.
+-- `inserting::insert_edge` meets its contract.
 -- Assumes nothing.
 use mathlib.Core.Path.{sym, _∙_}
 use borrow.Author.Needs.{needs}
 use Rattle.edits.specs.Edits.{receiptFor, asked}
 use Rattle.edits.specs.AskingLaws.{granted}
 use Rattle.asking.proofs.AskLaws.{refused-some}
-use Rattle.editing.proofs.CommitLaws.{asking-refused, asking-passed}
-use Rattle.editing.proofs.inserting.insert_edge.Statement.{statement}
-use Rattle.editing.proofs.inserting.insert_edge.Tie as tie
+use Rattle.inserting.proofs.CommitLaws.{asking-refused, asking-passed}
+use Rattle.inserting.proofs.insert_edge.Statement.{statement}
+use Rattle.inserting.proofs.insert_edge.Tie as tie
 
 slice-aggregate-ask-into : tie.Need-slice-aggregate-ask-into
 slice-aggregate-ask-into c = search needs
