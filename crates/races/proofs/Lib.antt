@@ -1,4 +1,1 @@
-pub mod Bytes
-pub mod Meeting
 pub mod Outcome
-pub mod Sharing

@@ -1,71 +1,26 @@
 // Races as a call on slices (02, Note 9): for all pairs of a list of accesses, whether they race, and whether a lock keeps them apart. What the bytes
 // say about finished runs is in crate correctness, specs/RacesCorrect.antt.
 ghost use mathlib.Core.Path.{_≡_};
-ghost use mathlib.Core.Bool.{false};
-ghost use mathlib.Core.List.{[], _∷_, _++_};
-ghost use Prim.Native.Nat.{_≤_};
-ghost use lib.ListN.{length, drop};
-ghost use Rattle.lists.specs.Triangle.{pairCount};
+ghost use mathlib.Core.List.{[], _∷_};
+ghost use lib.ListN.{length};
 ghost use Rattle.chart.specs.Checked.{reading};
 ghost use Rattle.loading.specs.Tables.{Accepted};
 ghost use Rattle.profiles.specs.Marks.{Marks};
 ghost use Rattle.profiles.specs.declared.chains.Sets.{Sets};
 ghost use Rattle.output.specs.Output.{outputRows, writtenBy, leftBy};
-ghost use Rattle.accesses.specs.Access.{total, badAccesses, accessesRow};
+ghost use Rattle.accesses.specs.Access.{accessesRow};
 ghost use Rattle.accesses.specs.Races.{races as racesOf, racesWritten, racesLeft};
-use crate::list::bad_accesses;
+use access_list::bad_accesses;
 use chart::format::Chart;
 use chart::format::Refusal;
-use closed_nodes::load_closed;
-use critical_names::fill_names;
 use output::Written;
 use output::room_for;
 use profiles::marks::MaskTable;
 use profiles::marks::ROWS;
-use race_lines::THIRDS;
-use race_lines::fill_lines;
-use race_lines::gather_names;
-use race_pairs::fill_races;
-use race_rows::WORDS;
+use race_bytes::put_races;
 use same_variable::RECORD;
-use sheet_rows::SETS;
-use sheet_rows::gather_all;
 use survey::Surveyed;
 use survey::survey;
-use unions::BITS;
-
-pub mod list;
-
-// The bytes, of a list that row 20 lets pass.
-fn put_races(s: &[u8], chart: Chart, marks: &MaskTable, accesses: &[u8], out: &mut [u8])
-    requires { ⌜ Accepted (now s) chart
-        × ((sets : Sets) × Marks (reading (now s) chart) (now marks) sets)
-        × (badAccesses (reading (now s) chart) (now accesses) ≡ false)
-        × (pairCount (total (now accesses)) ≤ length (now out)) ⌝ }
-    ensures { λ _.
-        let result = racesOf (reading (now (s .entry)) chart) (now (accesses .entry)) in
-        ⌜ now (out .exit) ≡ result ++ drop (length result) (now (out .entry)) ⌝ }
-{
-    let mut names = [0u64; Chart::NODES];
-    fill_names(s, chart, &mut names);
-    let mut closed = [0u8; Chart::NODES];
-    load_closed(s, chart, &mut closed);
-    let mut nodes = [[0u64; BITS]; SETS];
-    gather_all(marks, &closed, &mut nodes);
-    let mut named = [[0u64; BITS]; THIRDS];
-    gather_names(&names, &closed, &mut named);
-    let mut lines = [[0u64; WORDS]; Chart::NODES];
-    fill_lines(
-        chart.nodes,
-        marks,
-        &names,
-        &closed,
-        &nodes,
-        &named,
-        &mut lines,
-    );
-    fill_races(accesses, &lines, out);
-}
 
 // Rows 20 and 11 and the bytes, of a chart whose nodes are marked.
 fn write_races(

@@ -1,4 +1,4 @@
--- `races::put_races` meets its contract.
+-- `race_bytes::put_races` meets its contract.
 -- Assumes nothing.
 use mathlib.Core.Path.{_≡_, ap, _∙_}
 use mathlib.Core.List.{List, _++_}
@@ -11,9 +11,9 @@ use Rattle.chart.specs.Checked.{reading}
 use Rattle.chart.proofs.Records.{nodes-length}
 use Rattle.accesses.specs.Access.{accessAt}
 use Rattle.accesses.specs.RaceLaws.{whole-accesses, few-accesses}
-use Rattle.races.proofs.Bytes.{fields-fit, all-pairs}
-use Rattle.races.proofs.put_races.Statement.{statement}
-use Rattle.races.proofs.put_races.Tie as tie
+use Rattle.race_bytes.proofs.Bytes.{fields-fit, all-pairs}
+use Rattle.race_bytes.proofs.put_races.Statement.{statement}
+use Rattle.race_bytes.proofs.put_races.Tie as tie
 
 fill-names-requires : tie.Need-fill-names-requires
 fill-names-requires c κs = search needs

@@ -1,4 +1,4 @@
--- `races::list::bad_access` meets its contract.
+-- `access_list::bad_access` meets its contract.
 -- Assumes nothing.
 use Prim.Native.Nat.{_+_, _*_, _≤_}
 use native.Mathlib.Omega.{arith}
@@ -6,8 +6,8 @@ use lib.ListN.{getD}
 use borrow.Author.Needs.{needs}
 use borrow.Author.Tests.{lt-ltb, le-ltb}
 use Rattle.accesses.specs.Access.{accessAt, badAccess}
-use Rattle.races.proofs.list.bad_access.Statement.{statement}
-use Rattle.races.proofs.list.bad_access.Tie as tie
+use Rattle.access_list.proofs.bad_access.Statement.{statement}
+use Rattle.access_list.proofs.bad_access.Tie as tie
 
 mul-if1 : tie.Need-mul-if1
 mul-if1 c = search needs

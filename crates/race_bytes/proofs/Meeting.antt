@@ -22,7 +22,7 @@ use Rattle.accesses.specs.Races.{raceAt}
 use Rattle.critical_names.specs.Names.{Names}
 use Rattle.race_rows.specs.Bytes.{lineRace}
 use Rattle.race_lines.specs.Lines.{meets, raceBy, LineOf}
-use Rattle.races.proofs.Sharing.{share-by}
+use Rattle.race_bytes.proofs.Sharing.{share-by}
 
 module _ {R : Region} {marks : List (List ℕ)} {sets : Sets} (M : Marks R marks sets) (a b : ℕ) (la : a < R .nodes) (lb : b < R .nodes) where
   -- the constructs that both hold, by their kinds

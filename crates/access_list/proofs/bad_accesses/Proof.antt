@@ -1,4 +1,4 @@
--- `races::list::bad_accesses` meets its contract. The loop's invariant: none of the accesses passed is bad.
+-- `access_list::bad_accesses` meets its contract. The loop's invariant: none of the accesses passed is bad.
 -- Assumes nothing.
 use mathlib.Core.Path.{_≡_, refl, sym, _∙_}
 use mathlib.Core.Bool.{Bool, true, false}
@@ -12,8 +12,8 @@ use Rattle.chart.specs.Region.{Region}
 use Rattle.chart.specs.Checked.{reading}
 use Rattle.chart.proofs.Records.{nodes-length}
 use Rattle.accesses.specs.Access.{total, accessAt, badAccess, badAccesses}
-use Rattle.races.proofs.list.bad_accesses.Statement.{statement}
-use Rattle.races.proofs.list.bad_accesses.Tie as tie
+use Rattle.access_list.proofs.bad_accesses.Statement.{statement}
+use Rattle.access_list.proofs.bad_accesses.Tie as tie
 
 abbrev Inv-loop : tie.InvT-loop
 Inv-loop s chart accesses n closed i₀ i =
