@@ -12,7 +12,7 @@ use Rattle.output.specs.declared.Written.the-variants.{Bytes}
 use Rattle.listing.specs.Grammar.{listed}
 use Rattle.listing.specs.Call.{blockRead, listingBytes, listingRows, listingWritten, listingLeft}
 use Rattle.listing.specs.CallLaws.{listing-read, listing-decoded, listing-admitted}
-use Rattle.correctness.specs.ListingCorrect.{ListingChart, ListingCorrect}
+use Rattle.correctness.specs.ListingCorrect.{ListingCorrect}
 
 module _ (text old : List ℕ) where
   refused : (row : ℕ) → firstOf (listingRows text (length old)) ≡ some row → (numberOf (listingWritten text old) ≡ numberOf (written (some row) 0)) × (listingLeft text old ≡ old)

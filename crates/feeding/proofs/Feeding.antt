@@ -10,7 +10,7 @@ use lib.Bits.{bitOr, or-lt}
 use lib.Pow.{pow-pos, pow-lt}
 use lib.ListN.{length, getD, set, length-set, replicate, length-replicate}
 use lib.Seq.{getD-set-same}
-use Rattle.lists.specs.Mask.{Has, Sub, or-cases, or-left, or-right, has-none, has-own, has-pow}
+use Rattle.lists.specs.Mask.{Has, or-cases, or-left, or-right, has-none, has-own, has-pow}
 use Rattle.lists.specs.Store.{at-set, zeros}
 use Rattle.sweeps.specs.Sweep.{Between}
 use Rattle.feeding.specs.Fed.{Via, Fed, Owned}

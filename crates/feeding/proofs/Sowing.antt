@@ -9,7 +9,7 @@ use native.Mathlib.Decide.{ℕ-discrete, decLt}
 use lib.Bits.{bitOr, or-comm}
 use lib.Pow.{pow-pos, pow-lt, pow-mono}
 use lib.ListN.{length, getD, set, length-set, replicate, length-replicate, getD-replicate}
-use Rattle.lists.specs.Mask.{Has, Mask, or-more, has-above, has-own, has-pow}
+use Rattle.lists.specs.Mask.{Has, or-more, has-above, has-own, has-pow}
 use Rattle.lists.specs.Store.{at-set, zeros}
 use Rattle.sweeps.specs.Sweep.{Between}
 use Rattle.levels.specs.Steps.{Leads}

@@ -3,10 +3,9 @@
 use mathlib.Core.Path.{_≡_}
 use mathlib.Core.Logic.{_⊎_}
 use mathlib.Core.List.{List}
-use Prim.Native.Nat.{ℕ, _+_, _^_, _<_}
+use Prim.Native.Nat.{ℕ, _^_, _<_}
 use lib.ListN.{length, getD}
 use Rattle.lists.specs.Mask.{Has, Sub, Mask}
-use Rattle.sweeps.specs.Sweep.{Between}
 use Rattle.levels.specs.Steps.{Leads}
 
 -- An edge leads to y from a node that has bit b.

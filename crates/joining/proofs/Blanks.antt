@@ -1,17 +1,16 @@
 -- Nodes that were missed, by a count: where all barriers have 0, another node has it exactly when there are more zeros than barriers.
 -- Assumes nothing.
-use mathlib.Core.Path.{_≡_, ap, _∙_}
+use mathlib.Core.Path.{_≡_, _∙_}
 use mathlib.Core.Logic.{_⊎_, inl, inr}
-use mathlib.Core.Bool.{Bool, true, false, _&&_, not, cond}
+use mathlib.Core.Bool.{Bool, true, false, _&&_, not}
 use mathlib.Core.List.{List}
-use Prim.Native.Nat.{ℕ, _+_, _≤_, _<_}
+use Prim.Native.Nat.{ℕ, _+_}
 use native.Mathlib.Omega.{arith}
-use native.Mathlib.Decide.{ℕ-discrete}
 use lib.Dec.{eqb}
 use lib.ListN.{getD}
 use borrow.Author.Tests.{eq-eqb, ne-eqb}
 use Rattle.lists.specs.Truth.{truth}
-use Rattle.lists.specs.Range.{any, any-at, any-none, none-passes, count, count-one, count-none}
+use Rattle.lists.specs.Range.{any, any-at, none-passes, count, count-one, count-none}
 use Rattle.lists.specs.Counting.{one, count-sum}
 use Rattle.lists.specs.Select.{select-length}
 use Rattle.chart.specs.Region.{Region}

@@ -1,16 +1,16 @@
 -- The rows of the call: those of reading, and those that are left for the chart.
 -- Assumes nothing.
 use mathlib.Core.Path.{_≡_, refl, ap, sym, _∙_}
-use mathlib.Core.Logic.{_⊎_, inl, inr}
-use mathlib.Core.Bool.{Bool, true, false, _||_}
-use mathlib.Core.List.{List, [], _∷_, _++_}
-use mathlib.Core.Option.{Option, none, some}
+use mathlib.Core.Logic.{inl, inr}
+use mathlib.Core.Bool.{Bool, true, false}
+use mathlib.Core.List.{List, _++_}
+use mathlib.Core.Option.{none, some}
 use Prim.Native.Nat.{ℕ, _+_, _*_, _≤_, _<_}
 use native.Mathlib.Omega.{arith}
 use native.Mathlib.Nat.{zero-add}
 use lib.Dec.{ltb}
 use lib.ListN.{length, take, drop, take-append-drop}
-use borrow.Author.Tests.{lt-ltb, le-ltb, eq-eqb, ne-eqb, ltb-false}
+use borrow.Author.Tests.{lt-ltb, le-ltb, ltb-false}
 use Rattle.lists.specs.Truth.{bad, or-neither}
 use Rattle.chart.specs.Format.{decode, constructBytes}
 use Rattle.chart.specs.Refusal.{Row, badNodes, badConstructs, badBarriers, firstOf}
@@ -25,7 +25,7 @@ use Rattle.encoding.specs.Trailer.{trailerFor}
 use Rattle.listing.specs.Tree.{Block, nodeCount, constructCount}
 use Rattle.listing.specs.Grammar.{Read, upTo, stopped, pick, listed}
 use Rattle.listing.specs.GrammarLaws.{Kinds, Fine, listed-fine}
-use Rattle.listing.specs.Meaning.{blockEdges, blockChart, blockBytes}
+use Rattle.listing.specs.Meaning.{blockBytes}
 use Rattle.listing.specs.Call.{blockRead, stoppedBy, tooMany, blockRows, listingBytes, listingRows, listingWritten, listingLeft}
 use Rattle.listing.specs.Counts.{too-many, length-blockConstructs}
 use Rattle.listing.specs.BlockTables.{length-nodes}

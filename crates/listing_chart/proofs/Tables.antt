@@ -10,7 +10,7 @@ use lib.Dec.{eqb}
 use lib.ListN.{length, take}
 use lib.Seq.{length-take-le}
 use Rattle.lists.specs.Truth.{bad}
-use Rattle.chart.specs.Format.{outside, constructBytes, size}
+use Rattle.chart.specs.Format.{outside, constructBytes}
 use Rattle.chart.specs.declared.format.Chart.{Chart}
 use Rattle.encoding.specs.Bytes.{fieldBytes, trailerBytes}
 use Rattle.encoding.specs.Encode.{nodeRecord, edgeRecord, constructRecord, flat, encode}
@@ -18,12 +18,11 @@ use Rattle.encoding.specs.Trailer.{trailerFor}
 use Rattle.listing.specs.Tree.{Block, nodeCount, constructCount, first, stop, cell, two, cells, constructs}
 use Rattle.listing.specs.Grammar.{mostDepth, Read, upTo, stopped, after, pick, blockOf, listed}
 use Rattle.listing.specs.Flow.{two-same}
-use Rattle.listing.specs.Meaning.{writtenEdition, kindByte, whole, edgesOf, blockNodes, blockEdges, blockConstructs, blockBytes}
+use Rattle.listing.specs.Meaning.{kindByte, whole, edgesOf, blockNodes, blockEdges, blockConstructs, blockBytes}
 use Rattle.listing.specs.BlockTables.{length-nodes}
 use Rattle.listing.specs.Counts.{length-blockConstructs, block-length}
 use Rattle.listing_records.specs.Stored.{Stored, StoredParts}
 use Rattle.listing_tables.proofs.Joining.{stored-joined}
-use Rattle.listing_chart.specs.Chart.{countsFor}
 
 pub listed-read : (s : List ℕ) (b : Block) (last : ℕ) → listed s ≡ upTo b last → blockOf (suc (length s)) s mostDepth 0 ≡ upTo b last
 unfolding listed

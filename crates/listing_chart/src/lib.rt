@@ -2,7 +2,7 @@
 // has let it pass.
 ghost use mathlib.Core.Path.{_≡_};
 ghost use mathlib.Core.List.{_++_};
-ghost use Prim.Native.Nat.{ℕ, suc, _+_, _*_, _≤_};
+ghost use Prim.Native.Nat.{ℕ, _+_, _*_, _≤_};
 ghost use lib.ListN.{length, take};
 ghost use Rattle.chart.specs.Checked.{Laid};
 ghost use Rattle.encoding.specs.Bytes.{trailerBytes};

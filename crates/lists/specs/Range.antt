@@ -63,10 +63,14 @@ at-any (suc n) f k l h = go (λ l. at-any n f k l h) (ℕ-discrete k n)
     go r (yes q) = or-right (any n f) (f n) (ap f (sym q) ∙ h)
     go r (no q) = or-left (any n f) (f n) (r (omega arith))
 
--- the turn of a loop that looks for one that passes
-pub any-more : (n : ℕ) (f : ℕ → Bool) → any n f ≡ false → f n ≡ false → any (n + 1) f ≡ false
+-- the turn of a loop that asks all
+pub any-next : (n : ℕ) (f : ℕ → Bool) → any (n + 1) f ≡ (any n f || f n)
 unfolding any
-any-more n f h g = rw (add-one n, any, h, g)
+any-next n f = rw (add-one n, any)
+
+-- the turn of one that ends with the first that passes
+pub any-more : (n : ℕ) (f : ℕ → Bool) → any n f ≡ false → f n ≡ false → any (n + 1) f ≡ false
+any-more n f h g = rw (any-next n f, h, g)
 
 pub none-passes : (n : ℕ) (f : ℕ → Bool) → any n f ≡ false → (k : ℕ) → k < n → f k ≡ false
 none-passes n f h k l = false-if (λ g. clash (at-any n f k l g) h)

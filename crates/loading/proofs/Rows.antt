@@ -1,7 +1,7 @@
 -- Rows 1 to 10 by the outcome of rows 1 to 9: `check` has refused a chart, or let it pass, and then row 10 decides.
 -- Assumes nothing.
 use mathlib.Core.Path.{_≡_, _∙_}
-use mathlib.Core.Bool.{Bool, true, false}
+use mathlib.Core.Bool.{true, false}
 use mathlib.Core.List.{List, [], _∷_}
 use mathlib.Core.Option.{none, some}
 use Prim.Native.Nat.{ℕ}

@@ -1,25 +1,19 @@
 -- Row 5 of each node by itself: no node is bad that is not doubtful.
 -- Assumes nothing.
-use mathlib.Core.Path.{_≡_, refl}
+use mathlib.Core.Path.{_≡_}
 use mathlib.Core.Bool.{Bool, false, _||_, cond}
 use mathlib.Core.List.{List}
-use Prim.Native.Nat.{ℕ, _+_}
+use Prim.Native.Nat.{ℕ}
 use native.Mathlib.Decide.{ℕ-discrete}
-use native.Mathlib.Numerals.{add-one}
 use lib.Dec.{eqb, ltb, leb}
 use lib.ListN.{length}
 use borrow.Author.Tests.{lt-ltb, leb-false, eq-eqb, ne-eqb}
 use Rattle.lists.specs.Truth.{and-false, or-neither}
 use Rattle.lists.specs.Range.{any, any-none, none-passes}
-use Rattle.chart.specs.Format.{outside, Construct, Decoded, nodeAt}
+use Rattle.chart.specs.Format.{outside, Construct, Decoded}
 use Rattle.chart.specs.Scope.{barrierNode, beginNode, endNode}
 use Rattle.chart.specs.Refusal.{badNode}
 use Rattle.nodes.specs.Parts.{doubtful, doubtfulAt, aloneAt}
-
--- the turn of a loop that asks all
-pub any-next : (n : ℕ) (f : ℕ → Bool) → any (n + 1) f ≡ (any n f || f n)
-unfolding any
-any-next n f = rw (add-one n, any)
 
 -- no other node is bad by itself
 in-order : (constructs : List Construct) (kind number : ℕ) → doubtful (length constructs) kind number ≡ false → badNode constructs kind number ≡ false

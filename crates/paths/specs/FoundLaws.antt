@@ -1,10 +1,9 @@
 -- What a search finds, read in another graph that has the same edges; and a graph with its edges turned round.
 -- Assumes nothing.
-use mathlib.Core.Path.{_≡_, _∙_}
+use mathlib.Core.Path.{_∙_}
 use mathlib.Core.List.{List}
-use Prim.Native.Nat.{ℕ, _≤_, _<_}
+use Prim.Native.Nat.{ℕ}
 use native.Mathlib.Omega.{arith}
-use lib.ListN.{getD}
 use Rattle.lists.specs.Mask.{mask-carry}
 use Rattle.paths.specs.PathLaws.{carry, edges-carry}
 use Rattle.paths.specs.Graph.{Listed}

@@ -17,7 +17,7 @@ use Rattle.lists.specs.Least.{Least, least-is}
 use Rattle.chart.specs.Region.{barrier, Region}
 use Rattle.chart.specs.WellFormed.{WellFormed}
 use Rattle.paths.specs.Path.{Path, last, next, edges, Edge, Any, Open, BarrierFree}
-use Rattle.paths.specs.PathLaws.{append, edges-append, edges-some, carry, edges-carry, From, cut-last}
+use Rattle.paths.specs.PathLaws.{append, edges-append, edges-some, carry, edges-carry, cut-last}
 use Rattle.paths.specs.ReachLaws.{distance-path, path-distance}
 use Rattle.paths.specs.Decide.{noBarrier, no-barrier, barrier-no}
 use Rattle.phases.specs.Phases.{forward, barriers, barrierAt, edgesFree, nearest}

@@ -12,7 +12,7 @@ use Rattle.lists.specs.Truth.{and-both, both-and}
 use Rattle.lists.specs.Mask.{Mask, maskOf, mask-of, mask-carry}
 use Rattle.chart.specs.Format.{Construct, decode, constructAt}
 use Rattle.chart.specs.Region.{master, Region}
-use Rattle.chart.specs.Scope.{masterByte, criticalByte, kindOf}
+use Rattle.chart.specs.Scope.{masterByte, kindOf}
 use Rattle.chart.specs.Checked.{reading}
 use Rattle.chart.specs.declared.format.Chart.{Chart}
 use Rattle.chart.proofs.Records.{no-filter}

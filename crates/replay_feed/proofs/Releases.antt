@@ -9,7 +9,6 @@ use native.Mathlib.Decide.{decLt}
 use lib.ListN.{length, getD, set, length-set, replicate, length-replicate}
 use Rattle.lists.specs.Truth.{is, is-true, true-is, false-if}
 use Rattle.lists.specs.Bits.{mask-empty}
-use Rattle.lists.specs.Mask.{maskOf}
 use Rattle.lists.specs.Store.{at-set, zeros}
 use Rattle.team.specs.State.{State, released}
 use Rattle.replay_steps.specs.Tables.{Shows}

@@ -8,13 +8,12 @@ use Prim.Native.Nat.{ℕ, suc, _+_, _*_, _≤_, _<_}
 use native.Mathlib.Omega.{arith}
 use native.Mathlib.Decide.{decLt}
 use native.Mathlib.Nat.{mul-le-mul-right, suc-mul}
-use native.Mathlib.Numerals.{add-one}
 use lib.Dec.{eqb}
 use lib.ListN.{length, getD, set, length-set}
 use lib.Seq.{getD-set-other}
 use borrow.Author.Tests.{eq-eqb, ne-eqb, eqb-true}
 use Rattle.lists.specs.Truth.{false-if, and-both, or-right, or-false}
-use Rattle.lists.specs.Range.{any}
+use Rattle.lists.specs.Range.{any, any-next}
 use Rattle.lists.specs.Rows.{row-room}
 use Rattle.lists.specs.Store.{at-set}
 use Rattle.replay_marks.specs.Marks.{Sheet, Kept}
@@ -83,11 +82,6 @@ pair-met met t k d p q a b = rw (p, q, ne-eqb t k d)
 
 pub pair-one : (met : ℕ → ℕ → Bool) (t k u w : ℕ) → t ≡ k → (a b : ℕ) → met a b ≡ (met a b || (not (eqb t k) && (eqb u a && eqb w b)))
 pair-one met t k u w q a b = rw (eq-eqb t k q) (sym (or-false (met a b)))
-
--- one more turn of a loop that marks
-any-next : (n : ℕ) (f : ℕ → Bool) → any (n + 1) f ≡ (any n f || f n)
-unfolding any
-any-next n f = rw (add-one n)
 
 or-assoc : (a b c : Bool) → ((a || b) || c) ≡ (a || (b || c))
 or-assoc true b c = refl

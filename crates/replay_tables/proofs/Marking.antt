@@ -1,12 +1,11 @@
 -- One edge more in the masks of the nodes that edges lead to.
 -- Assumes nothing.
 use mathlib.Core.Path.{_≡_, sym, _∙_, ap}
-use mathlib.Core.Logic.{_⊎_, inl, inr}
+use mathlib.Core.Logic.{inl, inr}
 use mathlib.Core.Bool.{Bool, true, false, _&&_, _||_}
 use mathlib.Core.List.{List}
 use Prim.Native.Nat.{ℕ, _+_, _*_, _/_, _%_, _^_, _<_}
 use native.Mathlib.Omega.{arith}
-use native.Mathlib.Numerals.{add-one}
 use lib.Bits.{bitOr}
 use lib.Dec.{eqb}
 use lib.ListN.{length, getD, set}
@@ -16,7 +15,7 @@ use Rattle.lists.specs.Truth.{or-cases as either}
 use Rattle.lists.specs.Bits.{has}
 use Rattle.lists.specs.Mask.{Has, has-none, has-own, has-pow, or-cases}
 use Rattle.lists.specs.Mask.{or-left as or-first, or-right as or-second}
-use Rattle.lists.specs.Range.{any, any-at, at-any}
+use Rattle.lists.specs.Range.{any, any-at, any-next, at-any}
 use Rattle.lists.specs.Store.{at-set}
 use Rattle.chart.specs.Format.{Edge, decode}
 use Rattle.chart.specs.Checked.{reading}
@@ -43,10 +42,6 @@ has-more b i w = same-truth _ _ to from
       where
         own : b ≡ i → Has (2 ^ b) i
         own e = rw (sym e) (has-own b)
-
-any-next : (n : ℕ) (f : ℕ → Bool) → any (n + 1) f ≡ (any n f || f n)
-unfolding any
-any-next n f = rw (add-one n)
 
 -- no edge yet
 pub marked-none : (froms tos : List ℕ) {table : List ℕ} → ((j : ℕ) → j < 1024 → getD table j 0 ≡ 0) → Marked froms tos 0 table

@@ -1,7 +1,7 @@
 -- The columns make the table of the region.
 -- Assumes nothing.
-use mathlib.Core.Path.{_≡_, refl, sym, _∙_, ap, subst}
-use mathlib.Core.Logic.{_⊎_, inl, inr}
+use mathlib.Core.Path.{_≡_, refl, sym, _∙_, ap}
+use mathlib.Core.Logic.{inl, inr}
 use mathlib.Core.Bool.{Bool, true, false, _&&_, cond}
 use mathlib.Core.List.{List}
 use Prim.Native.Nat.{ℕ, _+_, _-_, _*_, _/_, _%_, _≤_, _<_}
@@ -17,7 +17,7 @@ use Rattle.chart.specs.Format.{outside, Node, noNode, Decoded, decode, nodeAt, 
 use Rattle.chart.specs.Region.{Region}
 use Rattle.chart.specs.Scope.{beginNode, endNode, kindOf, parentOf, liesIn, liesAt}
 use Rattle.chart.specs.Nested.{countsIn}
-use Rattle.chart.specs.Reading.{insideAt, frameOf}
+use Rattle.chart.specs.Reading.{insideAt}
 use Rattle.chart.specs.Checked.{reading}
 use Rattle.chart.specs.declared.format.Chart.{Chart}
 use Rattle.chart.proofs.Records.{nodes-length, constructs-length}

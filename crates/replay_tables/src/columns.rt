@@ -1,10 +1,9 @@
 // The columns of the nodes and of the constructs.
 ghost use mathlib.Core.Path.{_≡_};
-ghost use mathlib.Core.Bool.{cond};
 ghost use Prim.Native.Nat.{ℕ, _+_, _*_, _≤_, _<_};
 ghost use lib.ListN.{length, getD};
 ghost use Rattle.lists.specs.Bits.{has as hasBit};
-ghost use Rattle.chart.specs.Format.{decode, nodeAt};
+ghost use Rattle.chart.specs.Format.{decode};
 ghost use Rattle.chart.specs.Scope.{liesAt};
 ghost use Rattle.loading.specs.Tables.{Accepted};
 ghost use Rattle.replay_tables.specs.Words.{Column, roleCode, nodeWord, constructWord, Above};

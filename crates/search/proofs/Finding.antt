@@ -1,7 +1,7 @@
 -- What the sources' edges bring and sweeps close is what a search finds; and the edges of a table, forward and turned round.
 -- Assumes nothing.
 use mathlib.Core.Path.{_≡_, refl, sym, _∙_}
-use mathlib.Core.Logic.{_⊎_, inl, inr, ⊎-elim}
+use mathlib.Core.Logic.{_⊎_, ⊎-elim}
 use mathlib.Core.List.{List}
 use Prim.Native.Nat.{ℕ, _+_, _^_, _≤_, _<_}
 use native.Mathlib.Omega.{arith}
@@ -14,13 +14,13 @@ use Rattle.lists.specs.Mask.{Has, Sub, Mask, mask-carry, has-none}
 use Rattle.lists.specs.Store.{zeros}
 use Rattle.paths.specs.Path.{Path, last, next}
 use Rattle.paths.specs.PathLaws.{append, final}
-use Rattle.paths.specs.Graph.{Listed, Places, Rising}
+use Rattle.paths.specs.Graph.{Listed, Places}
 use Rattle.paths.specs.Found.{Clear, Reached, Leveled}
 use Rattle.paths.specs.FoundLaws.{leveled-carry, listed-turned}
 use Rattle.sorting.proofs.Sort.{rising-at, rising-in, places-rise}
 use Rattle.sweeps.specs.Sweep.{Between, Lies, Carried, Closed}
 use Rattle.sweeps.specs.SweepLaws.{Inner, carried, carried-long, masks-found}
-use Rattle.splitting.specs.Parts.{row, Come, Split}
+use Rattle.splitting.specs.Parts.{row, Split}
 use Rattle.splitting.proofs.Splitting.{parted-inner, parted-turned}
 use Rattle.feeding.specs.Fed.{Fed, Owned, Sowed, Stored}
 use Rattle.levels.specs.Steps.{Leads, Bounded}

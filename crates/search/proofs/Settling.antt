@@ -2,14 +2,14 @@
 -- Assumes nothing.
 use mathlib.Core.Path.{_≡_, refl, ap, sym, _∙_, subst}
 use mathlib.Core.List.{List}
-use Prim.Native.Nat.{ℕ, zero, suc, _+_, _≤_, _<_}
+use Prim.Native.Nat.{ℕ, zero, suc, _<_}
 use native.Mathlib.Omega.{arith}
 use native.Mathlib.Decide.{ℕ-discrete}
 use lib.Pow.{pow-pos, pow-lt}
 use lib.ListN.{length, getD, set, length-set}
 use Rattle.lists.specs.Store.{at-set}
 use Rattle.lists.specs.Mask.{Mask, has-none, has-own, has-pow}
-use Rattle.paths.specs.Path.{Path, last, next}
+use Rattle.paths.specs.Path.{last, next}
 use Rattle.paths.specs.Graph.{Listed, Places}
 use Rattle.paths.specs.Found.{Clear, Reached, Leveled}
 use Rattle.splitting.specs.Parts.{row, Split}

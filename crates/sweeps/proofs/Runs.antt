@@ -1,11 +1,11 @@
 -- What a sweep does: it keeps bounds, values change one way, the weight falls unless it is quiet, a quiet one changes nothing, and one
 -- that runs ahead leaves all its edges closed.
 -- Assumes nothing.
-use mathlib.Core.Path.{_≡_, refl, sym, _∙_}
+use mathlib.Core.Path.{_≡_, refl, _∙_}
 use mathlib.Core.Logic.{_⊎_, ⊎-elim}
 use mathlib.Core.Bool.{Bool, true, false}
 use mathlib.Core.List.{List, [], _∷_}
-use Prim.Native.Nat.{ℕ, zero, suc, _+_, _-_, _^_, _≤_, _<_, min}
+use Prim.Native.Nat.{ℕ, zero, suc, _+_, _-_, _≤_, _<_}
 use native.Mathlib.Omega.{arith}
 use native.Mathlib.Decide.{ℕ-discrete}
 use borrow.Author.Count.{below-more}
@@ -14,7 +14,7 @@ use lib.ListN.{length, getD, set, length-set}
 use lib.Seq.{getD-set-same, getD-set-other}
 use Rattle.lists.specs.Mask.{Sub, or-left, or-right, or-more}
 use Rattle.lists.specs.Store.{at-set}
-use Rattle.sweeps.specs.Sweep.{Between, place, passed, Step, Run, none, more, Carried, start, then, Closed, Ahead, weight, gap, flag, Kind}
+use Rattle.sweeps.specs.Sweep.{Between, place, Step, Run, none, more, Carried, start, then, Closed, Ahead, weight, gap, Kind}
 use Rattle.sweeps.specs.LevelLaws.{nearer, Follows}
 
 -- nothing is new in two sweeps exactly when nothing is in either

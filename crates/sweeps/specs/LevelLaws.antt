@@ -1,7 +1,7 @@
 -- Levels that start as 1 at the nodes to which the sources' edges lead and as 254, no level, elsewhere, that passed along edges of the
 -- lists, and that are closed along all of them, are the fewest edges of paths.
 -- Assumes nothing.
-use mathlib.Core.Path.{_≡_, refl, sym, _∙_}
+use mathlib.Core.Path.{_≡_, refl, _∙_}
 use mathlib.Core.List.{List, [], _∷_}
 use Prim.Native.Nat.{ℕ, zero, suc, _+_, _-_, _≤_, _<_, min}
 use native.Mathlib.Omega.{arith}

@@ -1,6 +1,5 @@
 // Masks closed along the edges of two lists, rising ones in front and falling ones at the back, in either direction.
 ghost use mathlib.Core.Path.{_≡_};
-ghost use mathlib.Core.Bool.{Bool};
 ghost use Prim.Native.Nat.{ℕ, _≤_, _<_};
 ghost use lib.Bits.{bitOr};
 ghost use lib.ListN.{getD, length};

@@ -1,11 +1,11 @@
 -- `eights::put` meets its contract. The loop's invariant: the bytes passed are there, and the others are left of the word.
 -- Assumes nothing.
-use mathlib.Core.Path.{_≡_, refl, ap, sym, _∙_}
+use mathlib.Core.Path.{_≡_, refl, sym, _∙_}
 use Prim.Native.Nat.{ℕ, _+_, _*_, _-_, _/_, _%_, _^_, _≤_, _<_}
 use native.Mathlib.Omega.{arith}
 use lib.ListN.{length, getD, set, length-set}
 use lib.Pow.{shr-shr}
-use lib.Seq.{getD-set-same, getD-set-other}
+use lib.Seq.{getD-set-other}
 use Rattle.lists.specs.Store.{at-set}
 use Rattle.eights.proofs.put.Statement.{statement}
 use Rattle.eights.proofs.put.Tie as tie

@@ -1,7 +1,5 @@
 -- `eights::spread` meets its contract.
 -- Assumes nothing.
-use mathlib.Core.Path.{_≡_, refl, ap, sym, _∙_}
-use Prim.Native.Nat.{ℕ}
 use native.Mathlib.Omega.{arith}
 use Rattle.eights.proofs.Spreads.{spread-is, bits-most}
 use Rattle.eights.proofs.spread.Statement.{statement}

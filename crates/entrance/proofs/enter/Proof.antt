@@ -1,6 +1,6 @@
 -- `entrance::enter` meets its contract: rows 1 to 10 of the outermost region, and where none of them applies row 23.
 -- Assumes nothing.
-use mathlib.Core.Path.{_≡_, sym, _∙_}
+use mathlib.Core.Path.{sym, _∙_}
 use borrow.Author.Needs.{needs}
 use Rattle.lists.specs.Truth.{bad}
 use Rattle.outermost.proofs.Entering.{entered-refused, entered-marked, entered-counts}

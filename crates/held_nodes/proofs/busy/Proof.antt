@@ -4,9 +4,8 @@ use mathlib.Core.Path.{_≡_, refl, ap, _∙_}
 use Prim.Native.Nat.{ℕ, _≤_, _-_}
 use native.Mathlib.Omega.{arith}
 use borrow.Author.Needs.{needs}
-use Rattle.lists.specs.Range.{any}
+use Rattle.lists.specs.Range.{any, any-next}
 use Rattle.chart.specs.Format.{decode}
-use Rattle.nodes.proofs.Alone.{any-next}
 use Rattle.held_nodes.specs.Below.{namedFrom}
 use Rattle.held_nodes.proofs.busy.Statement.{statement}
 use Rattle.held_nodes.proofs.busy.Tie as tie

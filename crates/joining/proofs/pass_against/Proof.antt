@@ -1,6 +1,5 @@
 -- `joining::pass_against` meets its contract: the barriers from `left` on have had their turn.
 -- Assumes nothing.
-use mathlib.Core.Path.{_≡_}
 use mathlib.Core.Bool.{true}
 use Prim.Native.Nat.{_≤_, _<_, _-_}
 use native.Mathlib.Omega.{arith}

@@ -1,6 +1,5 @@
 -- `listing_tables::put_end` meets its contract.
 -- Assumes nothing.
-use mathlib.Core.Path.{_≡_}
 use Prim.Native.Nat.{_+_, _%_}
 use native.Mathlib.Omega.{arith}
 use Rattle.listing.specs.Tree.{stop, closes}

@@ -1,15 +1,14 @@
 -- `nodes::any_doubtful` meets its contract: after x turns the first x nodes are asked.
 -- Assumes nothing.
-use mathlib.Core.Path.{_≡_, refl, sym, ap, _∙_}
+use mathlib.Core.Path.{_≡_, refl, ap, _∙_}
 use Prim.Native.Nat.{ℕ, _≤_, _-_}
 use native.Mathlib.Omega.{arith}
 use lib.ListN.{length}
 use borrow.Author.Needs.{needs}
-use Rattle.lists.specs.Range.{any}
+use Rattle.lists.specs.Range.{any, any-next}
 use Rattle.chart.specs.Format.{decode}
 use Rattle.chart.proofs.Records.{nodes-length, constructs-length}
 use Rattle.nodes.specs.Parts.{doubtfulAt}
-use Rattle.nodes.proofs.Alone.{any-next}
 use Rattle.nodes.proofs.any_doubtful.Statement.{statement}
 use Rattle.nodes.proofs.any_doubtful.Tie as tie
 

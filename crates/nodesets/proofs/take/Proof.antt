@@ -1,10 +1,8 @@
 -- `nodesets::take` meets its contract.
 -- Assumes nothing.
-use mathlib.Core.Path.{_≡_, sym, _∙_}
-use Prim.Native.Nat.{ℕ, _^_}
+use Prim.Native.Nat.{_^_}
 use borrow.Author.Needs.{needs}
 use borrow.Author.Tests.{eq-eqb, ne-eqb}
-use Rattle.nodesets.specs.Gathered.{pending}
 use Rattle.nodesets.proofs.Runs.{joins, starts}
 use Rattle.nodesets.proofs.take.Statement.{statement}
 use Rattle.nodesets.proofs.take.Tie as tie

@@ -1,9 +1,7 @@
 -- `outermost::enter_chart` meets its contract: from start forward, and from finish backward.
 -- Assumes nothing.
-use mathlib.Core.Path.{_≡_, refl, sym, _∙_}
-use mathlib.Core.Bool.{true, false}
+use mathlib.Core.Path.{sym, _∙_}
 use native.Mathlib.Omega.{arith}
-use borrow.Author.Needs.{needs}
 use Rattle.lists.specs.Truth.{bad}
 use Rattle.chart.proofs.Records.{nodes-length}
 use Rattle.loading.specs.Tables.{Accepted}

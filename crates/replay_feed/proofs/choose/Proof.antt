@@ -1,13 +1,12 @@
 -- `replay_feed::choose` meets its contract.
 -- Assumes nothing.
 use mathlib.Core.Path.{_≡_, refl, sym, _∙_, ap, subst}
-use Prim.Native.Nat.{ℕ, _+_, _*_, _≤_, _<_}
-use mathlib.Core.List.{List, [], _∷_, _++_}
+use Prim.Native.Nat.{ℕ, _+_, _*_, _≤_}
+use mathlib.Core.List.{[], _∷_, _++_}
 use native.Mathlib.Omega.{arith}
-use lib.ListN.{length, getD, set}
+use lib.ListN.{length, getD}
 use borrow.Author.Tests.{not-true, not-false}
 use Rattle.team.specs.State.{released}
-use Rattle.traces.specs.Replay.{Play}
 use Rattle.replay_feed.specs.Playing.{forbidden, fed}
 use Rattle.replay_marks.proofs.Sheets.{kept-same, sheet-size, kept-size}
 use Rattle.replay_feed.proofs.Releases.{released-same}

@@ -1,6 +1,5 @@
 -- `replay_marks::mark` meets its contract.
 -- Assumes nothing.
-use Prim.Native.Nat.{ℕ, _≤_}
 use mathlib.Core.Logic.{inl, inr}
 use native.Mathlib.Omega.{arith}
 use Rattle.lists.specs.Rows.{row-room, square}

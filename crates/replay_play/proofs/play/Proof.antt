@@ -1,14 +1,13 @@
 -- `replay_play::play` meets its contract. The loop's invariant: the entries passed are fed.
 -- Assumes nothing.
-use mathlib.Core.Path.{_≡_, refl, sym, _∙_, ap, subst}
-use Prim.Native.Nat.{ℕ, suc, _*_, _-_, _/_, _≤_}
-use mathlib.Core.List.{List}
+use mathlib.Core.Path.{_≡_, refl, sym, _∙_}
+use Prim.Native.Nat.{suc, _-_, _/_, _≤_}
 use native.Mathlib.Omega.{arith}
 use native.Mathlib.Numerals.{add-one}
 use lib.ListN.{length}
 use borrow.Author.Tests.{not-true, not-false}
 use Rattle.chart.specs.Region.{Region}
-use Rattle.traces.specs.Replay.{Play, begun, Progress, going, stopped, progress, replayed, outcomeOf, playOf}
+use Rattle.traces.specs.Replay.{Play, begun, going, progress, outcomeOf, playOf}
 use Rattle.traces.specs.ReplayLaws.{goes-on, halts, stays}
 use Rattle.replay_steps.specs.Tables.{Tabled}
 use Rattle.replay_marks.specs.Marks.{Kept}

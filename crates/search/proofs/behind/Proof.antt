@@ -3,7 +3,6 @@
 use mathlib.Core.Path.{refl}
 use native.Mathlib.Omega.{arith}
 use borrow.Author.Needs.{needs}
-use Rattle.sweeps.specs.SweepLaws.{carried-long}
 use Rattle.splitting.proofs.Splitting.{ups-back, downs-back}
 use Rattle.search.proofs.Finding.{fed-fits, spread-behind}
 use Rattle.search.proofs.behind.Statement.{statement}

@@ -1,6 +1,5 @@
 -- `sheet_rows::ahead` meets its contract.
 -- Assumes nothing.
-use mathlib.Core.Path.{sym, _∙_}
 use Rattle.eights.specs.Eights.{digit}
 use Rattle.sheet_rows.specs.Sheet.{bySize}
 use Rattle.sheet_rows.proofs.Ranks.{alone-digit, lacks-digit, ahead-digit}

@@ -1,7 +1,6 @@
 -- `sheet_rows::keep_row` meets its contract.
 -- Assumes nothing.
-use mathlib.Core.Path.{_≡_, refl, ap, sym, _∙_}
-use native.Mathlib.Omega.{arith}
+use mathlib.Core.Path.{refl, sym}
 use borrow.Author.Needs.{needs}
 use Rattle.sheet_rows.proofs.keep_row.Statement.{statement}
 use Rattle.sheet_rows.proofs.keep_row.Tie as tie

@@ -1,6 +1,5 @@
 -- `sheet_rows::phase_only` meets its contract.
 -- Assumes nothing.
-use mathlib.Core.Path.{_≡_}
 use borrow.Author.Tests.{eqb-true}
 use Rattle.lists.specs.Truth.{bad}
 use Rattle.sheet_rows.proofs.RowSets.{or-none}

@@ -1,6 +1,5 @@
 -- `sheet_rows::sharing` meets its contract.
 -- Assumes nothing.
-use mathlib.Core.Path.{_≡_, refl, ap, sym, _∙_}
 use native.Mathlib.Omega.{arith}
 use Rattle.sheet_rows.proofs.RowSets.{sharing-by}
 use Rattle.sheet_rows.proofs.sharing.Statement.{statement}

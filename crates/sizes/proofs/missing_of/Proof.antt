@@ -1,7 +1,7 @@
 -- `sizes::missing_of` meets its contract. The loop's invariant: the mask has the constructs passed.
 -- Assumes nothing.
 use mathlib.Core.Path.{_≡_, refl, _∙_}
-use Prim.Native.Nat.{ℕ, _-_, _≤_}
+use Prim.Native.Nat.{_-_, _≤_}
 use native.Mathlib.Omega.{arith}
 use Rattle.lists.specs.Mask.{maskOf}
 use Rattle.chart.specs.Format.{decode}

@@ -1,6 +1,5 @@
 -- `sizes::sets_for` meets its contract.
 -- Assumes nothing.
-use mathlib.Core.Path.{_≡_, sym, _∙_}
 use borrow.Author.Needs.{needs}
 use Rattle.sizes.proofs.Lacked.{over-lacked}
 use Rattle.sizes.proofs.sets_for.Statement.{statement}

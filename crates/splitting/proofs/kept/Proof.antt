@@ -1,7 +1,5 @@
 -- `splitting::kept` meets its contract: the two stops are looked at together.
 -- Assumes nothing.
-use lib.Bits.{or-zero-l}
-use mathlib.Core.Path.{_≡_}
 use native.Mathlib.Omega.{arith}
 use borrow.Author.Needs.{needs}
 use Rattle.splitting.proofs.Steps.{or-none, none-or}

@@ -1,7 +1,7 @@
 -- `splitting::put` meets its contract.
 -- Assumes nothing.
 use mathlib.Core.Path.{refl}
-use Prim.Native.Nat.{_≤_, _<_}
+use Prim.Native.Nat.{_<_}
 use native.Mathlib.Omega.{arith}
 use borrow.Author.Needs.{needs}
 use Rattle.splitting.proofs.Steps.{pick-inside, rise-most, fall-most, put-is, wrote}

@@ -1,6 +1,5 @@
 -- `feeding::telling::show` meets its contract: after y turns the first y masks are written.
 -- Assumes nothing.
-use mathlib.Core.Path.{_≡_}
 use Prim.Native.Nat.{_≤_, _-_}
 use native.Mathlib.Omega.{arith}
 use borrow.Author.Needs.{needs}

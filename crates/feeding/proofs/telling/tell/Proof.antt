@@ -1,6 +1,5 @@
 -- `feeding::telling::tell` meets its contract: after y turns the first y levels are told.
 -- Assumes nothing.
-use mathlib.Core.Path.{_≡_}
 use Prim.Native.Nat.{_≤_, _-_}
 use native.Mathlib.Omega.{arith}
 use borrow.Author.Needs.{needs}

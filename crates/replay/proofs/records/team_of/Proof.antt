@@ -1,13 +1,11 @@
 -- `replay::records::team_of` meets its contract. The loop's invariant: the records passed are made.
 -- Assumes nothing.
-use mathlib.Core.Path.{_≡_, refl, _∙_, sym, subst}
+use mathlib.Core.Path.{_≡_, refl, _∙_}
 use Prim.Native.Nat.{ℕ, _-_, _≤_, _<_}
 use native.Mathlib.Omega.{arith}
-use lib.ListN.{length, getD, length-set, length-replicate}
-use lib.Seq.{getD-set-same, getD-set-other}
+use lib.ListN.{length, getD, length-set}
 use Rattle.team.specs.State.{State}
 use Rattle.traces.specs.Call.{recordOf}
-use Rattle.traces.specs.declared.Thread.{Thread}
 use Rattle.replay_steps.specs.Tables.{Shows}
 use Rattle.replay.proofs.Results.{tab-is, stored-at, unknown}
 use borrow.Author.Needs.{needs}

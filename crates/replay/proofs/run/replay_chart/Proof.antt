@@ -1,6 +1,6 @@
 -- `replay::run::replay_chart` meets its contract.
 -- Assumes nothing.
-use mathlib.Core.Path.{_≡_, sym, _∙_, subst}
+use mathlib.Core.Path.{sym, _∙_, subst}
 use mathlib.Core.Bool.{false}
 use Prim.Native.Nat.{ℕ, _*_, _≤_}
 use native.Mathlib.Omega.{arith}
@@ -9,7 +9,6 @@ use Rattle.lists.specs.Rows.{square}
 use Rattle.chart.specs.Checked.{reading}
 use Rattle.chart.proofs.Records.{nodes-length}
 use Rattle.team.specs.State.{initial}
-use Rattle.replay_marks.specs.Marks.{Kept}
 use Rattle.replay_marks.proofs.Sheets.{sheet-size, kept-size, kept-then}
 use Rattle.replay.proofs.Begun.{sheet-blank, playing-begun, kept-cleared}
 use Rattle.replay.proofs.Results.{sheet-content, room-for}

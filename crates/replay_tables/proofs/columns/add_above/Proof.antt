@@ -1,8 +1,7 @@
 -- `replay_tables::columns::add_above` meets its contract.
 -- Assumes nothing.
-use mathlib.Core.Path.{_≡_, sym, subst}
+use mathlib.Core.Path.{sym, subst}
 use native.Mathlib.Omega.{arith}
-use Rattle.chart.specs.Format.{decode}
 use Rattle.chart.specs.Scope.{parentOf}
 use Rattle.chart.proofs.Records.{constructs-length}
 use Rattle.chart.proofs.Tables.{parents}

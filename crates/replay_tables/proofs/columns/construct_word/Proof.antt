@@ -1,6 +1,5 @@
 -- `replay_tables::columns::construct_word` meets its contract.
 -- Assumes nothing.
-use mathlib.Core.Path.{refl}
 use native.Mathlib.Omega.{arith}
 use borrow.Author.Tests.{eq-eqb, ne-eqb}
 use Rattle.replay_tables.specs.Words.{constructWord}

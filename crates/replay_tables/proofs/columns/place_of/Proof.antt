@@ -1,6 +1,6 @@
 -- `replay_tables::columns::place_of` meets its contract.
 -- Assumes nothing.
-use mathlib.Core.Path.{_≡_, sym, _∙_, ap}
+use mathlib.Core.Path.{sym, _∙_, ap}
 use Prim.Native.Nat.{ℕ, _≤_, _<_}
 use native.Mathlib.Omega.{arith}
 use Rattle.chart.specs.Format.{decode, nodeAt, constructAt}

@@ -1,9 +1,8 @@
 -- `replay_tables::edges::mark_edges` meets its contract. The loop's invariant: the edges passed are marked.
 -- Assumes nothing.
-use mathlib.Core.Path.{_≡_, refl, sym, _∙_, ap, subst}
-use Prim.Native.Nat.{ℕ, _+_, _*_, _/_, _-_, _≤_, _<_}
+use mathlib.Core.Path.{_≡_, refl, subst}
+use Prim.Native.Nat.{ℕ, _-_, _≤_}
 use native.Mathlib.Omega.{arith}
-use lib.ListN.{length, getD}
 use Rattle.splitting.specs.Parts.{row}
 use Rattle.replay_tables.specs.Words.{Beside, Marked}
 use Rattle.replay_tables.proofs.Filling.{beside-none, beside-more}

@@ -1,6 +1,5 @@
 -- `replay_tables::fill::frame_of` meets its contract.
 -- Assumes nothing.
-use mathlib.Core.Path.{refl}
 use borrow.Author.Tests.{eq-eqb, ne-eqb}
 use native.Mathlib.Omega.{arith}
 use Rattle.replay_tables.proofs.fill.frame_of.Statement.{statement}

@@ -1,7 +1,6 @@
 -- `sweeps::close::close` meets its contract: the falling edges stay closed, and when a sweep is quiet the rising ones are. Assumes nothing.
-use Prim.Native.Nat.{_≤_, _<_, _+_}
+use Prim.Native.Nat.{_<_, _+_}
 use native.Mathlib.Omega.{arith}
-use mathlib.Core.Path.{_≡_}
 use lib.Bits.{bitOr}
 use Rattle.lists.specs.Mask.{Sub}
 use Rattle.sweeps.specs.Sweep.{weight, gap, flag}
