@@ -4,7 +4,7 @@ use mathlib.Core.Path.{sym, _∙_}
 use borrow.Author.Needs.{needs}
 use Rattle.lists.specs.Truth.{bad}
 use Rattle.outermost.proofs.Entering.{entered-refused, entered-marked, entered-counts}
-use Rattle.entrance.proofs.Naming.{refused-first, marked-outermost}
+use Rattle.inner_region.proofs.Naming.{refused-first, marked-outermost}
 use Rattle.entrance.proofs.enter.Statement.{statement}
 use Rattle.entrance.proofs.enter.Tie as tie
 

@@ -1,13 +1,13 @@
--- `entrance::bad_region` meets its contract.
+-- `inner_region::bad_region` meets its contract.
 -- Assumes nothing.
 use mathlib.Core.Path.{sym}
 use native.Mathlib.Omega.{arith}
 use borrow.Author.Tests.{eq-eqb, ne-eqb}
 use Rattle.chart.specs.Format.{decode}
 use Rattle.chart.proofs.Records.{constructs-length}
-use Rattle.entrance.proofs.Naming.{names-none, names-kind}
-use Rattle.entrance.proofs.bad_region.Statement.{statement}
-use Rattle.entrance.proofs.bad_region.Tie as tie
+use Rattle.inner_region.proofs.Naming.{names-none, names-kind}
+use Rattle.inner_region.proofs.bad_region.Statement.{statement}
+use Rattle.inner_region.proofs.bad_region.Tie as tie
 
 returns : tie.Need-returns
 returns c =

@@ -1,4 +1,4 @@
--- `entrance::enter_inner` meets its contract: row 23, and where it does not apply the region's own marking.
+-- `inner_region::enter_inner` meets its contract: row 23, and where it does not apply the region's own marking.
 -- Assumes nothing.
 use mathlib.Core.Path.{_≡_, ap, sym, _∙_, subst}
 use lib.ListN.{length}
@@ -9,9 +9,9 @@ use Rattle.chart.specs.declared.format.Chart.{Chart}
 use Rattle.phases.specs.Phases.{barriers}
 use Rattle.loading.specs.Tables.{Accepted}
 use Rattle.loading.proofs.Accepted.{accepted-for}
-use Rattle.entrance.proofs.Naming.{refused-region, marked-region, named}
-use Rattle.entrance.proofs.enter_inner.Statement.{statement}
-use Rattle.entrance.proofs.enter_inner.Tie as tie
+use Rattle.inner_region.proofs.Naming.{refused-region, marked-region, named}
+use Rattle.inner_region.proofs.enter_inner.Statement.{statement}
+use Rattle.inner_region.proofs.enter_inner.Tie as tie
 
 bad-region-requires : tie.Need-bad-region-requires
 bad-region-requires c κs = let (admits, counts, A, n) = c .before .pre in (A .laid, n)

@@ -1,11 +1,11 @@
--- `entrance::mark_region` meets its contract.
+-- `inner_region::mark_region` meets its contract.
 -- Assumes nothing.
 use native.Mathlib.Omega.{arith}
 use Rattle.loading.proofs.Accepted.{well-formed}
 use Rattle.loading.proofs.Tabling.{blank-none}
 use Rattle.outermost.proofs.Entering.{few, not-none, nodes-below}
-use Rattle.entrance.proofs.mark_region.Statement.{statement}
-use Rattle.entrance.proofs.mark_region.Tie as tie
+use Rattle.inner_region.proofs.mark_region.Statement.{statement}
+use Rattle.inner_region.proofs.mark_region.Tie as tie
 
 -- where the function was called
 abbrev start : (c : tie.After-load-tables) → tie.Start
