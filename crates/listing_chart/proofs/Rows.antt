@@ -3,13 +3,12 @@
 use mathlib.Core.Path.{_≡_, refl, ap, sym, _∙_}
 use mathlib.Core.Logic.{inl, inr}
 use mathlib.Core.Bool.{Bool, true, false}
-use mathlib.Core.List.{List, _++_}
+use mathlib.Core.List.{List}
 use mathlib.Core.Option.{none, some}
 use Prim.Native.Nat.{ℕ, _+_, _*_, _≤_, _<_}
 use native.Mathlib.Omega.{arith}
-use native.Mathlib.Nat.{zero-add}
 use lib.Dec.{ltb}
-use lib.ListN.{length, take, drop, take-append-drop}
+use lib.ListN.{length}
 use borrow.Author.Tests.{lt-ltb, le-ltb, ltb-false}
 use Rattle.lists.specs.Truth.{bad, or-neither}
 use Rattle.chart.specs.Format.{decode, constructBytes}
@@ -18,9 +17,9 @@ use Rattle.chart.specs.Checked.{Laid, countsOf}
 use Rattle.chart.specs.declared.format.Chart.{Chart}
 use Rattle.chart.specs.declared.format.Refusal.{Refusal}
 use Rattle.chart.proofs.Accepted.{laid}
-use Rattle.output.specs.Output.{roomRow, outputRows, written, content, writtenBy, leftBy}
+use Rattle.output.specs.Output.{roomRow, outputRows, written, writtenBy, leftBy}
 use Rattle.output.specs.declared.Written.{Written}
-use Rattle.output.specs.declared.Written.the-variants.{Bytes, Refused}
+use Rattle.output.specs.declared.Written.the-variants.{Bytes}
 use Rattle.encoding.specs.Trailer.{trailerFor}
 use Rattle.listing.specs.Tree.{Block, nodeCount, constructCount}
 use Rattle.listing.specs.Grammar.{Read, upTo, stopped, pick, listed}
@@ -35,23 +34,6 @@ use Rattle.listing_reader.specs.declared.Extent.the-variants.{UpTo, Stopped}
 use Rattle.listing_reader.specs.Extent.{refused, extentOf, limitedTo}
 use Rattle.listing_chart.specs.Chart.{countsFor, Small, lateRows}
 use Rattle.listing_chart.proofs.Tables.{same-chart}
-
--- what is answered and left, by the outcome of the rows
-module _ (rows : List Row) (size : ℕ) (result old : List ℕ) where
-  pub refuses : (number : ℕ) → firstOf rows ≡ some number → (Refused (record { number = number }) ≡ writtenBy rows size) × (old ≡ leftBy rows result old)
-  unfolding writtenBy leftBy written content
-  refuses number h = (rw h, rw h)
-
-  pub passes : firstOf rows ≡ none → (Bytes size ≡ writtenBy rows size) × (result ++ drop (length result) old ≡ leftBy rows result old)
-  unfolding writtenBy leftBy written content
-  passes h = (rw h, rw h)
-
--- a part put to the front
-pub front : (part old new : List ℕ) → take (0 + length part) new ≡ part → drop (0 + length part) new ≡ drop (0 + length part) old
-    → new ≡ part ++ drop (length part) old
-front part old new p q =
-    let n = 0 + length part in
-    sym (take-append-drop n new) ∙ ap (λ (l : List ℕ). l ++ drop n new) p ∙ ap (λ (l : List ℕ). part ++ l) q ∙ rw (zero-add (length part))
 
 module _ (bytes : List ℕ) (room : ℕ) where
   pub five : badNodes (decode bytes) ≡ true → firstOf (lateRows bytes room) ≡ some 5

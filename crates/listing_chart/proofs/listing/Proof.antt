@@ -3,7 +3,8 @@
 use mathlib.Core.Path.{sym, _∙_}
 use lib.ListN.{length}
 use Rattle.listing.specs.Call.{listingWritten, listingLeft}
-use Rattle.listing_chart.proofs.Rows.{refuses, small-read, refused-read}
+use Rattle.output.proofs.Outputs.{refused}
+use Rattle.listing_chart.proofs.Rows.{small-read, refused-read}
 use borrow.Author.Needs.{needs}
 use Rattle.listing_chart.proofs.listing.Statement.{statement}
 use Rattle.listing_chart.proofs.listing.Tie as tie
@@ -29,7 +30,7 @@ returns c =
     let read = c .before .before .before in
     let a = read .before .before .before .args in
     let g = c .before .refusal .given in
-    refuses _ _ _ (a .out .now) _ (refused-read (a .text .now) _ (length (a .out .now)) (sym (g .1) ∙ read .read-limited .ensures))
+    refused _ _ _ (a .out .now) (refused-read (a .text .now) _ (length (a .out .now)) (sym (g .1) ∙ read .read-limited .ensures))
 
 same-length : tie.Need-same-length
 same-length c = search needs
