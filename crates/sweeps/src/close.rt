@@ -18,8 +18,9 @@ pub fn place_of(a: usize, b: usize, j: usize, back: bool) -> usize
     j
 }
 
-// The bits of x come to y; what is new. Nothing is written where nothing is, as mostly where sweeps are many.
-fn carry(masks: &mut [u64; Chart::NODES], x: u8, y: u8) -> u64
+// The bits of x come to y; what is new. Along many edges nothing is written where nothing is new, as mostly where sweeps are many; along few
+// ones every mask is, since on a chart that was not seen before whether something is new is hard to tell ahead.
+fn carry(masks: &mut [u64; Chart::NODES], x: u8, y: u8, few: bool) -> u64
     requires { ⌜ (length (now masks) ≡ 192) × (x < 192) × (y < 192) ⌝ }
     ensures { λ r. ⌜ Step bitOr x y (now (masks .entry)) (now (masks .exit)) r ⌝ }
 {
@@ -27,77 +28,15 @@ fn carry(masks: &mut [u64; Chart::NODES], x: u8, y: u8) -> u64
     let old = masks[to];
     let all = old | masks[x as usize];
     if all == old {
-        return 0;
+        if !few {
+            return 0;
+        }
     }
     masks[to] = all;
     all ^ old
 }
 
 // Along the edges from place a up to place b; what is new, 0 when nothing is.
-fn sweep_many(
-    keys: &[u8; Chart::EDGES],
-    values: &[u8; Chart::EDGES],
-    a: usize,
-    b: usize,
-    back: bool,
-    masks: &mut [u64; Chart::NODES],
-) -> u64
-    requires { ⌜ (a ≤ b) × (b ≤ 1024) × (length (now masks) ≡ 192) ⌝ }
-    requires { ⌜ ((j : ℕ) → getD (now keys) j 0 < 192) ⌝ }
-    requires { ⌜ ((j : ℕ) → getD (now values) j 0 < 192) ⌝ }
-    ensures { λ r. ⌜ Run bitOr (now (keys .entry)) (now (values .entry)) a b back (now (masks .entry)) b (now (masks .exit)) r ⌝ }
-{
-    let mut new = 0;
-    let mut j = a;
-    while j < b {
-        let at = place_of(a, b, j, back);
-        new = new | carry(masks, keys[at], values[at]);
-        j += 1;
-    }
-    new
-}
-
-// The mask of x; that of the node written last is at hand.
-fn mask_of(masks: &[u64; Chart::NODES], x: u8, last: u8, mask: u64) -> u64
-    requires { ⌜ (x < 192) × (x ≡ last → mask ≡ getD (now masks) x 0) ⌝ }
-    ensures { λ r. ⌜ r ≡ getD (now (masks .entry)) x 0 ⌝ }
-{
-    if x == last {
-        return mask;
-    }
-    masks[x as usize]
-}
-
-// The same along a few edges, where each often goes on from the one before: the mask last written is not read back.
-fn sweep_few(
-    keys: &[u8; Chart::EDGES],
-    values: &[u8; Chart::EDGES],
-    a: usize,
-    b: usize,
-    back: bool,
-    masks: &mut [u64; Chart::NODES],
-) -> u64
-    requires { ⌜ (a ≤ b) × (b ≤ 1024) × (length (now masks) ≡ 192) ⌝ }
-    requires { ⌜ ((j : ℕ) → getD (now keys) j 0 < 192) ⌝ }
-    requires { ⌜ ((j : ℕ) → getD (now values) j 0 < 192) ⌝ }
-    ensures { λ r. ⌜ Run bitOr (now (keys .entry)) (now (values .entry)) a b back (now (masks .entry)) b (now (masks .exit)) r ⌝ }
-{
-    let mut new = 0;
-    let mut last = 255;
-    let mut mask = 0;
-    let mut j = a;
-    while j < b {
-        let at = place_of(a, b, j, back);
-        let old = masks[values[at] as usize];
-        mask = old | mask_of(masks, keys[at], last, mask);
-        last = values[at];
-        masks[last as usize] = mask;
-        new = new | (mask ^ old);
-        j += 1;
-    }
-    new
-}
-
 fn sweep(
     keys: &[u8; Chart::EDGES],
     values: &[u8; Chart::EDGES],
@@ -111,10 +50,15 @@ fn sweep(
     requires { ⌜ ((j : ℕ) → getD (now values) j 0 < 192) ⌝ }
     ensures { λ r. ⌜ Run bitOr (now (keys .entry)) (now (values .entry)) a b back (now (masks .entry)) b (now (masks .exit)) r ⌝ }
 {
-    if b - a < 200 {
-        return sweep_few(keys, values, a, b, back, masks);
+    let few = b - a < 200;
+    let mut new = 0;
+    let mut j = a;
+    while j < b {
+        let at = place_of(a, b, j, back);
+        new = new | carry(masks, keys[at], values[at], few);
+        j += 1;
     }
-    sweep_many(keys, values, a, b, back, masks)
+    new
 }
 
 // Along the rising edges and the falling ones by turns, until nothing is new.

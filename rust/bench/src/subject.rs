@@ -151,12 +151,10 @@ impl Subject {
         )
     }
 
-    /// Nanoseconds of one call on one chart by each implementation. The first one, which has all calls,
-    /// stands in for another that lacks this one, so that all numbers can be compared.
+    /// Nanoseconds of one call on one chart by each implementation that has it; the first has all calls.
     pub fn times<const N: usize>(&self, call: Call, by: [&Calls; N]) -> [f64; N] {
         let mut out = vec![0; self.room];
-        let by = by.map(|calls| if call.is_in(calls) { calls } else { by[0] });
-        let all = least(|index| {
+        let all = least(by.map(|calls| call.is_in(calls)), |index| {
             self.charts.iter().fold(0i64, |sum, asked| {
                 let number = asked.ask(call, by[index], &mut out);
                 sum.wrapping_mul(31).wrapping_add(number)

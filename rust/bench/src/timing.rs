@@ -14,16 +14,23 @@ const PLACES: usize = 64;
 
 /// Nanoseconds of one call by each implementation, `call` naming which: the least of all turns, which
 /// is the one least disturbed. Where a call's tables lie costs it up to a tenth and differs from process
-/// to process, so that each turn is taken at another place on the stack.
-pub fn least<const N: usize>(mut call: impl FnMut(usize) -> i64) -> [f64; N] {
-    let numbers: [i64; N] = std::array::from_fn(&mut call);
-    assert_eq!(numbers, [numbers[0]; N], "the calls differ");
+/// to process, so that each turn is taken at another place on the stack. The first implementation has
+/// the call; of others `has` says whether they do, and one that does not takes no turn.
+pub fn least<const N: usize>(has: [bool; N], mut call: impl FnMut(usize) -> i64) -> [f64; N] {
+    let those: Vec<usize> = (0..N).filter(|&index| has[index]).collect();
+    let numbers: Vec<i64> = those.iter().map(|&index| call(index)).collect();
+    let same = numbers.iter().all(|&number| number == numbers[0]);
+    assert!(same, "the calls differ: {numbers:?}");
     let repeats = (TURN / turn(&mut call, 0, 20)).ceil() as usize;
     let mut times = [f64::INFINITY; N];
-    for place in (0..PLACES).cycle().take(TURNS) {
-        for (index, time) in times.iter_mut().enumerate() {
+    for (count, place) in (0..PLACES).cycle().take(TURNS + 1).enumerate() {
+        for &index in &those {
             let taken = deeper(place, &mut || turn(&mut call, index, repeats));
-            *time = time.min(taken);
+            // What was timed for the number of repeats has taught the processor the branches of the
+            // first implementation, so that its first turn says nothing.
+            if count > 0 {
+                times[index] = times[index].min(taken);
+            }
         }
     }
     times

@@ -23,11 +23,12 @@ element-copy-out-all c = search needs
 -- what changes nothing need not be written
 returns : tie.Need-returns
 returns c =
-    let e = c .before .before .before in
+    let e = c .before .before .before .before in
+    let same = c .before .if1 .taken in
     let masks = e .args .masks .now in
     record {
-      is = sym (ap (λ (v : ℕ). set masks (e .args .y) v) (c .if1 .taken) ∙ set-getD masks (e .args .y) 0);
-      quiet = λ _. c .if1 .taken;
+      is = sym (ap (λ (v : ℕ). set masks (e .args .y) v) same ∙ set-getD masks (e .args .y) 0);
+      quiet = λ _. same;
       loud = λ n. absurd (n refl);
     }
 

@@ -1,18 +1,21 @@
--- `sweeps::close::sweep_many` meets its contract: the loop's invariant is the `Run` so far. Assumes nothing.
+-- `sweeps::close::sweep` meets its contract: the loop's invariant is the `Run` so far. Assumes nothing.
 use Prim.Native.Nat.{_≤_, _<_, _-_}
 use native.Mathlib.Omega.{arith}
 use mathlib.Core.Path.{_≡_}
 use lib.Bits.{bitOr}
 use Rattle.sweeps.specs.Sweep.{Run, none, more}
 use Rattle.sweeps.proofs.Runs.{run-from, run-long, place-below}
-use Rattle.sweeps.proofs.close.sweep_many.Statement.{statement}
-use Rattle.sweeps.proofs.close.sweep_many.Tie as tie
+use Rattle.sweeps.proofs.close.sweep.Statement.{statement}
+use Rattle.sweeps.proofs.close.sweep.Tie as tie
 
 abbrev Inv-loop : tie.InvT-loop
-Inv-loop keys values a b back masks₀ new₀ j₀ masks new j = (j ≤ b) × Run bitOr keys values a b back masks₀ j masks new
+Inv-loop keys values a b back masks₀ few new₀ j₀ masks new j = (j ≤ b) × Run bitOr keys values a b back masks₀ j masks new
 
 abbrev μ-loop : tie.MeasureT-loop
-μ-loop keys values a b back masks₀ new₀ j₀ masks new j = b - j
+μ-loop keys values a b back masks₀ few new₀ j₀ masks new j = b - j
+
+sub-few : tie.Need-sub-few Inv-loop μ-loop
+sub-few c = c .pre .0 .0
 
 loop-holds : tie.Need-loop-holds Inv-loop μ-loop
 loop-holds c = (c .pre .0 .0, none)
@@ -57,12 +60,13 @@ returns c =
     let e : c .before .loop .j ≡ c .before .before .args .b = omega arith in
     rw e at (i .1)
 
-pub sweep-many-spec : {M : Type 1} → statement M
-sweep-many-spec =
+pub sweep-spec : {M : Type 1} → statement M
+sweep-spec =
     tie.close
     (tie.spec
     Inv-loop
     μ-loop
+    sub-few
     loop-holds
     place-of-requires
     element-copy-out-carry
