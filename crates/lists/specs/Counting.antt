@@ -1,13 +1,12 @@
 -- Laws of `count`: how many numbers below a bound pass a test.
 -- Assumes nothing.
 use mathlib.Core.Path.{_≡_, refl, ap, sym, _∙_}
-use mathlib.Core.Logic.{_⊎_, inl, inr}
 use mathlib.Core.Bool.{Bool, true, false, cond}
 use Prim.Native.Nat.{ℕ, zero, suc, _+_, _-_, _≤_, _<_}
 use native.Mathlib.Omega.{arith}
-use native.Mathlib.Decide.{ℕ-discrete, decLt}
+use native.Mathlib.Decide.{ℕ-discrete}
 use native.Mathlib.Numerals.{add-one}
-use Rattle.lists.specs.Truth.{bad, truth}
+use Rattle.lists.specs.Truth.{bad}
 use Rattle.lists.specs.Range.{count}
 
 -- what one test adds to a count
@@ -83,24 +82,6 @@ count-rest f i (suc d) h =
 pub count-up : (f : ℕ → Bool) (i d : ℕ) → count i f ≤ count (i + d) f
 count-up f i zero = let q : i + 0 ≡ i = omega arith in rw q (omega arith)
 count-up f i (suc d) = let q : i + suc d ≡ i + d + 1 = omega arith in rw q (omega (arith, count-up f i d, count-next f (i + d)))
-
--- a number that passes is counted
-pub count-lt : (f : ℕ → Bool) (i n : ℕ) → i < n → f i ≡ true → count i f < count n f
-count-lt f i n l h = let q : i + 1 + (n - (i + 1)) ≡ n = omega arith in omega (arith, count-hit f i h, rw q at (count-up f (i + 1) (n - (i + 1))))
-
--- and whatever is counted is a number that passes, with as many before it
-abbrev pub Nth : (ℕ → Bool) → ℕ → ℕ → Type 0
-Nth f n c = (i : ℕ) × (i < n) × (f i ≡ true) × (count i f ≡ c)
-
-pub count-find : (f : ℕ → Bool) (n c : ℕ) → c < count n f → Nth f n c
-unfolding count
-count-find f zero c h = absurd (omega arith)
-count-find f (suc n) c h = go (truth (f n)) (decLt c (count n f)) (λ l. count-find f n c l)
-  where
-    go : (f n ≡ true) ⊎ (f n ≡ false) → Dec (c < count n f) → (c < count n f → Nth f n c) → Nth f (suc n) c
-    go t (yes l) r = let (i, b, p, e) = r l in (i, omega arith, p, e)
-    go (inl t) (no l) r = let p : one (f n) ≡ 1 = ap one t in (n, omega arith, t, omega arith)
-    go (inr t) (no l) r = let p : one (f n) ≡ 0 = ap one t in absurd (omega arith)
 
 -- a test that passes where one of two others does, which never both pass
 pub count-sum : (n : ℕ) (f g h : ℕ → Bool) → ((k : ℕ) → k < n → one (h k) ≡ one (f k) + one (g k)) → count n h ≡ count n f + count n g

@@ -135,9 +135,6 @@ module _ (s : List ℕ) (chart : Chart) (A : Accepted s chart) where
         n-most : chart .nodes ≤ 192
         n-most = A .laid .nodes-most
 
-        k-most : chart .constructs ≤ 48
-        k-most = A .laid .constructs-most
-
         -- what is written after the nodes' columns, and after the constructs'
         after-nodes : (j : ℕ) → 1024 ≤ j → j < 1792 → getD t10 j 0 ≡ getD t3 j 0
         after-nodes j a b =
