@@ -3,7 +3,7 @@
 // parallel's region is marked after that, and needs no row of its own.
 ghost use mathlib.Core.Path.{_≡_};
 ghost use Prim.Native.Nat.{ℕ};
-ghost use lib.ListN.{length};
+ghost use lib.ListN.{length, replicate};
 ghost use Rattle.chart.specs.Format.{decode};
 ghost use Rattle.chart.specs.Reading.{regionOf};
 ghost use Rattle.chart.specs.Refusal.{firstOf};
@@ -17,7 +17,7 @@ use inner_region::enter_inner;
 use outermost::Entered;
 use outermost::enter_outermost;
 
-// The first of rows 1 to 10 and 23 that applies, or the masks and levels of all nodes of the region.
+// The first of rows 1 to 10 and 23 that applies, or the masks, which are 0 before, and levels of all nodes of the region.
 pub fn enter(
     s: &[u8],
     region: usize,
@@ -25,6 +25,7 @@ pub fn enter(
     ends: &mut [u64; Chart::NODES],
     levels: &mut [u8; Chart::NODES],
 ) -> Entered
+    requires { ⌜ (now starts ≡ replicate 192 0) × (now ends ≡ replicate 192 0) ⌝ }
     ensures { λ r. ⌜ r ≡ entered (firstOf (regionRows (now (s .entry)) region)) (readFor (countsOf (now (s .entry))) region) (length (barriersOf (regionOf region (decode (now (s .entry)))))) ⌝ }
     ensures { λ r. ⌜ ((chart : Chart) (total : ℕ) → r ≡ Marked chart total → Entry (now (s .entry)) chart total (now (starts .exit)) (now (ends .exit)) (now (levels .exit))) ⌝ }
 {

@@ -3,7 +3,7 @@
 ghost use mathlib.Core.Path.{_≡_};
 ghost use mathlib.Core.List.{[], _∷_};
 ghost use Prim.Native.Nat.{ℕ, _+_, _≤_, _<_};
-ghost use lib.ListN.{getD, length};
+ghost use lib.ListN.{getD, length, replicate};
 ghost use Rattle.sweeps.specs.Sweep.{Between};
 ghost use Rattle.feeding.specs.Fed.{Fed, Owned, Sowed, Stored};
 ghost use Rattle.feeding.specs.Levels.{Each, Begins};
@@ -60,7 +60,7 @@ fn sow_edges(
     }
 }
 
-// The bits of the sources, at the nodes to which their edges lead, and levels to start from.
+// The bits of the sources, at the nodes to which their edges lead, where none are before, and levels to start from.
 pub fn sow(
     values: &[u8; Chart::EDGES],
     places: &[usize; Chart::PLACES],
@@ -69,13 +69,12 @@ pub fn sow(
     masks: &mut [u64; Chart::NODES],
     levels: &mut [u8; Chart::NODES],
 )
-    requires { ⌜ (total ≤ 64) × ((x : ℕ) → x < 192 → (getD (now places) x 0 ≤ getD (now places) (x + 1) 0) × (getD (now places) (x + 1) 0 ≤ 1024)) ⌝ }
+    requires { ⌜ (total ≤ 64) × (now masks ≡ replicate 192 0) × ((x : ℕ) → x < 192 → (getD (now places) x 0 ≤ getD (now places) (x + 1) 0) × (getD (now places) (x + 1) 0 ≤ 1024)) ⌝ }
     requires { ⌜ ((j : ℕ) → getD (now values) j 0 < 192) ⌝ }
     requires { ⌜ ((b : ℕ) → getD (now sources) b 0 < 192) ⌝ }
     ensures { λ _. ⌜ Sowed (now (values .entry)) (now (places .entry)) (now (sources .entry)) total (now (masks .exit)) ⌝ }
     ensures { λ _. ⌜ Each Begins (now (masks .exit)) (now (levels .exit)) ⌝ }
 {
-    *masks = [0u64; Chart::NODES];
     *levels = [NONE; Chart::NODES];
     let mut b = 0;
     while b < total {

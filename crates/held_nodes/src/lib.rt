@@ -1,7 +1,7 @@
 // What fills the row of the masks of the constructs that each node holds.
 ghost use mathlib.Core.Path.{_≡_};
 ghost use Prim.Native.Nat.{ℕ, _+_, _≤_, _<_};
-ghost use lib.ListN.{length, getD, set};
+ghost use lib.ListN.{length, getD, set, replicate};
 ghost use Rattle.lists.specs.Range.{any};
 ghost use Rattle.chart.specs.Format.{decode};
 ghost use Rattle.chart.specs.Region.{section};
@@ -118,13 +118,13 @@ fn mark_nodes(
     mark_from(s, chart, x, n, chains, sections, held);
 }
 
-// What each node of an accepted chart holds, given the mask of the constructs that return; and the constructs of each kind.
+// What each node of an accepted chart holds, where nothing is written before, given the mask of the constructs that return; and the constructs
+// of each kind.
 pub fn fill_held(s: &[u8], chart: Chart, returning: u64, held: &mut [u64; Chart::NODES]) -> Sets
-    requires { ⌜ Accepted (now s) chart × (returning ≡ returningMask (reading (now s) chart)) ⌝ }
+    requires { ⌜ Accepted (now s) chart × (returning ≡ returningMask (reading (now s) chart)) × (now held ≡ replicate 192 0) ⌝ }
     ensures { λ r. ⌜ Kinds (reading (now (s .entry)) chart) r ⌝ }
     ensures { λ _. ⌜ ((x : ℕ) → x < chart .nodes → Held (reading (now (s .entry)) chart) x (getD (now (held .exit)) x 0)) ⌝ }
 {
-    *held = [0u64; Chart::NODES];
     let sets = sets_of(s, chart);
     let n = chart.constructs;
     if n == 0 {

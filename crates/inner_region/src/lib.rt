@@ -16,7 +16,7 @@ ghost use Rattle.outermost.specs.declared.Entered.the-variants.{Marked};
 use chart::format::Chart;
 use chart::format::Construct;
 use chart::format::Refusal;
-use loading::tables::load_tables;
+use edge_tables::tables::load_tables;
 use marking::masks::fill_ends;
 use marking::masks::fill_starts;
 use outermost::Entered;
@@ -52,6 +52,9 @@ fn mark_region(
     let mut stops = [0u8; Chart::NODES];
     let mut nodes = [0u8; Chart::BARRIERS];
     let extent = load_tables(s, chart, &mut edges, &mut places, &mut stops, &mut nodes);
+    // marks of the outermost region stand there
+    *starts = [0u64; Chart::NODES];
+    *ends = [0u64; Chart::NODES];
     fill_starts(&edges, &places, &stops, &nodes, extent, starts, levels);
     fill_ends(&edges, &nodes, extent, ends);
     extent.barriers

@@ -2,13 +2,14 @@
 -- nodes that a claim may not name; and the bytes that these are loaded from.
 -- Assumes nothing.
 use mathlib.Core.Path.{_≡_}
-use mathlib.Core.Bool.{Bool, cond}
+use mathlib.Core.Bool.{Bool, not, cond}
 use mathlib.Core.List.{List}
 use mathlib.Core.Option.{none}
 use Prim.Native.Nat.{ℕ, _+_, _≤_, _<_}
-use lib.Dec.{ltb}
+use lib.Dec.{ltb, eqb}
 use lib.ListN.{length, getD, set}
 use Rattle.lists.specs.Range.{count}
+use Rattle.lists.specs.Select.{select}
 use Rattle.lists.specs.Store.{Written}
 use Rattle.chart.specs.Format.{Edge as Edge·Edge, Decoded, decode, edgeAt}
 use Rattle.chart.specs.Region.{Region}
@@ -107,6 +108,19 @@ Masks d R masks = (x : ℕ) → x < 192 → getD masks x 0 ≡ marks d R x
 -- The fewest edges from a barrier to each node that is none, in a direction.
 abbrev pub Levels : Direction → Region → List ℕ → Type 0
 Levels d R levels = (x : ℕ) → Open R x → getD levels x 0 ≡ nearest d R x
+
+-- A stop stands on node x; on the k-th node from x on.
+abbrev pub hasStop : List ℕ → ℕ → Bool
+hasStop stops x = not (eqb (getD stops x 0) 0)
+
+abbrev pub stopFrom : List ℕ → ℕ → ℕ → Bool
+stopFrom stops x k = hasStop stops (x + k)
+
+-- The first `total` of the list are the nodes below x on which a stop stands, by number; the rest are 0.
+pub record Listing (stops : List ℕ) (x : ℕ) (nodes : List ℕ) (total : ℕ) : Type 0 where
+  pub long : length nodes ≡ 64
+  pub count : total ≡ length (select x (hasStop stops))
+  pub at : (b : ℕ) → getD nodes b 0 ≡ getD (select x (hasStop stops)) b 0
 
 -- One node more for the list of the first `total` barriers: no stop stands on it, or it is put behind the others.
 pub data Noted (stop x : ℕ) (nodes : List ℕ) (total : ℕ) : List ℕ → ℕ → Type 0 where

@@ -1,13 +1,14 @@
 // Stops, barriers, begins and ends, from the bytes of a chart that rows 1 to 9 of the refusals let pass.
 ghost use mathlib.Core.Path.{_≡_};
 ghost use mathlib.Core.Bool.{_&&_, cond};
-ghost use Prim.Native.Nat.{_≤_, _<_};
+ghost use Prim.Native.Nat.{_+_, _≤_, _<_};
 ghost use lib.Dec.{eqb, leb};
+ghost use Rattle.lists.specs.Range.{any, count};
 ghost use Rattle.chart.specs.Format.{decode};
 ghost use Rattle.chart.specs.Scope.{beginNode, endNode};
 ghost use Rattle.chart.specs.Checked.{reading};
 ghost use Rattle.node_counts.specs.Framed.{Framed};
-ghost use Rattle.loading.specs.Tables.{Accepted, Stops, Barriers, Noted};
+ghost use Rattle.loading.specs.Tables.{Accepted, Stops, Barriers, Noted, hasStop, stopFrom, Listing};
 use chart::format::Chart;
 use chart::format::Node;
 use node_counts::bad_frames;
@@ -60,7 +61,41 @@ fn note(stop: u8, x: usize, nodes: &mut [u8; Chart::BARRIERS], total: usize) -> 
     total + 1
 }
 
-// The list of the barriers, and how many there are.
+// Whether a stop stands on one of the eight nodes from x on. No turn leaves the loop, so that all are asked at once.
+fn any_stop(stops: &[u8; Chart::NODES], x: usize) -> bool
+    requires { ⌜ x + 8 ≤ 192 ⌝ }
+    ensures { λ r. ⌜ r ≡ any 8 (stopFrom (now (stops .entry)) x) ⌝ }
+{
+    let mut found = 0u8;
+    let mut k = 0;
+    while k < 8 {
+        found = found | stops[x + k];
+        k += 1;
+    }
+    found != 0
+}
+
+// The eight nodes from `from` on, one by one.
+fn list_eight(
+    stops: &[u8; Chart::NODES],
+    from: usize,
+    nodes: &mut [u8; Chart::BARRIERS],
+    before: usize,
+) -> usize
+    requires { ⌜ (from + 8 ≤ 192) × (count 192 (hasStop (now stops)) ≤ 64) × Listing (now stops) from (now nodes) before ⌝ }
+    ensures { λ r. ⌜ Listing (now (stops .entry)) (from + 8) (now (nodes .exit)) r ⌝ }
+{
+    let mut total = before;
+    let mut k = 0;
+    while k < 8 {
+        total = note(stops[from + k], from + k, nodes, total);
+        k += 1;
+    }
+    total
+}
+
+// The list of the barriers, and how many there are. Eight nodes without a stop, as most are, are passed over at once; behind the last node
+// no stop stands.
 pub fn barriers(
     s: &[u8],
     chart: Chart,
@@ -71,12 +106,13 @@ pub fn barriers(
     ensures { λ r. ⌜ Barriers (reading (now (s .entry)) chart) (now (nodes .exit)) r ⌝ }
 {
     *nodes = [0u8; Chart::BARRIERS];
-    let n = chart.nodes;
     let mut total = 0;
     let mut x = 0;
-    while x < n {
-        total = note(stops[x], x, nodes, total);
-        x += 1;
+    while x < Chart::NODES {
+        if any_stop(stops, x) {
+            total = list_eight(stops, x, nodes, total);
+        }
+        x += 8;
     }
     total
 }

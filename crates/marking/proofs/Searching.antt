@@ -37,7 +37,7 @@ use Rattle.paths.specs.Cut.{edgesOf}
 use Rattle.node_counts.specs.Framed.{Framed}
 use Rattle.loading.specs.Tables.{Accepted, Along, Arranged, Handed, Stops, Barriers}
 use Rattle.loading.proofs.Accepted.{tables, few-constructs, well-formed}
-use Rattle.loading.proofs.Columns.{places-first}
+use Rattle.edge_tables.proofs.Columns.{places-first}
 use Rattle.splitting.specs.Parts.{row}
 use Rattle.joining.specs.Joined.{missing, Reaches}
 use Rattle.joining.proofs.Blanks.{missing-counted}

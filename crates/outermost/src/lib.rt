@@ -2,7 +2,7 @@
 // barrier to each node that is none.
 ghost use mathlib.Core.Path.{_≡_};
 ghost use Prim.Native.Nat.{ℕ};
-ghost use lib.ListN.{length};
+ghost use lib.ListN.{length, replicate};
 ghost use Rattle.chart.specs.Format.{decode};
 ghost use Rattle.chart.specs.Reading.{region};
 ghost use Rattle.chart.specs.Refusal.{firstOf};
@@ -15,7 +15,7 @@ ghost use Rattle.outermost.specs.declared.Entered.the-variants.{Marked};
 use chart::format::Chart;
 use chart::format::Checked;
 use chart::format::Refusal;
-use loading::tables::load_tables;
+use edge_tables::tables::load_tables;
 use marking::masks::fill_ends;
 use marking::masks::fill_starts;
 use refusals::check::check;
@@ -35,7 +35,7 @@ fn enter_chart(
     ends: &mut [u64; Chart::NODES],
     levels: &mut [u8; Chart::NODES],
 ) -> Entered
-    requires { ⌜ checked (now s) ≡ Passed chart ⌝ }
+    requires { ⌜ (checked (now s) ≡ Passed chart) × (now starts ≡ replicate 192 0) × (now ends ≡ replicate 192 0) ⌝ }
     ensures { λ r. ⌜ r ≡ entered (firstOf (admitRows (now (s .entry)))) (countsOf (now (s .entry))) (length (barriersOf (region (decode (now (s .entry)))))) ⌝ }
     ensures { λ r. ⌜ ((chart : Chart) (total : ℕ) → r ≡ Marked chart total → Entry (now (s .entry)) chart total (now (starts .exit)) (now (ends .exit)) (now (levels .exit))) ⌝ }
 {
@@ -60,6 +60,7 @@ pub fn enter_outermost(
     ends: &mut [u64; Chart::NODES],
     levels: &mut [u8; Chart::NODES],
 ) -> Entered
+    requires { ⌜ (now starts ≡ replicate 192 0) × (now ends ≡ replicate 192 0) ⌝ }
     ensures { λ r. ⌜ r ≡ entered (firstOf (admitRows (now (s .entry)))) (countsOf (now (s .entry))) (length (barriersOf (region (decode (now (s .entry)))))) ⌝ }
     ensures { λ r. ⌜ ((chart : Chart) (total : ℕ) → r ≡ Marked chart total → Entry (now (s .entry)) chart total (now (starts .exit)) (now (ends .exit)) (now (levels .exit))) ⌝ }
 {

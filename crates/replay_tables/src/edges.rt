@@ -10,7 +10,7 @@ ghost use Rattle.replay_tables.specs.Words.{Beside, Marked};
 use bits::bit;
 use chart::cursor::wide;
 use chart::format::Chart;
-use loading::fill::load_edges;
+use edge_tables::fill::load_edges;
 use replay_steps::tables::RegionTable;
 use splitting::Parts;
 

@@ -21,7 +21,7 @@ use Rattle.sorting.proofs.Sort.{rising-at, rising-in, places-rise}
 use Rattle.sweeps.specs.Sweep.{Between, Lies, Carried, Closed}
 use Rattle.sweeps.specs.SweepLaws.{Inner, carried, carried-long, masks-found}
 use Rattle.splitting.specs.Parts.{row, Split}
-use Rattle.splitting.proofs.Splitting.{parted-inner, parted-turned}
+use Rattle.splitting.proofs.Splitting.{parted-inner, parted-turned, between-turned}
 use Rattle.feeding.specs.Fed.{Fed, Owned, Sowed, Stored}
 use Rattle.levels.specs.Steps.{Leads, Bounded}
 use Rattle.search.specs.Search.{Standing, Sown, Spread, Cleared, Marked}
@@ -37,11 +37,11 @@ seeds {k = k} o f only all y = record {
 }
 
 -- they fit
-pub fed-fits : {L : ℕ → ℕ → Type 0} {sources own s : List ℕ} {k : ℕ} → k ≤ 64 → Owned sources k own → Fed L own (replicate 192 0) s
+pub fed-fits : {L : ℕ → ℕ → Type 0} {sources own old s : List ℕ} {k : ℕ} → old ≡ replicate 192 0 → k ≤ 64 → Owned sources k own → Fed L own old s
     → (length s ≡ 192) × ((y : ℕ) → getD s y 0 < 18446744073709551616)
-fed-fits {k = k} h o f = (
-  f .long ∙ length-replicate {A = ℕ} 192 0,
-  λ y. omega (arith, f .low k (o .low) (λ z. rw (zeros 192 z) (pow-pos k)) y, pow-mono {j = 64} h),
+fed-fits {k = k} b h o f = (
+  f .long ∙ rw b (length-replicate {A = ℕ} 192 0),
+  λ y. omega (arith, f .low k (o .low) (λ z. rw (b, zeros 192 z) (pow-pos k)) y, pow-mono {j = 64} h),
 )
 
 pub sown-fits : {E : ℕ → ℕ → Type 0} {sources s : List ℕ} {k : ℕ} → k ≤ 64 → Sown E sources k s → (y : ℕ) → getD s y 0 < 18446744073709551616
@@ -60,6 +60,14 @@ spread {stops = stops} {sources} {s = s} {t} {k} i l m c f = record {
     still : (y : ℕ) → (Clear stops y → ⊥) → getD t y 0 ≡ getD s y 0
     still y n = carried (λ t. getD t y 0 ≡ getD s y 0) (λ t x z q e. getD-set-other t z y _ 0 (λ r. n (rw r (i .only x z e .3 .1))) ∙ q) refl c
 
+-- behind the last node
+pub past : (l : List ℕ) (y : ℕ) → length l ≡ 192 → (y < 192 → ⊥) → getD l y 0 ≡ 0
+past l y q n = List·getD-eq-default l 0 (omega arith)
+
+pub path-node : {E : ℕ → ℕ → Type 0} {P : ℕ → Type 0} → ((x y : ℕ) → E x y → (x < 192) × (y < 192)) → {x y : ℕ} → Path E P x y → y < 192
+path-node node (last e) = node _ _ e .1
+path-node node (next e p v) = path-node node v
+
 -- cleared at the stops
 module _ {E : ℕ → ℕ → Type 0} {stops sources masks new : List ℕ} {k : ℕ} (node : (x y : ℕ) → E x y → (x < 192) × (y < 192))
     (w : Spread E stops sources k masks) (S : Standing stops sources k) (c : Stored 0 sources k masks new) where
@@ -69,15 +77,8 @@ module _ {E : ℕ → ℕ → Type 0} {stops sources masks new : List ℕ} {k : 
   kept : (y : ℕ) → Clear stops y → getD new y 0 ≡ getD masks y 0
   kept y p = c .rest y (λ b l e. S .on b l (rw e p))
 
-  past : (l : List ℕ) (y : ℕ) → length l ≡ 192 → (y < 192 → ⊥) → getD l y 0 ≡ 0
-  past l y q n = List·getD-eq-default l 0 (omega arith)
-
-  path-node : {x y : ℕ} → Path E (Clear stops) x y → y < 192
-  path-node (last e) = node _ _ e .1
-  path-node (next e p v) = path-node v
-
   empty : (l : List ℕ) (y : ℕ) → length l ≡ 192 → (y < 192 → ⊥) → Mask (λ b. Reached E (Clear stops) sources b y) k (getD l y 0)
-  empty l y q n = rw (past l y q n) (record { small = pow-pos k; only = λ b _ h. absurd (has-none b h); all = λ b _ v. absurd (n (path-node v)) })
+  empty l y q n = rw (past l y q n) (record { small = pow-pos k; only = λ b _ h. absurd (has-none b h); all = λ b _ v. absurd (n (path-node node v)) })
 
   pub cleared : Cleared E stops sources k new
   cleared = record {
@@ -177,9 +178,6 @@ module _ {edges : List (List ℕ)} {e : ℕ} {stops : List ℕ} {ups low ins : �
     pub listed-leads : (x y : ℕ) → Listed froms tos e x y → Leads tos places x y
     listed-leads x y t = let i = listed-placed x y t in record { at = i .at; from = i .from; below = i .below; value = i .value }
 
-between-turned : {keys values : List ℕ} {a b x y : ℕ} → Between keys values a b x y → Between values keys a b y x
-between-turned w = record { at = w .at; from = w .from; below = w .below; key = w .value; value = w .key }
-
 module _ {edges : List (List ℕ)} {e : ℕ} {stops : List ℕ} {ups low ins : ℕ} (T : Split edges e stops ups low ins) {sources : List ℕ} {total : ℕ} where
   -- forward, from any sources
   pub sown-ahead : {places s : List ℕ} → Places (row edges 0) e places → Sowed (row edges 1) places sources total s
@@ -193,12 +191,12 @@ module _ {edges : List (List ℕ)} {e : ℕ} {stops : List ℕ} {ups low ins : �
 
   module _ (S : Standing stops sources total) where
     -- backward, from the stops
-    pub spread-behind : {own s t : List ℕ} → Owned sources total own
-        → Fed (Between (row edges 5) (row edges 4) 0 ins) own (replicate 192 0) s
+    pub spread-behind : {own old s t : List ℕ} → old ≡ replicate 192 0 → Owned sources total own
+        → Fed (Between (row edges 5) (row edges 4) 0 ins) own old s
         → Carried bitOr (Lies (row edges 3) (row edges 2) ups low) s t → Closed Sub (Lies (row edges 3) (row edges 2) ups low) t
         → Spread (Listed (row edges 1) (row edges 0) e) stops sources total t
-    spread-behind o f = spread (parted-turned (T .plain) (T .from)) (f .long ∙ length-replicate {A = ℕ} 192 0)
-        (seeds o f (λ x y w. listed-turned y x (ins-listed T y x (between-turned w) .0))
+    spread-behind b o f = spread (parted-turned (T .plain) (T .from)) (f .long ∙ rw b (length-replicate {A = ℕ} 192 0))
+        (seeds o (rw b at f) (λ x y w. listed-turned y x (ins-listed T y x (between-turned w) .0))
         (λ b y l w. between-turned (listed-ins T y (getD sources b 0) (listed-turned (getD sources b 0) y w) (S .on b l))))
 
     pub marked-starts : {masks new all : List ℕ} → Spread (Listed (row edges 0) (row edges 1) e) stops sources total masks

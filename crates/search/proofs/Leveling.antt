@@ -5,9 +5,9 @@ use mathlib.Core.List.{List}
 use Prim.Native.Nat.{ℕ, _≤_, _<_}
 use native.Mathlib.Omega.{arith}
 use native.Mathlib.Decide.{ℕ-discrete, decLt}
-use lib.ListN.{length, getD, List·getD-eq-default}
+use lib.ListN.{getD}
 use Rattle.lists.specs.Common.{some-bit}
-use Rattle.paths.specs.Path.{Path, last, next, edges}
+use Rattle.paths.specs.Path.{edges}
 use Rattle.paths.specs.PathLaws.{edges-some}
 use Rattle.paths.specs.Graph.{Listed}
 use Rattle.paths.specs.Found.{Clear, Reached, ReachedIn, Leveled}
@@ -18,10 +18,7 @@ use Rattle.splitting.specs.Parts.{row, Split}
 use Rattle.splitting.proofs.Splitting.{parted-inner}
 use Rattle.feeding.specs.Levels.{Each, Begins, Tells}
 use Rattle.search.specs.Search.{Sown}
-use Rattle.search.proofs.Finding.{listed-node}
-
-past : (l : List ℕ) (y : ℕ) → length l ≡ 192 → (y < 192 → ⊥) → getD l y 0 ≡ 0
-past l y q n = List·getD-eq-default l 0 (omega arith)
+use Rattle.search.proofs.Finding.{past, path-node, listed-node}
 
 -- levels to start from fit
 pub begins-fit : {s d : List ℕ} → Each Begins s d → (y : ℕ) → getD d y 0 ≤ 254
@@ -34,7 +31,7 @@ abbrev Inside : List ℕ → ℕ → Type 0
 Inside stops y = (y < 192) × Clear stops y
 
 module _ {E L : ℕ → ℕ → Type 0} (stops : List ℕ) {sources s d u v : List ℕ} {k : ℕ} (inner : Inner E (Clear stops) (Inside stops) L)
-    (node : (x y : ℕ) → E x y → y < 192) (sown : Sown E sources k s) (begins : Each Begins s d) (c : Carried nearer L d u)
+    (node : (x y : ℕ) → E x y → (x < 192) × (y < 192)) (sown : Sown E sources k s) (begins : Each Begins s d) (c : Carried nearer L d u)
     (shut : Closed Follows L u) (tells : Each Tells u v) where
   begun : Begun E (Inside stops) sources k d
   begun = record {
@@ -55,14 +52,10 @@ module _ {E L : ℕ → ℕ → Type 0} (stops : List ℕ) {sources s d u v : Li
   some : (y : ℕ) → Inside stops y → getD u y 0 < 254 → 0 < getD u y 0
   some y q m = let r = found .path y q m in omega (arith, r .long, edges-some (r .path))
 
-  path-node : {x y : ℕ} → Path E (Clear stops) x y → y < 192
-  path-node (last e) = node _ _ e
-  path-node (next e p w) = path-node w
-
   pub leveled : Leveled E (Clear stops) (Clear stops) sources k v
   leveled = record {
     path = λ y p h. path y p h (decLt y 192) (decLt (getD u y 0) 254);
-    least = λ b y l p w. least b y l (path-node w, p) w;
+    least = λ b y l p w. least b y l (path-node node w, p) w;
   }
     where
       path : (y : ℕ) → Clear stops y → 0 < getD v y 0 → Dec (y < 192) → Dec (getD u y 0 < 254)
@@ -82,4 +75,4 @@ pub leveled-ahead : {edges : List (List ℕ)} {e : ℕ} {stops sources s d u v :
     → Sown (Listed (row edges 0) (row edges 1) e) sources total s → Each Begins s d
     → Carried nearer (Lies (row edges 2) (row edges 3) ups low) d u → Closed Follows (Lies (row edges 2) (row edges 3) ups low) u
     → Each Tells u v → Leveled (Listed (row edges 0) (row edges 1) e) (Clear stops) (Clear stops) sources total v
-leveled-ahead {stops = stops} T = leveled stops (parted-inner (T .plain) (T .to)) (λ x y l. listed-node T x y l .1)
+leveled-ahead {stops = stops} T = leveled stops (parted-inner (T .plain) (T .to)) (listed-node T)

@@ -1,12 +1,12 @@
 // The search, from up to 64 sources at once: for each node a mask with a bit for each source from which a path leads there, and forward
 // the fewest edges on such a path. What the sources' edges lead to is closed by sweeps along the edges between nodes that may be passed,
 // forward or with the edges turned round. The fewest edges are swept or searched, breadth first; where all paths begin at one source, they
-// tell its masks, and no sweep is needed.
+// tell its masks, and no sweep is needed. Masks are 0 when a search gets them: its caller has just made them, and clearing them again costs.
 ghost use mathlib.Core.Path.{_≡_};
 ghost use mathlib.Core.Bool.{true};
 ghost use mathlib.Core.List.{List};
 ghost use Prim.Native.Nat.{ℕ, _+_, _≤_, _<_};
-ghost use lib.ListN.{getD, length};
+ghost use lib.ListN.{getD, length, replicate};
 ghost use Rattle.paths.specs.Graph.{Listed, Places};
 ghost use Rattle.paths.specs.Found.{Clear, Leveled};
 ghost use Rattle.splitting.specs.Parts.{row, Split};
@@ -36,7 +36,7 @@ fn depart(
     masks: &mut [u64; Chart::NODES],
     levels: &mut [u8; Chart::NODES],
 )
-    requires { ⌜ (total ≤ 64) × ((ups : ℕ) × (low : ℕ) × (ins : ℕ) × Ready (now edges) (now places) ups low ins) ⌝ }
+    requires { ⌜ (total ≤ 64) × (now masks ≡ replicate 192 0) × ((ups : ℕ) × (low : ℕ) × (ins : ℕ) × Ready (now edges) (now places) ups low ins) ⌝ }
     requires { ⌜ ((b : ℕ) → getD (now sources) b 0 < 192) ⌝ }
     ensures { λ _. ⌜ ((e : ℕ) (stops : List ℕ) (ups low ins : ℕ) → Split (now (edges .entry)) e stops ups low ins → Places (row (now (edges .entry)) 0) e (now (places .entry)) → Sown (Listed (row (now (edges .entry)) 0) (row (now (edges .entry)) 1) e) (now (sources .entry)) total (now (masks .exit))) ⌝ }
     ensures { λ _. ⌜ Each Begins (now (masks .exit)) (now (levels .exit)) ⌝ }
@@ -69,7 +69,7 @@ pub fn ahead(
     total: usize,
     masks: &mut [u64; Chart::NODES],
 )
-    requires { ⌜ (total ≤ 64) × Ready (now edges) (now places) (parts .ups) (parts .low) (parts .ins) ⌝ }
+    requires { ⌜ (total ≤ 64) × (now masks ≡ replicate 192 0) × Ready (now edges) (now places) (parts .ups) (parts .low) (parts .ins) ⌝ }
     requires { ⌜ ((b : ℕ) → getD (now sources) b 0 < 192) ⌝ }
     ensures { λ _. ⌜ ((e : ℕ) (stops : List ℕ) → Split (now (edges .entry)) e stops (parts .ups) (parts .low) (parts .ins) → Places (row (now (edges .entry)) 0) e (now (places .entry)) → Spread (Listed (row (now (edges .entry)) 0) (row (now (edges .entry)) 1) e) stops (now (sources .entry)) total (now (masks .exit))) ⌝ }
 {
@@ -86,13 +86,12 @@ fn behind(
     total: usize,
     masks: &mut [u64; Chart::NODES],
 )
-    requires { ⌜ (total ≤ 64) × ((b : ℕ) → getD (now sources) b 0 < 192) ⌝ }
+    requires { ⌜ (total ≤ 64) × (now masks ≡ replicate 192 0) × ((b : ℕ) → getD (now sources) b 0 < 192) ⌝ }
     requires { ⌜ ((e : ℕ) × (stops : List ℕ) × Split (now edges) e stops (parts .ups) (parts .low) (parts .ins)) ⌝ }
     ensures { λ _. ⌜ ((e : ℕ) (stops : List ℕ) → Split (now (edges .entry)) e stops (parts .ups) (parts .low) (parts .ins) → Standing stops (now (sources .entry)) total → Spread (Listed (row (now (edges .entry)) 1) (row (now (edges .entry)) 0) e) stops (now (sources .entry)) total (now (masks .exit))) ⌝ }
 {
     let mut own = [0u64; Chart::NODES];
     stand(sources, total, &mut own);
-    *masks = [0u64; Chart::NODES];
     feed(
         &edges[Parts::STOP_TO],
         &edges[Parts::STOP_FROM],
@@ -174,7 +173,7 @@ pub fn starts(
     levels: &mut [u8; Chart::NODES],
     all: &mut [u64; Chart::NODES],
 )
-    requires { ⌜ (extent .barriers ≤ 64) × Ready (now edges) (now places) (extent .parts .ups) (extent .parts .low) (extent .parts .ins) ⌝ }
+    requires { ⌜ (extent .barriers ≤ 64) × (now masks ≡ replicate 192 0) × Ready (now edges) (now places) (extent .parts .ups) (extent .parts .low) (extent .parts .ins) ⌝ }
     requires { ⌜ ((b : ℕ) → getD (now nodes) b 0 < 192) ⌝ }
     ensures { λ _. ⌜ ((e : ℕ) (stops : List ℕ) → Split (now (edges .entry)) e stops (extent .parts .ups) (extent .parts .low) (extent .parts .ins) → Places (row (now (edges .entry)) 0) e (now (places .entry)) → Standing stops (now (nodes .entry)) (extent .barriers) → Marked (Listed (row (now (edges .entry)) 0) (row (now (edges .entry)) 1) e) stops (now (nodes .entry)) (extent .barriers) (now (masks .exit)) (now (all .exit)) × Leveled (Listed (row (now (edges .entry)) 0) (row (now (edges .entry)) 1) e) (Clear stops) (Clear stops) (now (nodes .entry)) (extent .barriers) (now (levels .exit))) ⌝ }
 {
@@ -202,7 +201,7 @@ pub fn ends(
     nodes: &[u8; Chart::BARRIERS],
     masks: &mut [u64; Chart::NODES],
 )
-    requires { ⌜ (extent .barriers ≤ 64) × ((b : ℕ) → getD (now nodes) b 0 < 192) ⌝ }
+    requires { ⌜ (extent .barriers ≤ 64) × (now masks ≡ replicate 192 0) × ((b : ℕ) → getD (now nodes) b 0 < 192) ⌝ }
     requires { ⌜ ((e : ℕ) × (stops : List ℕ) × Split (now edges) e stops (extent .parts .ups) (extent .parts .low) (extent .parts .ins)) ⌝ }
     ensures { λ _. ⌜ ((e : ℕ) (stops : List ℕ) → Split (now (edges .entry)) e stops (extent .parts .ups) (extent .parts .low) (extent .parts .ins) → Standing stops (now (nodes .entry)) (extent .barriers) → Cleared (Listed (row (now (edges .entry)) 1) (row (now (edges .entry)) 0) e) stops (now (nodes .entry)) (extent .barriers) (now (masks .exit))) ⌝ }
 {

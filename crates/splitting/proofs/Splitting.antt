@@ -13,6 +13,7 @@ use lib.Seq.{getD-set-same, getD-set-other}
 use Rattle.lists.specs.Store.{at-set}
 use Rattle.paths.specs.Graph.{Listed, Rising}
 use Rattle.paths.specs.Found.{Clear}
+use Rattle.paths.specs.FoundLaws.{listed-turned}
 use Rattle.sweeps.specs.Sweep.{Between, Lies, Ahead, place}
 use Rattle.sweeps.specs.SweepLaws.{Inner}
 use Rattle.splitting.specs.Parts.{Kept, Parted, Put, Come, Noted}
@@ -277,30 +278,48 @@ put-turn {keys} {values} {stops} {e} {j} {s} {t} {s′} {t′} {ups} {low} {ups�
 
 -- what the parts are good for
 
+pub between-turned : {keys values : List ℕ} {a b x y : ℕ} → Between keys values a b x y → Between values keys a b y x
+between-turned w = record { at = w .at; from = w .from; below = w .below; key = w .value; value = w .key }
+
+swap : {s t : List ℕ} {ups low x y : ℕ} → Lies s t ups low x y → Lies t s ups low y x
+swap (inl w) = inl (between-turned w)
+swap (inr w) = inr (between-turned w)
+
 module _ {keys values stops : List ℕ} {e : ℕ} {s t : List ℕ} {ups low : ℕ} (i : Parted keys values stops e s t ups low) where
   -- they have the graph's edges between nodes that may be passed
-  pub parted-inner : ((j : ℕ) → getD values j 0 < 192)
-      → Inner (Listed keys values e) (Clear stops) (λ y. (y < 192) × Clear stops y) (Lies s t ups low)
-  parted-inner vn = record {
-    node = node;
-    only = only;
-    all = λ x y p q l. rw (l .key, l .value) at (i .all (l .at) (l .below) (rw (l .key) p) (rw (l .value) (q .1)));
-    pass = λ x z l p. (rw (l .value) at (vn (l .at)), p);
-  }
+  lies-only : (x y : ℕ) → Lies s t ups low x y
+      → Listed keys values e x y × Clear stops x × ((x < 192) × Clear stops x) × ((y < 192) × Clear stops y)
+  lies-only x y l = elim l [
+    | inl w ↦ rw (w .key, w .value) at (each (w .at) (i .up (w .at) (w .below) .0))
+    | inr w ↦ rw (w .key, w .value) at (each (w .at) (i .down (w .at) (w .from) (w .below) .0))
+  ]
     where
       each : (k : ℕ) → Kept keys values stops e (getD s k 0) (getD t k 0)
           → Listed keys values e (getD s k 0) (getD t k 0) × Clear stops (getD s k 0) × ((getD s k 0 < 192) × Clear stops (getD s k 0))
           × ((getD t k 0 < 192) × Clear stops (getD t k 0))
       each k w = (w .edge, w .from, (i .node-s k, w .from), (i .node-t k, w .to))
 
-      node : (x y : ℕ) → Lies s t ups low x y → y < 192
-      node x y (inl w) = rw (w .value) at (i .node-t (w .at))
-      node x y (inr w) = rw (w .value) at (i .node-t (w .at))
+  listed-lies : (x y : ℕ) → Clear stops x → Clear stops y → Listed keys values e x y → Lies s t ups low x y
+  listed-lies x y p q l = rw (l .key, l .value) at (i .all (l .at) (l .below) (rw (l .key) p) (rw (l .value) q))
 
-      only : (x y : ℕ) → Lies s t ups low x y
-          → Listed keys values e x y × Clear stops x × ((x < 192) × Clear stops x) × ((y < 192) × Clear stops y)
-      only x y (inl w) = rw (w .key, w .value) at (each (w .at) (i .up (w .at) (w .below) .0))
-      only x y (inr w) = rw (w .key, w .value) at (each (w .at) (i .down (w .at) (w .from) (w .below) .0))
+  pub parted-inner : ((j : ℕ) → getD values j 0 < 192)
+      → Inner (Listed keys values e) (Clear stops) (λ y. (y < 192) × Clear stops y) (Lies s t ups low)
+  parted-inner vn = record {
+    node = λ x y l. lies-only x y l .3 .0;
+    only = lies-only;
+    all = λ x y p q. listed-lies x y p (q .1);
+    pass = λ x z l p. (rw (l .value) at (vn (l .at)), p);
+  }
+
+  -- and turned round those of the graph turned round
+  pub parted-turned : ((j : ℕ) → getD keys j 0 < 192)
+      → Inner (Listed values keys e) (Clear stops) (λ y. (y < 192) × Clear stops y) (Lies t s ups low)
+  parted-turned kn = record {
+    node = λ x y l. lies-only y x (swap l) .2 .0;
+    only = λ x y l. let (e, p, q, r) = lies-only y x (swap l) in (listed-turned y x e, r .1, r, q);
+    all = λ x y p q l. swap (listed-lies y x (q .1) p (listed-turned x y l));
+    pass = λ x z l p. (rw (l .value) at (kn (l .at)), p);
+  }
 
   -- forward
   pub ups-ahead : Ahead s t 0 ups false
@@ -325,33 +344,3 @@ module _ {keys values stops : List ℕ} {e : ℕ} {s t : List ℕ} {ups low : �
       let a′ = low + (1024 - 1 - a) in
       let k′ = low + (1024 - 1 - k) in
       inl (omega (arith, i .falling k′ a′ (omega arith) (omega arith) (omega arith), i .down a′ (omega arith) (omega arith) .1))
-
--- The same backward: the lists with their columns swapped have the edges turned round.
-pub parted-turned : {keys values stops : List ℕ} {e : ℕ} {s t : List ℕ} {ups low : ℕ} → Parted keys values stops e s t ups low
-    → ((j : ℕ) → getD keys j 0 < 192) → Inner (Listed values keys e) (Clear stops) (λ y. (y < 192) × Clear stops y) (Lies t s ups low)
-parted-turned {keys} {values} {stops} {e} {s} {t} {ups} {low} i kn = record {
-  node = node;
-  only = only;
-  all = λ x y p q l. rw (l .key, l .value) at (swap (i .all (l .at) (l .below) (rw (l .value) (q .1)) (rw (l .key) p)));
-  pass = λ x z l p. (rw (l .value) at (kn (l .at)), p);
-}
-  where
-    swap : {x y : ℕ} → Lies s t ups low x y → Lies t s ups low y x
-    swap (inl w) = inl (record { at = w .at; from = w .from; below = w .below; key = w .value; value = w .key })
-    swap (inr w) = inr (record { at = w .at; from = w .from; below = w .below; key = w .value; value = w .key })
-
-    each : (k : ℕ) → Kept keys values stops e (getD s k 0) (getD t k 0)
-        → Listed values keys e (getD t k 0) (getD s k 0) × Clear stops (getD t k 0) × ((getD t k 0 < 192) × Clear stops (getD t k 0))
-        × ((getD s k 0 < 192) × Clear stops (getD s k 0))
-    each k w =
-        let l = w .edge in
-        (record { at = l .at; below = l .below; key = l .value; value = l .key }, w .to, (i .node-t k, w .to), (i .node-s k, w .from))
-
-    node : (x y : ℕ) → Lies t s ups low x y → y < 192
-    node x y (inl w) = rw (w .value) at (i .node-s (w .at))
-    node x y (inr w) = rw (w .value) at (i .node-s (w .at))
-
-    only : (x y : ℕ) → Lies t s ups low x y
-        → Listed values keys e x y × Clear stops x × ((x < 192) × Clear stops x) × ((y < 192) × Clear stops y)
-    only x y (inl w) = rw (w .key, w .value) at (each (w .at) (i .up (w .at) (w .below) .0))
-    only x y (inr w) = rw (w .key, w .value) at (each (w .at) (i .down (w .at) (w .from) (w .below) .0))

@@ -1,7 +1,7 @@
 // The entrance of the calls that answer pairs: rows 1 to 10 and 23 of the refusals, and everything that the answers of a region are read off.
 ghost use mathlib.Core.Path.{_≡_};
 ghost use Prim.Native.Nat.{ℕ, _<_};
-ghost use lib.ListN.{length, getD};
+ghost use lib.ListN.{getD, replicate};
 ghost use Rattle.chart.specs.Format.{decode};
 ghost use Rattle.chart.specs.Scope.{beginNode, endNode};
 ghost use Rattle.chart.specs.Refusal.{firstOf};
@@ -16,10 +16,10 @@ ghost use Rattle.survey.specs.declared.Surveyed.the-variants.{Marked};
 use chart::format::Chart;
 use chart::format::Checked;
 use chart::format::Refusal;
+use edge_tables::tables::load_tables;
 use entrance::enter;
 use held_nodes::fill_held;
 use loading::load::frames;
-use loading::tables::load_tables;
 use marking::masks::fill_ends;
 use marking::masks::fill_starts;
 use marking::returns::returns;
@@ -46,7 +46,7 @@ fn survey_chart(
     end_nodes: &[u8; Chart::BARRIERS],
     marks: &mut MaskTable,
 ) -> Surveyed
-    requires { ⌜ (checked (now s) ≡ Passed chart) × (length (now marks) ≡ 3) ⌝ }
+    requires { ⌜ (checked (now s) ≡ Passed chart) × (now marks ≡ replicate 3 (replicate 192 0)) ⌝ }
     requires { ⌜ Framed (decode (now s)) beginNode (now «begin_nodes») × Framed (decode (now s)) endNode (now «end_nodes») ⌝ }
     ensures { λ r. ⌜ checkedOf r ≡ answer (firstOf (admitRows (now (s .entry)))) (countsOf (now (s .entry))) ⌝ }
     ensures { λ r. ⌜ ((chart : Chart) (sets : Sets) → r ≡ Marked chart sets → Survey (now (s .entry)) chart (now (marks .exit)) sets) ⌝ }
@@ -73,7 +73,7 @@ fn survey_chart(
 
 // The first of rows 1 to 10 that applies, or all masks of all nodes, of the outermost region.
 fn survey_outermost(s: &[u8], marks: &mut MaskTable) -> Surveyed
-    requires { ⌜ length (now marks) ≡ 3 ⌝ }
+    requires { ⌜ now marks ≡ replicate 3 (replicate 192 0) ⌝ }
     ensures { λ r. ⌜ checkedOf r ≡ answer (firstOf (admitRows (now (s .entry)))) (countsOf (now (s .entry))) ⌝ }
     ensures { λ r. ⌜ ((chart : Chart) (sets : Sets) → r ≡ Marked chart sets → Survey (now (s .entry)) chart (now (marks .exit)) sets) ⌝ }
 {
@@ -87,7 +87,7 @@ fn survey_outermost(s: &[u8], marks: &mut MaskTable) -> Surveyed
 
 // What each node of any region of a chart holds, and the constructs of each kind.
 fn hold(s: &[u8], chart: Chart, held: &mut [u64; Chart::NODES]) -> Sets
-    requires { ⌜ Accepted (now s) chart ⌝ }
+    requires { ⌜ Accepted (now s) chart × (now held ≡ replicate 192 0) ⌝ }
     ensures { λ r. ⌜ Kinds (reading (now (s .entry)) chart) r ⌝ }
     ensures { λ _. ⌜ ((x : ℕ) → x < chart .nodes → Held (reading (now (s .entry)) chart) x (getD (now (held .exit)) x 0)) ⌝ }
 {
@@ -107,7 +107,7 @@ fn hold(s: &[u8], chart: Chart, held: &mut [u64; Chart::NODES]) -> Sets
 // The first of rows 1 to 10 and 23 that applies, or all masks of all nodes, of any region: the entrance marks it, and its tables are loaded
 // once more for what the nodes hold.
 fn survey_inner(s: &[u8], region: usize, marks: &mut MaskTable) -> Surveyed
-    requires { ⌜ length (now marks) ≡ 3 ⌝ }
+    requires { ⌜ now marks ≡ replicate 3 (replicate 192 0) ⌝ }
     ensures { λ r. ⌜ checkedOf r ≡ answer (firstOf (regionRows (now (s .entry)) region)) (readFor (countsOf (now (s .entry))) region) ⌝ }
     ensures { λ r. ⌜ ((chart : Chart) (sets : Sets) → r ≡ Marked chart sets → Survey (now (s .entry)) chart (now (marks .exit)) sets) ⌝ }
 {
@@ -125,9 +125,9 @@ fn survey_inner(s: &[u8], region: usize, marks: &mut MaskTable) -> Surveyed
     }
 }
 
-// The first of rows 1 to 10 and 23 that applies, or all masks of all nodes of the region. The outermost one is loaded and marked once.
+// The first of rows 1 to 10 and 23 that applies, or all masks of all nodes of the region, which are 0 before. The outermost one is loaded and marked once.
 pub fn survey(s: &[u8], region: usize, marks: &mut MaskTable) -> Surveyed
-    requires { ⌜ length (now marks) ≡ 3 ⌝ }
+    requires { ⌜ now marks ≡ replicate 3 (replicate 192 0) ⌝ }
     ensures { λ r. ⌜ checkedOf r ≡ answer (firstOf (regionRows (now (s .entry)) region)) (readFor (countsOf (now (s .entry))) region) ⌝ }
     ensures { λ r. ⌜ ((chart : Chart) (sets : Sets) → r ≡ Marked chart sets → Survey (now (s .entry)) chart (now (marks .exit)) sets) ⌝ }
 {

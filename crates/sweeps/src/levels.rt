@@ -2,7 +2,7 @@
 ghost use mathlib.Core.Path.{_≡_};
 ghost use Prim.Native.Nat.{ℕ, _≤_, _<_, min};
 ghost use lib.ListN.{getD, length};
-ghost use Rattle.sweeps.specs.Sweep.{Lies, Step, Run, Carried, Closed, Ahead};
+ghost use Rattle.sweeps.specs.Sweep.{Lies, Run, Carried, Closed, Ahead};
 ghost use Rattle.sweeps.specs.LevelLaws.{nearer, Follows};
 use crate::close::place_of;
 use chart::format::Chart;
@@ -19,85 +19,20 @@ fn smaller(a: u8, b: u8) -> u8
     b
 }
 
-// The level of x comes to y; what is new.
-fn follow(levels: &mut [u8; Chart::NODES], x: u8, y: u8) -> u8
-    requires { ⌜ (length (now levels) ≡ 192) × (x < 192) × (y < 192) × (getD (now levels) x 0 ≤ 254) ⌝ }
-    ensures { λ r. ⌜ Step nearer x y (now (levels .entry)) (now (levels .exit)) r ⌝ }
-{
-    let to = y as usize;
-    let old = levels[to];
-    let level = smaller(old, levels[x as usize] + 1);
-    levels[to] = level;
-    level ^ old
-}
-
-// Along the edges from place a up to place b; what is new, 0 when nothing is.
-fn ascend_many(
-    keys: &[u8; Chart::EDGES],
-    values: &[u8; Chart::EDGES],
-    a: usize,
-    b: usize,
-    back: bool,
-    levels: &mut [u8; Chart::NODES],
-) -> u8
-    requires { ⌜ (a ≤ b) × (b ≤ 1024) × (length (now levels) ≡ 192) ⌝ }
-    requires { ⌜ ((j : ℕ) → getD (now keys) j 0 < 192) ⌝ }
-    requires { ⌜ ((j : ℕ) → getD (now values) j 0 < 192) ⌝ }
-    requires { ⌜ ((y : ℕ) → getD (now levels) y 0 ≤ 254) ⌝ }
-    ensures { λ r. ⌜ Run nearer (now (keys .entry)) (now (values .entry)) a b back (now (levels .entry)) b (now (levels .exit)) r ⌝ }
-{
-    let mut new = 0;
-    let mut j = a;
-    while j < b {
-        let at = place_of(a, b, j, back);
-        new = new | follow(levels, keys[at], values[at]);
-        j += 1;
-    }
-    new
-}
-
-// The level of x; that of the node written last is at hand.
-fn level_of(levels: &[u8; Chart::NODES], x: u8, last: u8, level: u8) -> u8
+// The level of x. Along a few edges, where each often goes on from the one before, the level last written is at hand and not read back.
+fn level_of(levels: &[u8; Chart::NODES], x: u8, last: u8, level: u8, few: bool) -> u8
     requires { ⌜ (x < 192) × (x ≡ last → level ≡ getD (now levels) x 0) ⌝ }
     ensures { λ r. ⌜ r ≡ getD (now (levels .entry)) x 0 ⌝ }
 {
-    if x == last {
-        return level;
+    if few {
+        if x == last {
+            return level;
+        }
     }
     levels[x as usize]
 }
 
-// The same along a few edges, where each often goes on from the one before: the level last written is not read back.
-fn ascend_few(
-    keys: &[u8; Chart::EDGES],
-    values: &[u8; Chart::EDGES],
-    a: usize,
-    b: usize,
-    back: bool,
-    levels: &mut [u8; Chart::NODES],
-) -> u8
-    requires { ⌜ (a ≤ b) × (b ≤ 1024) × (length (now levels) ≡ 192) ⌝ }
-    requires { ⌜ ((j : ℕ) → getD (now keys) j 0 < 192) ⌝ }
-    requires { ⌜ ((j : ℕ) → getD (now values) j 0 < 192) ⌝ }
-    requires { ⌜ ((y : ℕ) → getD (now levels) y 0 ≤ 254) ⌝ }
-    ensures { λ r. ⌜ Run nearer (now (keys .entry)) (now (values .entry)) a b back (now (levels .entry)) b (now (levels .exit)) r ⌝ }
-{
-    let mut new = 0;
-    let mut last = 255;
-    let mut level = 0;
-    let mut j = a;
-    while j < b {
-        let at = place_of(a, b, j, back);
-        let old = levels[values[at] as usize];
-        level = smaller(old, level_of(levels, keys[at], last, level) + 1);
-        last = values[at];
-        levels[last as usize] = level;
-        new = new | (level ^ old);
-        j += 1;
-    }
-    new
-}
-
+// Along the edges from place a up to place b; what is new, 0 when nothing is.
 fn ascend(
     keys: &[u8; Chart::EDGES],
     values: &[u8; Chart::EDGES],
@@ -112,10 +47,21 @@ fn ascend(
     requires { ⌜ ((y : ℕ) → getD (now levels) y 0 ≤ 254) ⌝ }
     ensures { λ r. ⌜ Run nearer (now (keys .entry)) (now (values .entry)) a b back (now (levels .entry)) b (now (levels .exit)) r ⌝ }
 {
-    if b - a < 200 {
-        return ascend_few(keys, values, a, b, back, levels);
+    let few = b - a < 200;
+    let mut new = 0;
+    let mut last = 255;
+    let mut level = 0;
+    let mut j = a;
+    while j < b {
+        let at = place_of(a, b, j, back);
+        let old = levels[values[at] as usize];
+        level = smaller(old, level_of(levels, keys[at], last, level, few) + 1);
+        last = values[at];
+        levels[last as usize] = level;
+        new = new | (level ^ old);
+        j += 1;
     }
-    ascend_many(keys, values, a, b, back, levels)
+    new
 }
 
 // Along the rising edges and the falling ones by turns, until nothing is new.

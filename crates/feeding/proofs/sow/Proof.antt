@@ -19,11 +19,11 @@ abbrev μ-loop : tie.MeasureT-loop
 μ-loop values places sources total masks₀ levels₀ b₀ masks levels b = total - b
 
 loop-holds : tie.Need-loop-holds Inv-loop μ-loop
-loop-holds c = (omega arith, sowed-none _ _ _, begins-none)
+loop-holds c = let blank = c .before .pre .0 .1 in (omega arith, rw blank (sowed-none _ _ _), rw blank begins-none)
 
 -- where the function was called
 abbrev start : (l : tie.At-loop Inv-loop μ-loop) → tie.Start Inv-loop μ-loop
-start l = l .before .before .before
+start l = l .before .before
 
 element-copy-out-wide : tie.Need-element-copy-out-wide Inv-loop μ-loop
 element-copy-out-wide c = omega (arith, start (c .before) .pre .0 .0)
@@ -57,7 +57,7 @@ sow-edges-requires c κs =
     let own = c .before .before in
     let at = own .before .before .before in
     let l = at .before .before .before in
-    let ((few, places), (values, sources)) = start l .pre in
+    let ((few, blank, places), (values, sources)) = start l .pre in
     let (order, most) = places (at .wide .result) (below at) in
     let (under, sowed, begun) = l .loop .inv in
     ((order, most, omega (arith, own .bit .ensures, pow-pos (l .loop .b)), sowed .long, begun), values)

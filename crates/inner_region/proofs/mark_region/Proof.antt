@@ -1,8 +1,9 @@
 -- `inner_region::mark_region` meets its contract.
 -- Assumes nothing.
+use mathlib.Core.Path.{refl}
 use native.Mathlib.Omega.{arith}
 use Rattle.loading.proofs.Accepted.{well-formed}
-use Rattle.loading.proofs.Tabling.{blank-none}
+use Rattle.edge_tables.proofs.Tabling.{blank-none}
 use Rattle.outermost.proofs.Entering.{few, not-none, nodes-below}
 use Rattle.inner_region.proofs.mark_region.Statement.{statement}
 use Rattle.inner_region.proofs.mark_region.Tie as tie
@@ -13,24 +14,24 @@ start c = c .before .before .before .before .before .before
 
 -- before the first search, and before the second
 abbrev loaded : (c : tie.After-fill-starts) → tie.After-load-tables
-loaded c = c .before .before .before .before .before .before .before
+loaded c = c .before .before .before .before .before .before .before .before .before
 
 load-tables-requires : tie.Need-load-tables-requires
-load-tables-requires c κs = (c .before .before .before .before .before .pre, blank-none)
+load-tables-requires c κs = (c .before .before .before .before .before .pre, blank-none, refl)
 
 fill-starts-requires : tie.Need-fill-starts-requires
 fill-starts-requires c κs =
-    let l = c .before .before .before .before .before .before in
+    let l = c .before .before .before .before .before .before .before .before in
     let A = start l .pre in
     let (T, (H, (S, N, Q))) = l .load-tables .ensures in
-    ((few A N, not-none A N, omega (arith, Q, A .laid .nodes-most), (_, _, H)), nodes-below A N)
+    ((few A N, not-none A N, omega (arith, Q, A .laid .nodes-most), refl, (_, _, H)), nodes-below A N)
 
 fill-ends-requires : tie.Need-fill-ends-requires
 fill-ends-requires c κs =
     let l = loaded (c .before .before .before) in
     let A = start l .pre in
     let (T, (H, (S, N, Q))) = l .load-tables .ensures in
-    ((few A N, not-none A N, omega (arith, Q, A .laid .nodes-most), (_, _, H .split)), nodes-below A N)
+    ((few A N, not-none A N, omega (arith, Q, A .laid .nodes-most), refl, (_, _, H .split)), nodes-below A N)
 
 returns : tie.Need-returns
 returns c =

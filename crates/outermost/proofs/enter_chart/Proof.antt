@@ -1,12 +1,12 @@
 -- `outermost::enter_chart` meets its contract: from start forward, and from finish backward.
 -- Assumes nothing.
-use mathlib.Core.Path.{sym, _∙_}
+use mathlib.Core.Path.{refl, sym, _∙_}
 use native.Mathlib.Omega.{arith}
 use Rattle.lists.specs.Truth.{bad}
 use Rattle.chart.proofs.Records.{nodes-length}
 use Rattle.loading.specs.Tables.{Accepted}
 use Rattle.loading.proofs.Accepted.{accepted, well-formed}
-use Rattle.loading.proofs.Tabling.{blank-none}
+use Rattle.edge_tables.proofs.Tabling.{blank-none}
 use Rattle.outermost.specs.Entered.{Entry}
 use Rattle.outermost.proofs.Entering.{marked-same, few, not-none, nodes-below, unreached, stuck, connects, refuses, marks}
 use Rattle.outermost.proofs.enter_chart.Statement.{statement}
@@ -17,7 +17,7 @@ abbrev start : (c : tie.After-load-tables) → tie.Start
 start c = c .before .before .before .before .before .before
 
 is-accepted : (c : tie.After-load-tables) → Accepted (start c .args .s .now) (start c .args .chart)
-is-accepted c = accepted _ _ (start c .pre)
+is-accepted c = accepted _ _ (start c .pre .0)
 
 -- before the first search, and before the second
 abbrev loaded : (c : tie.After-fill-starts) → tie.After-load-tables
@@ -27,14 +27,14 @@ abbrev forth : (c : tie.After-fill-ends) → tie.Else1
 forth c = c .before .before .before .before
 
 load-tables-requires : tie.Need-load-tables-requires
-load-tables-requires c κs = (accepted _ _ (c .before .before .before .before .before .pre), blank-none)
+load-tables-requires c κs = (accepted _ _ (c .before .before .before .before .before .pre .0), blank-none, refl)
 
 fill-starts-requires : tie.Need-fill-starts-requires
 fill-starts-requires c κs =
     let l = c .before .before .before .before .before .before in
     let A = is-accepted l in
     let (T, (H, (S, N, Q))) = l .load-tables .ensures in
-    ((few A N, not-none A N, omega (arith, Q, A .laid .nodes-most), (_, _, H)), nodes-below A N)
+    ((few A N, not-none A N, omega (arith, Q, A .laid .nodes-most), start l .pre .1, (_, _, H)), nodes-below A N)
 
 returns : tie.Need-returns
 returns c =
@@ -43,14 +43,14 @@ returns c =
     let A = is-accepted l in
     let (T, (H, (S, N, Q))) = l .load-tables .ensures in
     let lost = c .before .fill-starts .ensures .0 _ (well-formed _ _ A) T S N (Q ∙ sym (nodes-length _ _ (A .laid))) in
-    (refuses _ _ (e .pre) 10 (unreached _ _ (e .pre) N (sym lost ∙ c .if1 .taken)), λ chart total q. absurd (bad (cc)))
+    (refuses _ _ (e .pre .0) 10 (unreached _ _ (e .pre .0) N (sym lost ∙ c .if1 .taken)), λ chart total q. absurd (bad (cc)))
 
 fill-ends-requires : tie.Need-fill-ends-requires
 fill-ends-requires c κs =
     let l = loaded (c .before .before .before .before) in
     let A = is-accepted l in
     let (T, (H, (S, N, Q))) = l .load-tables .ensures in
-    ((few A N, not-none A N, omega (arith, Q, A .laid .nodes-most), (_, _, H .split)), nodes-below A N)
+    ((few A N, not-none A N, omega (arith, Q, A .laid .nodes-most), start l .pre .2, (_, _, H .split)), nodes-below A N)
 
 returns-2 : tie.Need-returns-2
 returns-2 c =
@@ -59,7 +59,7 @@ returns-2 c =
     let A = is-accepted l in
     let (T, (H, (S, N, Q))) = l .load-tables .ensures in
     let lost = c .before .fill-ends .ensures .0 _ _ _ (well-formed _ _ A) T S N (Q ∙ sym (nodes-length _ _ (A .laid))) in
-    (refuses _ _ (e .pre) 10 (stuck _ _ (e .pre) N lost (c .if2 .taken)), λ chart total q. absurd (bad (cc)))
+    (refuses _ _ (e .pre .0) 10 (stuck _ _ (e .pre .0) N lost (c .if2 .taken)), λ chart total q. absurd (bad (cc)))
 
 returns-3 : tie.Need-returns-3
 returns-3 c =
@@ -72,8 +72,8 @@ returns-3 c =
     let n = Q ∙ sym (nodes-length _ _ (A .laid)) in
     let (lost, starts) = left .before .fill-starts .ensures in
     let (lost′, ends) = c .before .fill-ends .ensures in
-    let admits = connects _ _ (e .pre) N (lost′ _ _ _ W T S N n) (sym (lost _ W T S N n) ∙ left .if1 .left) (c .if2 .left) in (
-      marks _ _ (e .pre) _ (N .count) admits,
+    let admits = connects _ _ (e .pre .0) N (lost′ _ _ _ W T S N n) (sym (lost _ W T S N n) ∙ left .if1 .left) (c .if2 .left) in (
+      marks _ _ (e .pre .0) _ (N .count) admits,
       λ chart total q. marked-same q (λ k m. Entry (e .args .s .now) k m (left .before .fill-starts .last .1 .1 .1 .1 .1 .0) (c .before .fill-ends .last .1 .1 .1 .0) (left .before .fill-starts .last .1 .1 .1 .1 .1 .1 .0)) (record {
         accepted = A;
         count = N .count;

@@ -18,7 +18,11 @@ enum-known-chart : tie.Need-enum-known-chart
 enum-known-chart c = search needs
 
 enter-chart-requires : tie.Need-enter-chart-requires
-enter-chart-requires c κs = sym (c .before .before .before .before .before .before .check .ensures .0) ∙ c .before .before .before .before .chart .given .1
+enter-chart-requires c κs =
+    let m = c .before .before .before .before in
+    let k = m .before .before in
+    let (starts, ends) = k .before .before .before .before .pre in
+    (sym (k .check .ensures .0) ∙ m .chart .given .1, starts, ends)
 
 returns : tie.Need-returns
 unfolding entered

@@ -6,12 +6,12 @@ use Rattle.search.proofs.ahead.Tie as tie
 
 depart-requires : tie.Need-depart-requires
 depart-requires c κs =
-    let ((few, ready), sources) = c .before .before .pre in
-    ((few, (_, _, _, ready)), sources)
+    let ((few, blank, ready), sources) = c .before .before .pre in
+    ((few, blank, (_, _, _, ready)), sources)
 
 proceed-requires : tie.Need-proceed-requires
 proceed-requires c κs =
-    let ((few, ready), sources) = c .before .before .before .before .pre in
+    let ((few, blank, ready), sources) = c .before .before .before .before .pre in
     let w = c .before .depart .ensures .0 _ _ _ _ _ (ready .split) (ready .begins) in
     ((_, _, ready .split), (w .long, sown-fits few w))
 

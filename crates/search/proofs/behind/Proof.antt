@@ -19,12 +19,12 @@ index-1-feed-2 c = search needs
 
 feed-requires : tie.Need-feed-requires
 feed-requires c κs =
-    let ((few, sources), (e, stops, T)) = c .before .before .before .before .before .before .before .pre in
-    ((omega arith, omega (arith, T .come .few, T .few), refl), (T .come .node-t, T .come .node-s))
+    let ((few, blank, sources), (e, stops, T)) = c .before .before .before .before .before .before .pre in
+    ((omega arith, omega (arith, T .come .few, T .few), rw blank refl), (T .come .node-t, T .come .node-s))
 
 -- where the sources have their bits
 abbrev stood : (c : tie.After-feed) → tie.After-stand
-stood c = c .before .before .before .before .before .before
+stood c = c .before .before .before .before .before
 
 index-1-close : tie.Need-index-1-close
 index-1-close c = search needs
@@ -35,15 +35,15 @@ index-1-close-2 c = search needs
 close-requires : tie.Need-close-requires
 close-requires c κs =
     let fd = c .before .before .before in
-    let ((few, sources), (e, stops, T)) = fd .before .before .before .before .before .before .before .before .pre in
+    let ((few, blank, sources), (e, stops, T)) = stood fd .before .before .pre in
     let P = T .plain in
-    let (long, fits) = fed-fits few (stood fd .stand .ensures) (fd .feed .ensures) in
+    let (long, fits) = fed-fits blank few (stood fd .stand .ensures) (fd .feed .ensures) in
     ((omega (arith, P .few, P .top, T .few), P .top, long), (P .node-t, (P .node-s, (fits, (ups-back P, downs-back P)))))
 
 returns : tie.Need-returns
 returns c =
     let fd = c .before .before .before .before in
-    λ e stops T S. spread-behind T S (stood fd .stand .ensures) (fd .feed .ensures) (c .close .ensures .0) (c .close .ensures .1)
+    λ e stops T S. spread-behind T S (stood fd .before .before .pre .0 .1) (stood fd .stand .ensures) (fd .feed .ensures) (c .close .ensures .0) (c .close .ensures .1)
 
 pub behind-spec : {M : Type 1} → statement M
 behind-spec =

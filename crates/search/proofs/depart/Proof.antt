@@ -10,9 +10,9 @@ index-1-sow c = search needs
 
 sow-requires : tie.Need-sow-requires
 sow-requires c κs =
-    let ((few, (ups, low, ins, ready)), sources) = c .before .before .before .pre in
+    let ((few, blank, (ups, low, ins, ready)), sources) = c .before .before .before .pre in
     let T = ready .split in
-    ((few, bounded T (ready .begins) .place), (T .to, sources))
+    ((few, blank, bounded T (ready .begins) .place), (T .to, sources))
 
 returns : tie.Need-returns
 returns c = ((λ e stops ups low ins T P. sown-ahead T P (c .sow .ensures .0)), c .sow .ensures .1)

@@ -19,25 +19,25 @@ gone c = c .before .before .before
 
 depart-requires : tie.Need-depart-requires
 depart-requires c κs =
-    let ((few, ready), nodes) = c .before .before .before .pre in
-    ((few, (_, _, _, ready)), nodes)
+    let ((few, blank, ready), nodes) = c .before .before .before .pre in
+    ((few, blank, (_, _, _, ready)), nodes)
 
 fewest-requires : tie.Need-fewest-requires
 fewest-requires c κs =
     let departed = c .before in
-    let ((few, ready), nodes) = start departed .pre in
+    let ((few, blank, ready), nodes) = start departed .pre in
     ((few, ready), (nodes, (_, departed .depart .ensures .1)))
 
 onward-requires : tie.Need-onward-requires
 onward-requires c κs =
     let departed = c .before .before .before .before in
-    let ((few, ready), nodes) = start departed .pre in
+    let ((few, blank, ready), nodes) = start departed .pre in
     let w = departed .depart .ensures .0 _ _ _ _ _ (ready .split) (ready .begins) in
     ((few, nodes), (_, _, ready .split, w))
 
 clear-requires : tie.Need-clear-requires
 clear-requires c κs =
-    let ((few, ready), nodes) = start (left (c .before .before)) .pre in
+    let ((few, blank, ready), nodes) = start (left (c .before .before)) .pre in
     (few, nodes)
 
 index-1-feed : tie.Need-index-1-feed
@@ -49,7 +49,7 @@ index-1-feed-2 c = search needs
 feed-requires : tie.Need-feed-requires
 feed-requires c κs =
     let p = gone (c .before .before .before .before) in
-    let ((few, ready), nodes) = start (left p) .pre in
+    let ((few, blank, ready), nodes) = start (left p) .pre in
     let C = ready .split .come in
     ((omega arith, omega (arith, C .few, ready .split .few), p .onward .ensures .1), (C .node-s, C .node-t))
 

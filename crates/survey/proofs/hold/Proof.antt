@@ -1,12 +1,13 @@
 -- `survey::hold` meets its contract: its table is fresh.
 -- Assumes nothing.
+use mathlib.Core.Path.{refl}
 use borrow.Author.Needs.{needs}
-use Rattle.loading.proofs.Tabling.{blank-none}
+use Rattle.edge_tables.proofs.Tabling.{blank-none}
 use Rattle.survey.proofs.hold.Statement.{statement}
 use Rattle.survey.proofs.hold.Tie as tie
 
 load-tables-requires : tie.Need-load-tables-requires
-load-tables-requires c κs = (c .before .before .before .before .before .pre, blank-none)
+load-tables-requires c κs = (c .before .before .before .before .before .pre .0, blank-none, refl)
 
 frames-requires : tie.Need-frames-requires
 frames-requires c κs = search needs
@@ -16,7 +17,7 @@ returns-requires c κs =
     let framed = c .before .before .before .before .before in
     let l = framed .before .before .before in
     let (T, (H, (S, N, Q))) = l .load-tables .ensures in
-    ((l .before .before .before .before .before .before .pre, framed .frames .ensures .0, framed .frames .ensures .1), (H, (_, (T, S))))
+    ((l .before .before .before .before .before .before .pre .0, framed .frames .ensures .0, framed .frames .ensures .1), (H, (_, (T, S))))
 
 fill-held-requires : tie.Need-fill-held-requires
 fill-held-requires c κs = search needs

@@ -1,6 +1,6 @@
 -- `survey::survey_chart` meets its contract: from start forward, from finish backward, and what each node holds.
 -- Assumes nothing.
-use mathlib.Core.Path.{_≡_, sym, _∙_}
+use mathlib.Core.Path.{_≡_, refl, sym, _∙_}
 use native.Mathlib.Omega.{arith}
 use borrow.Author.Needs.{needs}
 use Rattle.lists.specs.Truth.{bad}
@@ -10,7 +10,7 @@ use Rattle.chart.proofs.Records.{nodes-length}
 use Rattle.refusals.proofs.Outcome.{passed-none}
 use Rattle.loading.specs.Tables.{Accepted}
 use Rattle.loading.proofs.Accepted.{accepted, well-formed}
-use Rattle.loading.proofs.Tabling.{blank-none}
+use Rattle.edge_tables.proofs.Tabling.{blank-none}
 use Rattle.outermost.proofs.Entering.{few, not-none, nodes-below, unreached, stuck, connects}
 use Rattle.survey.specs.Surveyed.{checkedOf}
 use Rattle.profiles.proofs.Nodes.{all-marks}
@@ -32,7 +32,7 @@ abbrev forth : (c : tie.After-fill-ends) → tie.Else1
 forth c = c .before .before .before .before
 
 load-tables-requires : tie.Need-load-tables-requires
-load-tables-requires c κs = (accepted _ _ (c .before .before .before .before .before .pre .0 .0), blank-none)
+load-tables-requires c κs = (accepted _ _ (c .before .before .before .before .before .pre .0 .0), blank-none, refl)
 
 index-1-starts : tie.Need-index-1-starts
 index-1-starts c = search needs
@@ -42,7 +42,7 @@ fill-starts-requires c κs =
     let l = c .before .before .before .before .before .before in
     let A = is-accepted l in
     let (T, (H, (S, N, Q))) = l .load-tables .ensures in
-    ((few A N, not-none A N, omega (arith, Q, A .laid .nodes-most), (_, _, H)), nodes-below A N)
+    ((few A N, not-none A N, omega (arith, Q, A .laid .nodes-most), rw (start l .pre .0 .1) refl, (_, _, H)), nodes-below A N)
 
 returns : tie.Need-returns
 unfolding checkedOf answer
@@ -62,7 +62,7 @@ fill-ends-requires c κs =
     let l = loaded (c .before .before .before .before) in
     let A = is-accepted l in
     let (T, (H, (S, N, Q))) = l .load-tables .ensures in
-    ((few A N, not-none A N, omega (arith, Q, A .laid .nodes-most), (_, _, H .split)), nodes-below A N)
+    ((few A N, not-none A N, omega (arith, Q, A .laid .nodes-most), rw (start l .pre .0 .1) refl, (_, _, H .split)), nodes-below A N)
 
 returns-2 : tie.Need-returns-2
 unfolding checkedOf answer
@@ -86,7 +86,8 @@ index-1-fill-held c = search needs
 fill-held-requires : tie.Need-fill-held-requires
 fill-held-requires c κs =
     let found = c .before in
-    (is-accepted (loaded (forth (found .before .before .before .before .before) .before)), found .returns .ensures)
+    let l = loaded (forth (found .before .before .before .before .before) .before) in
+    (is-accepted l, found .returns .ensures, rw (start l .pre .0 .1) refl)
 
 returns-3 : tie.Need-returns-3
 unfolding checkedOf answer checked
@@ -110,7 +111,7 @@ returns-3 c =
           let b : c .fill-held .result ≡ sets = cc in
           rw (← a, ← b) (record {
             accepted = A;
-            marked = all-marks _ _ A (e .args .marks .now) _ _ _ (e .pre .0 .1) (starts _ W T S N .0) (ends _ _ _ W T S N) (c .fill-held .ensures .1) (c .fill-held .ensures .0);
+            marked = all-marks _ _ A (e .args .marks .now) _ _ _ (rw (e .pre .0 .1) refl) (starts _ W T S N .0) (ends _ _ _ W T S N) (c .fill-held .ensures .1) (c .fill-held .ensures .0);
           }),
     )
 

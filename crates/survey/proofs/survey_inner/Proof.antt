@@ -1,6 +1,6 @@
 -- `survey::survey_inner` meets its contract: rows, starts and ends from the entrance, and what each node holds.
 -- Assumes nothing.
-use mathlib.Core.Path.{_≡_, sym, _∙_}
+use mathlib.Core.Path.{_≡_, refl, sym, _∙_}
 use borrow.Author.Needs.{needs}
 use Rattle.lists.specs.Truth.{bad}
 use Rattle.chart.specs.Checked.{answer}
@@ -31,7 +31,8 @@ index-1-hold c = search needs
 hold-requires : tie.Need-hold-requires
 hold-requires c κs =
     let m = c .before .before in
-    m .before .before .enter .ensures .1 _ _ (m .chart .given .1) .accepted
+    let k = m .before .before in
+    (k .enter .ensures .1 _ _ (m .chart .given .1) .accepted, rw (k .before .before .before .before .before .pre) refl)
 
 returns : tie.Need-returns
 unfolding checkedOf answer
@@ -54,7 +55,7 @@ returns-2 c =
           let b : c .hold .result ≡ sets = cc in
           rw (← a, ← b) (record {
             accepted = E .accepted;
-            marked = all-marks _ _ (E .accepted) (e .args .marks .now) _ _ _ (e .pre) (E .has-starts) (E .has-ends) (c .hold .ensures .1) (c .hold .ensures .0);
+            marked = all-marks _ _ (E .accepted) (e .args .marks .now) _ _ _ (rw (e .pre) refl) (E .has-starts) (E .has-ends) (c .hold .ensures .1) (c .hold .ensures .0);
           }),
     )
 

@@ -1,37 +1,33 @@
--- `loading::load::barriers` meets its contract: after x turns the barriers below x are listed. Row 8 leaves room for all of them.
+-- `loading::load::barriers` meets its contract: when x nodes are passed, eight in a turn, the barriers below x are listed. Row 8 leaves room
+-- for all of them.
 -- Assumes nothing.
-use mathlib.Core.Path.{_≡_}
-use Prim.Native.Nat.{_≤_, _-_}
+use mathlib.Core.Path.{_≡_, sym, _∙_}
+use mathlib.Core.Logic.{inl, inr}
+use Prim.Native.Nat.{_%_, _≤_, _-_}
 use native.Mathlib.Omega.{arith}
-use Rattle.chart.specs.Region.{Region}
-use Rattle.loading.specs.Tables.{Stops}
-use Rattle.loading.proofs.Loading.{Listing, listing-none, listing-more, listing-all, is-noted, room, most}
+use Rattle.lists.specs.Range.{none-passes}
+use Rattle.loading.specs.Tables.{stopFrom, Listing}
+use Rattle.loading.proofs.Loading.{listing-none, listing-skip, stops-few, listing-all}
 use Rattle.loading.proofs.load.barriers.Statement.{statement}
 use Rattle.loading.proofs.load.barriers.Tie as tie
 
 abbrev Inv-loop : tie.InvT-loop
-Inv-loop s stops nodes₀ n total₀ x₀ nodes total x = (x ≤ n) × ((R : Region) → Stops R stops → Listing R x nodes total)
+Inv-loop s stops nodes₀ total₀ x₀ nodes total x = (x ≤ 192) × (x % 8 ≡ 0) × Listing stops x nodes total
 
 abbrev μ-loop : tie.MeasureT-loop
-μ-loop s stops nodes₀ n total₀ x₀ nodes total x = n - x
+μ-loop s stops nodes₀ total₀ x₀ nodes total x = 192 - x
 
 loop-holds : tie.Need-loop-holds Inv-loop μ-loop
-loop-holds c = (omega arith, λ R S. listing-none R)
+loop-holds c = (omega arith, omega arith, listing-none _)
 
-element-copy-out-note : tie.Need-element-copy-out-note Inv-loop μ-loop
-element-copy-out-note c = omega (arith, c .before .before .before .before .pre .0 .laid .nodes-most)
+any-stop-requires : tie.Need-any-stop-requires Inv-loop μ-loop
+any-stop-requires c κs = omega arith
 
-note-requires : tie.Need-note-requires Inv-loop μ-loop
-note-requires c κs =
-    let l = c .before .before .before in
+list-eight-requires : tie.Need-list-eight-requires Inv-loop μ-loop
+list-eight-requires c κs =
+    let l = c .before .before .before .before in
     let start = l .before .before .before in
-    let A = start .pre .0 in
-    let L = l .loop .inv .1 _ (start .pre .1) in
-    let below = l .loop .inv .0 in (
-      omega (arith, A .laid .nodes-most),
-      most _ _ A L below,
-      λ h. room _ _ A L (omega arith) (is-noted _ _ (start .pre .1) _ h),
-    )
+    (omega arith, stops-few _ _ (start .pre .0) (start .pre .1), l .loop .inv .2)
 
 add-x : tie.Need-add-x Inv-loop μ-loop
 add-x c = omega arith
@@ -41,18 +37,23 @@ loop-less c = omega arith
 
 loop-again : tie.Need-loop-again Inv-loop μ-loop
 loop-again c =
-    let l = c .before .before .before .before in
-    let start = l .before .before .before in
-    let A = start .pre .0 in
-    let S = start .pre .1 in
-    (omega arith, λ R T. listing-more R _ T _ (λ h. room _ _ A (l .loop .inv .1 _ S) (omega arith) (is-noted _ _ S _ h)) (l .loop .inv .1 R T) (c .note .ensures))
+    let l = c .before .before .before in (
+      omega arith,
+      omega arith,
+      elim (c .if1 .came) [
+        | inl (t, g, m, q, r) ↦ rw (q, r) (m .ensures)
+        | inr (t, q, r) ↦
+            let none = none-passes 8 (stopFrom (l .before .before .before .args .stops .now) (l .loop .x)) (sym (c .before .any-stop .ensures) ∙ t .left) in
+            rw (q, r) (listing-skip 8 none (l .loop .inv .2))
+      ],
+    )
 
 returns : tie.Need-returns Inv-loop μ-loop
 returns c =
     let l = c .before in
     let start = l .before .before .before in
-    let q : l .loop .x ≡ start .args .chart .nodes = omega arith in
-    listing-all _ (start .args .chart) (start .pre .0) _ _ (rw q at (l .loop .inv .1 _ (start .pre .1)))
+    let q : l .loop .x ≡ 192 = omega arith in
+    listing-all _ (start .args .chart) (start .pre .0) (start .pre .1) (rw q at (l .loop .inv .2))
 
 pub barriers-spec : {M : Type 1} → statement M
 barriers-spec =
@@ -61,8 +62,8 @@ barriers-spec =
     Inv-loop
     μ-loop
     loop-holds
-    element-copy-out-note
-    note-requires
+    any-stop-requires
+    list-eight-requires
     add-x
     loop-less
     loop-again

@@ -10,12 +10,12 @@ use Rattle.marking.proofs.masks.fill_ends.Tie as tie
 
 ends-requires : tie.Need-ends-requires
 ends-requires c κs =
-    let ((few, some, nodes, split), below) = c .before .pre in
-    ((few, below), split)
+    let ((few, some, nodes, blank, split), below) = c .before .pre in
+    ((few, blank, below), split)
 
 any-missed-requires : tie.Need-any-missed-requires
 any-missed-requires c κs =
-    let ((few, some, nodes, split), below) = c .before .before .before .pre in
+    let ((few, some, nodes, blank, split), below) = c .before .before .before .pre in
     nodes
 
 returns : tie.Need-returns

@@ -14,22 +14,22 @@ start c = c .before .before .before .before .before .before
 
 starts-requires : tie.Need-starts-requires
 starts-requires c κs =
-    let ((few, some, nodes, (p, D, handed)), below) = c .before .before .before .pre in
-    ((few, ready handed), below)
+    let ((few, some, nodes, blank, (p, D, handed)), below) = c .before .before .before .pre in
+    ((few, blank, ready handed), below)
 
 any-apart-requires : tie.Need-any-apart-requires
 any-apart-requires c κs =
-    let ((few, some, nodes, (p, D, handed)), below) = c .before .before .before .before .before .pre in
+    let ((few, some, nodes, blank, (p, D, handed)), below) = c .before .before .before .before .before .pre in
     ((few, some), below)
 
 any-stuck-requires : tie.Need-any-stuck-requires
 any-stuck-requires c κs =
-    let ((few, some, nodes, (p, D, handed)), below) = start (c .before) .pre in
+    let ((few, some, nodes, blank, (p, D, handed)), below) = start (c .before) .pre in
     ((few, some), below)
 
 any-unleveled-requires : tie.Need-any-unleveled-requires
 any-unleveled-requires c κs =
-    let ((few, some, nodes, (p, D, handed)), below) = start (c .before .before .before) .pre in
+    let ((few, some, nodes, blank, (p, D, handed)), below) = start (c .before .before .before) .pre in
     nodes
 
 either-requires : tie.Need-either-requires

@@ -38,7 +38,7 @@ returns-2 c =
 ahead-requires : tie.Need-ahead-requires
 ahead-requires c κs =
     let ((A, B, E), (H, F)) = c .before .before .before .before .before .pre in
-    ((omega (arith, A .laid .constructs-most), ready H), E .node)
+    ((omega (arith, A .laid .constructs-most), refl, ready H), E .node)
 
 diagonal-requires : tie.Need-diagonal-requires
 diagonal-requires c κs = search needs

@@ -1,7 +1,7 @@
 -- `replay_tables::edges::fill_edges` meets its contract.
 -- Assumes nothing.
 use mathlib.Core.Path.{sym, _∙_}
-use Rattle.loading.proofs.Tabling.{blank-none}
+use Rattle.edge_tables.proofs.Tabling.{blank-none}
 use Rattle.replay_tables.proofs.Marking.{edge-any}
 use Rattle.replay_tables.proofs.edges.fill_edges.Statement.{statement}
 use Rattle.replay_tables.proofs.edges.fill_edges.Tie as tie

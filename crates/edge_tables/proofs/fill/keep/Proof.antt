@@ -1,9 +1,9 @@
--- `loading::fill::keep` meets its contract.
+-- `edge_tables::fill::keep` meets its contract.
 -- Assumes nothing.
 use borrow.Author.Needs.{needs}
 use Rattle.loading.specs.Tables.{left, kept}
-use Rattle.loading.proofs.fill.keep.Statement.{statement}
-use Rattle.loading.proofs.fill.keep.Tie as tie
+use Rattle.edge_tables.proofs.fill.keep.Statement.{statement}
+use Rattle.edge_tables.proofs.fill.keep.Tie as tie
 
 returns : tie.Need-returns
 returns c = ((c .before .pre .split, c .before .pre .sized), left (c .if1 .taken))

@@ -1,7 +1,7 @@
--- `loading::fill::load_edges` meets its contract.
+-- `edge_tables::fill::load_edges` meets its contract.
 -- Assumes nothing.
-use Rattle.loading.proofs.fill.load_edges.Statement.{statement}
-use Rattle.loading.proofs.fill.load_edges.Tie as tie
+use Rattle.edge_tables.proofs.fill.load_edges.Statement.{statement}
+use Rattle.edge_tables.proofs.fill.load_edges.Tie as tie
 
 all-edges-requires : tie.Need-all-edges-requires
 all-edges-requires c κs = (c .before .before .before .before .pre .0, c .before .before .before .before .pre .1, c .before .if1 .taken)

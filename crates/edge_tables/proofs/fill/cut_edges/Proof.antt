@@ -1,4 +1,4 @@
--- `loading::fill::cut_edges` meets its contract: after i turns those of the first i edges that the region keeps are in the table.
+-- `edge_tables::fill::cut_edges` meets its contract: after i turns those of the first i edges that the region keeps are in the table.
 -- Assumes nothing.
 use mathlib.Core.Path.{_≡_}
 use Prim.Native.Nat.{_≤_, _-_}
@@ -8,10 +8,10 @@ use lib.ListN.{length}
 use Rattle.chart.specs.Format.{decode}
 use Rattle.chart.proofs.Records.{edges-length}
 use Rattle.splitting.specs.Parts.{Next}
 use Rattle.loading.proofs.Accepted.{tables}
-use Rattle.loading.proofs.Tabling.{Tabling, tabling-none, tabling-room, tabling-more, tabling-all, leaving-flag}
-use Rattle.loading.proofs.fill.cut_edges.Statement.{statement}
-use Rattle.loading.proofs.fill.cut_edges.Tie as tie
+use Rattle.edge_tables.proofs.Tabling.{Tabling, tabling-none, tabling-room, tabling-more, tabling-all, leaving-flag}
+use Rattle.edge_tables.proofs.fill.cut_edges.Statement.{statement}
+use Rattle.edge_tables.proofs.fill.cut_edges.Tie as tie
 
 abbrev Inv-loop : tie.InvT-loop
 Inv-loop s chart stops table₀ flags e loaded₀ i₀ table loaded i =

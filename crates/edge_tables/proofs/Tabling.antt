@@ -22,10 +22,10 @@ use Rattle.chart.proofs.Records.{nodes-length, edges-length}
 use Rattle.paths.specs.Cut.{keeps, cut, edgesOf, edges-long, edges-at}
 use Rattle.splitting.specs.Parts.{row, Split, Sized, Next}
 use Rattle.splitting.proofs.Placing.{split-none}
 use Rattle.loading.proofs.Accepted.{tables}
-use Rattle.loading.proofs.Columns.{edge-past}
+use Rattle.edge_tables.proofs.Columns.{edge-past}
 use Rattle.loading.proofs.Cutting.{flagOf}
 use Rattle.loading.specs.Tables.{Accepted, Columns, Stored, left, kept, Leaving, Blank, Tabled}
 
 -- a table of zeros is blank
 

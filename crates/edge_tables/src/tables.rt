@@ -2,16 +2,16 @@
 ghost use mathlib.Core.Path.{_≡_};
 ghost use mathlib.Core.List.{List};
 ghost use Prim.Native.Nat.{ℕ, _≤_, _<_};
-ghost use lib.ListN.{getD, length};
+ghost use lib.ListN.{getD, length, replicate};
 ghost use Rattle.paths.specs.Graph.{Rising, Places};
 ghost use Rattle.splitting.specs.Parts.{row};
 ghost use Rattle.chart.specs.Format.{Edge, decode};
 ghost use Rattle.chart.specs.Checked.{reading};
 ghost use Rattle.loading.specs.Tables.{Accepted, Columns, FirstEdges, Blank, Arranged, Handed, Stops, Barriers};
 use crate::fill::load_edges;
-use crate::load::barriers;
-use crate::load::load_stops;
 use chart::format::Chart;
+use loading::load::barriers;
+use loading::load::load_stops;
 use sorting::places_rising;
 use splitting::Extent;
 use splitting::Parts;
@@ -23,6 +23,7 @@ fn find_places(
     places: &mut [usize; Chart::PLACES],
 )
     requires { ⌜ (e ≤ 1024) × Rising (row (now table) 0) e × (length (now table) ≡ 6) × ((j : ℕ) → getD (row (now table) 0) j 0 < 192) ⌝ }
+    requires { ⌜ now places ≡ replicate 193 0 ⌝ }
     ensures { λ _. ⌜ Places (row (now (table .entry)) 0) e (now (places .exit)) ⌝ }
     ensures { λ _. ⌜ ((edges : List Edge) → Columns edges (row (now (table .entry)) 0) (row (now (table .entry)) 1) → e ≡ length edges → FirstEdges edges (now (places .exit))) ⌝ }
 {
@@ -38,7 +39,7 @@ pub fn load_tables(
     stops: &mut [u8; Chart::NODES],
     nodes: &mut [u8; Chart::BARRIERS],
 ) -> Extent
-    requires { ⌜ Accepted (now s) chart × Blank (now table) ⌝ }
+    requires { ⌜ Accepted (now s) chart × Blank (now table) × (now places ≡ replicate 193 0) ⌝ }
     ensures { λ r. ⌜ Arranged (reading (now (s .entry)) chart) (now (table .exit)) (now (places .exit)) (now (stops .exit)) (r .parts .ups) (r .parts .low) (r .parts .ins) ⌝ }
     ensures { λ r. ⌜ Handed (chart .region) (decode (now (s .entry))) (now (table .exit)) (now (places .exit)) (r .parts .ups) (r .parts .low) (r .parts .ins) ⌝ }
     ensures { λ r. ⌜ Stops (reading (now (s .entry)) chart) (now (stops .exit)) × Barriers (reading (now (s .entry)) chart) (now (nodes .exit)) (r .barriers) × (r .nodes ≡ chart .nodes) ⌝ }

@@ -1,17 +1,17 @@
--- `loading::tables::find_places` meets its contract.
+-- `edge_tables::tables::find_places` meets its contract.
 -- Assumes nothing.
 use borrow.Author.Needs.{needs}
-use Rattle.loading.proofs.Columns.{first-edges}
-use Rattle.loading.proofs.tables.find_places.Statement.{statement}
-use Rattle.loading.proofs.tables.find_places.Tie as tie
+use Rattle.edge_tables.proofs.Columns.{first-edges}
+use Rattle.edge_tables.proofs.tables.find_places.Statement.{statement}
+use Rattle.edge_tables.proofs.tables.find_places.Tie as tie
 
 index-1-places-rising : tie.Need-index-1-places-rising
 index-1-places-rising c = search needs
 
 places-rising-requires : tie.Need-places-rising-requires
 places-rising-requires c κs =
-    let (few, order, six, node) = c .before .before .pre in
-    ((few, order), node)
+    let ((few, order, six, node), blank) = c .before .before .pre in
+    ((few, order, blank), node)
 
 returns : tie.Need-returns
 returns c = (c .places-rising .ensures, λ edges C q. first-edges C q (c .places-rising .ensures))

@@ -1,4 +1,4 @@
--- `sweeps::levels::ascend_few` meets its contract: the loop's invariant is the `Run` so far, and that the level at hand is that of the node written last. Assumes nothing.
+-- `sweeps::levels::ascend` meets its contract: the loop's invariant is the `Run` so far, and that the level at hand is that of the node written last. Assumes nothing.
 use Prim.Native.Nat.{_≤_, _<_, _-_}
 use native.Mathlib.Omega.{arith}
 use mathlib.Core.Path.{_≡_, sym}
@@ -9,15 +9,18 @@ use Rattle.sweeps.specs.LevelLaws.{nearer}
 use Rattle.sweeps.proofs.Runs.{levels-kind, run-swept, run-from, run-long, place-below, step-by, more-at}
 use lib.ListN.{getD}
 use borrow.Author.Needs.{needs}
-use Rattle.sweeps.proofs.levels.ascend_few.Statement.{statement}
-use Rattle.sweeps.proofs.levels.ascend_few.Tie as tie
+use Rattle.sweeps.proofs.levels.ascend.Statement.{statement}
+use Rattle.sweeps.proofs.levels.ascend.Tie as tie
 
 abbrev Inv-loop : tie.InvT-loop
-Inv-loop keys values a b back levels₀ new₀ last₀ level₀ j₀ levels new last level j =
+Inv-loop keys values a b back levels₀ few new₀ last₀ level₀ j₀ levels new last level j =
     (j ≤ b) × Run nearer keys values a b back levels₀ j levels new × (last < 192 → level ≡ getD levels last 0)
 
 abbrev μ-loop : tie.MeasureT-loop
-μ-loop keys values a b back levels₀ new₀ last₀ level₀ j₀ levels new last level j = b - j
+μ-loop keys values a b back levels₀ few new₀ last₀ level₀ j₀ levels new last level j = b - j
+
+sub-few : tie.Need-sub-few Inv-loop μ-loop
+sub-few c = c .pre .0 .0
 
 loop-holds : tie.Need-loop-holds Inv-loop μ-loop
 loop-holds c = (c .pre .0 .0, none, λ h. absurd (omega arith))
@@ -97,12 +100,13 @@ returns c =
     let e : c .before .loop .j ≡ c .before .before .args .b = omega arith in
     rw e at (i .1)
 
-pub ascend-few-spec : {M : Type 1} → statement M
-ascend-few-spec =
+pub ascend-spec : {M : Type 1} → statement M
+ascend-spec =
     tie.close
     (tie.spec
     Inv-loop
     μ-loop
+    sub-few
     loop-holds
     place-of-requires
     element-copy-out-old

@@ -1,15 +1,15 @@
--- `loading::fill::all_edges` meets its contract: after i turns the first i edges are in the table.
+-- `edge_tables::fill::all_edges` meets its contract: after i turns the first i edges are in the table.
 -- Assumes nothing.
 use mathlib.Core.Path.{_≡_, sym}
 use Prim.Native.Nat.{_≤_, _-_}
 use native.Mathlib.Omega.{arith}
 use Rattle.chart.specs.Format.{decode}
 use Rattle.chart.proofs.Records.{edges-length}
 use Rattle.loading.proofs.Accepted.{tables}
-use Rattle.loading.proofs.Tabling.{Tabling, tabling-none, tabling-room, tabling-more, tabling-all, keeps-all}
+use Rattle.edge_tables.proofs.Tabling.{Tabling, tabling-none, tabling-room, tabling-more, tabling-all, keeps-all}
 use Rattle.loading.specs.Tables.{kept}
-use Rattle.loading.proofs.fill.all_edges.Statement.{statement}
-use Rattle.loading.proofs.fill.all_edges.Tie as tie
+use Rattle.edge_tables.proofs.fill.all_edges.Statement.{statement}
+use Rattle.edge_tables.proofs.fill.all_edges.Tie as tie
 
 abbrev Inv-loop : tie.InvT-loop
 Inv-loop s chart stops table₀ e parts₀ i₀ table parts i =

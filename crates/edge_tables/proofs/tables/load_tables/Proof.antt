@@ -1,10 +1,10 @@
--- `loading::tables::load_tables` meets its contract: what is loaded, parted and found is the chart's.
+-- `edge_tables::tables::load_tables` meets its contract: what is loaded, parted and found is the chart's.
 -- Assumes nothing.
 use mathlib.Core.Path.{refl}
 use borrow.Author.Needs.{needs}
-use Rattle.loading.proofs.Columns.{arranged, handed}
-use Rattle.loading.proofs.tables.load_tables.Statement.{statement}
-use Rattle.loading.proofs.tables.load_tables.Tie as tie
+use Rattle.edge_tables.proofs.Columns.{arranged, handed}
+use Rattle.edge_tables.proofs.tables.load_tables.Statement.{statement}
+use Rattle.edge_tables.proofs.tables.load_tables.Tie as tie
 
 load-stops-requires : tie.Need-load-stops-requires
 load-stops-requires c κs = search needs

@@ -3,11 +3,11 @@ ghost use mathlib.Core.Path.{_≡_};
 ghost use mathlib.Core.Logic.{_≢_};
 ghost use Rattle.chart.specs.Format.{outside, decode};
 ghost use Rattle.splitting.specs.Parts.{row, Split, Sized, Next};
 ghost use Rattle.loading.specs.Tables.{Accepted, Blank, Tabled, Stored};
-use crate::cut::leaving;
 use chart::cursor::wide;
 use chart::format::Chart;
 use chart::format::Edge;
+use loading::cut::leaving;
 use splitting::Parts;
 use splitting::place;
 
