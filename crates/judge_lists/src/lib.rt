@@ -3,18 +3,16 @@
 ghost use mathlib.Core.Path.{_≡_};
 ghost use Rattle.verdicts.specs.Judged.{judged};
 ghost use Rattle.verdicts.specs.Correct.{Correct};
-ghost use Rattle.judge_lists.specs.Two.{numbers, falsePart, falsePlace};
-use crate::part::false_part;
+ghost use Rattle.list_parts.specs.Two.{numbers, falsePart, falsePlace};
 use answers::Size;
 use chart::format::Chart;
 use claims::judge_claims;
 use judge::number::number_of;
+use list_parts::false_part;
 use profiles::marks::ROWS;
 use survey::Surveyed;
 use survey::survey;
 use verdicts::Verdict;
-
-mod part;
 
 // The verdicts on the two lists.
 pub struct Verdicts {

@@ -7,7 +7,6 @@ ghost use Rattle.chart.specs.Checked.{Laid, answer, checked};
 ghost use Rattle.chart.specs.declared.format.Chart.{Chart};
 ghost use Rattle.chart.specs.declared.format.Checked.the-variants.{Passed};
 ghost use Rattle.node_counts.specs.Framed.{Framed};
-use crate::trailer::read_trailer;
 use chart::format::Chart;
 use chart::format::Checked;
 use chart::format::Refusal;
@@ -16,6 +15,7 @@ use nesting::bad_constructs;
 use node_counts::bad_barriers;
 use node_counts::bad_frames;
 use nodes::bad_nodes;
+use trailer::read_trailer;
 
 // Rows 5 to 9. Row 7 finds where the constructs begin and end; row 9 reads it.
 fn check_tables(

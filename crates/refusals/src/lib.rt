@@ -1,4 +1,3 @@
-// Refusals 1 to 9 of a chart, each row over the whole chart before the next: here those of the trailer, and all in order. `check::check`
-// takes any bytes; its contract cites `checked` of crate `chart`.
+// Refusals 1 to 9 of a chart, each row over the whole chart before the next. `check::check` takes any bytes; its contract cites `checked` of
+// crate `chart`.
 pub mod check;
-pub mod trailer;

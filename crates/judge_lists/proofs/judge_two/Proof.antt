@@ -17,7 +17,7 @@ use Rattle.verdicts.specs.CorrectLaws.{correct-any}
 use Rattle.verdicts.specs.declared.Verdict.{Verdict}
 use Rattle.verdicts.specs.declared.Verdict.the-variants.{Failed}
 use Rattle.judge.proofs.Facts.{failed-below}
-use Rattle.judge_lists.specs.Two.{numbers, falsePart, falsePlace}
+use Rattle.list_parts.specs.Two.{numbers, falsePart, falsePlace}
 use Rattle.judge_lists.proofs.judge_two.Statement.{statement}
 use Rattle.judge_lists.proofs.judge_two.Tie as tie
 

@@ -9,7 +9,7 @@ use denote.Enum.Declared.{tagOf}
 use Rattle.verdicts.proofs.Verdict.{the-type}
 use Rattle.verdicts.specs.declared.Verdict.{Verdict}
 use Rattle.verdicts.specs.declared.Verdict.the-variants.{Passed, Failed, Refused}
-use Rattle.judge_lists.specs.Two.{failedAt}
+use Rattle.list_parts.specs.Two.{failedAt}
 
 -- what the code has found no failure in has none
 pub not-failed : (v : Verdict) → (tagOf the-type v ≡ 0) ⊎ (tagOf the-type v ≡ 2) → failedAt v ≡ none

@@ -1,4 +1,4 @@
--- `refusals::trailer::read_trailer` meets its contract.
+-- `trailer::read_trailer` meets its contract.
 -- Assumes nothing.
 use mathlib.Core.Bool.{Bool}
 use mathlib.Core.Path.{_≡_, sym, ap, _∙_}
@@ -7,8 +7,8 @@ use borrow.Author.Needs.{needs}
 use Rattle.chart.specs.declared.format.Chart.{Chart}
 use Rattle.chart.specs.Checked.{answer, countsOf}
 use Rattle.chart.specs.Refusal.{badCounts, firstOf, trailerRows}
-use Rattle.refusals.proofs.trailer.read_trailer.Statement.{statement}
-use Rattle.refusals.proofs.trailer.read_trailer.Tie as tie
+use Rattle.trailer.proofs.read_trailer.Statement.{statement}
+use Rattle.trailer.proofs.read_trailer.Tie as tie
 
 abbrev countsBad : Chart → Bool
 countsBad k = badCounts (k .nodes) (k .edges) (k .constructs)

@@ -1,10 +1,10 @@
--- `judge_lists::part::false_part` meets its contract.
+-- `list_parts::false_part` meets its contract.
 -- Assumes nothing.
-use Rattle.judge_lists.specs.Two.{failedAt}
-use Rattle.judge_lists.proofs.Parts.{not-failed}
+use Rattle.list_parts.specs.Two.{failedAt}
+use Rattle.list_parts.proofs.Parts.{not-failed}
 use borrow.Author.Needs.{needs}
-use Rattle.judge_lists.proofs.part.false_part.Statement.{statement}
-use Rattle.judge_lists.proofs.part.false_part.Tie as tie
+use Rattle.list_parts.proofs.false_part.Statement.{statement}
+use Rattle.list_parts.proofs.false_part.Tie as tie
 
 enum-known-first : tie.Need-enum-known-first
 enum-known-first c = search needs

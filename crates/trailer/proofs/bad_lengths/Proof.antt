@@ -1,4 +1,4 @@
--- `refusals::trailer::bad_lengths` meets its contract.
+-- `trailer::bad_lengths` meets its contract.
 -- Assumes nothing.
 use mathlib.Core.List.{List}
 use mathlib.Core.Bool.{not, _||_}
@@ -13,8 +13,8 @@ use Rattle.chart.specs.declared.format.Chart.{Chart}
 use Rattle.chart.specs.Checked.{countsOf}
 use Rattle.chart.specs.Refusal.{badLengths}
 use Rattle.chart.proofs.Records.{trailer-field}
-use Rattle.refusals.proofs.trailer.bad_lengths.Statement.{statement}
-use Rattle.refusals.proofs.trailer.bad_lengths.Tie as tie
+use Rattle.trailer.proofs.bad_lengths.Statement.{statement}
+use Rattle.trailer.proofs.bad_lengths.Tie as tie
 
 -- the test in terms of the counts that were handed over and of the bytes of the constructs
 lengths-by : (s : List ℕ) (chart : Chart) (constructs : ℕ) → chart ≡ countsOf s → constructs ≡ constructBytes (chart .edition) (chart .constructs)

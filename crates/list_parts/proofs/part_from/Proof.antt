@@ -1,14 +1,14 @@
--- `judge_lists::part::part_from` meets its contract.
+-- `list_parts::part_from` meets its contract.
 -- Assumes nothing.
 use mathlib.Core.Path.{refl}
 use Prim.Native.Nat.{_*_, _-_}
 use native.Mathlib.Omega.{arith}
 use lib.ListN.{length, drop, length-drop}
 use lib.Seq.{take-all}
-use Rattle.judge_lists.specs.Two.{placed}
+use Rattle.list_parts.specs.Two.{placed}
 use borrow.Author.Needs.{needs}
-use Rattle.judge_lists.proofs.part.part_from.Statement.{statement}
-use Rattle.judge_lists.proofs.part.part_from.Tie as tie
+use Rattle.list_parts.proofs.part_from.Statement.{statement}
+use Rattle.list_parts.proofs.part_from.Tie as tie
 
 mul-start : tie.Need-mul-start
 mul-start c = search needs

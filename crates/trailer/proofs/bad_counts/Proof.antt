@@ -1,9 +1,9 @@
--- `refusals::trailer::bad_counts` meets its contract.
+-- `trailer::bad_counts` meets its contract.
 -- Assumes nothing.
 use borrow.Author.Tests.{lt-ltb, le-ltb}
 use Rattle.chart.specs.Refusal.{badCounts}
-use Rattle.refusals.proofs.trailer.bad_counts.Statement.{statement}
-use Rattle.refusals.proofs.trailer.bad_counts.Tie as tie
+use Rattle.trailer.proofs.bad_counts.Statement.{statement}
+use Rattle.trailer.proofs.bad_counts.Tie as tie
 
 returns : tie.Need-returns
 unfolding badCounts

@@ -1,9 +1,9 @@
--- `refusals::trailer::bad_edition` meets its contract.
+-- `trailer::bad_edition` meets its contract.
 -- Assumes nothing.
 use borrow.Author.Tests.{eq-eqb, ne-eqb}
 use Rattle.chart.specs.Refusal.{badEdition}
-use Rattle.refusals.proofs.trailer.bad_edition.Statement.{statement}
-use Rattle.refusals.proofs.trailer.bad_edition.Tie as tie
+use Rattle.trailer.proofs.bad_edition.Statement.{statement}
+use Rattle.trailer.proofs.bad_edition.Tie as tie
 
 returns : tie.Need-returns
 unfolding badEdition

@@ -4,7 +4,7 @@ ghost use mathlib.Core.Option.{none, some};
 ghost use Prim.Native.Nat.{ℕ, _*_, _≤_};
 ghost use lib.ListN.{length, drop};
 ghost use Rattle.verdicts.specs.declared.Verdict.the-variants.{Failed};
-ghost use Rattle.judge_lists.specs.Two.{failedAt, partOf, placed, placeOf};
+ghost use Rattle.list_parts.specs.Two.{failedAt, partOf, placed, placeOf};
 use verdicts::Verdict;
 
 // A list from a claim on.

@@ -1,12 +1,12 @@
--- `refusals::trailer::bad_marks` meets its contract.
+-- `trailer::bad_marks` meets its contract.
 -- Assumes nothing.
 use mathlib.Core.Path.{sym, _∙_}
 use borrow.Author.Needs.{needs}
 use Rattle.chart.specs.Refusal.{badMarks}
 use Rattle.chart.specs.Format.{decode, lastTrailer, trailerOf}
 use Rattle.chart.proofs.Records.{trailer-field}
-use Rattle.refusals.proofs.trailer.bad_marks.Statement.{statement}
-use Rattle.refusals.proofs.trailer.bad_marks.Tie as tie
+use Rattle.trailer.proofs.bad_marks.Statement.{statement}
+use Rattle.trailer.proofs.bad_marks.Tie as tie
 
 trailer-requires : tie.Need-trailer-requires
 trailer-requires c κs = search needs
