@@ -1,5 +1,5 @@
--- What the searches work on, as it stands for a region: tables of its edges, forward and backward, its barriers as stops and as a list; the
--- nodes that a claim may not name; and the bytes that these are loaded from.
+-- What the searches work on, as it stands for a region: the table of its edges with the places where those of each node begin, its barriers as
+-- stops and as a list; the nodes that a claim may not name; and the bytes that these are loaded from.
 -- Assumes nothing.
 use mathlib.Core.Path.{_≡_}
 use mathlib.Core.Bool.{Bool, not, cond}
