@@ -48,3 +48,13 @@ pub alone : {R : Region} {σ τ : State} (r : Run R 1 σ τ) → Locked r
 alone done = tt
 alone (step (one l s) r) = ((λ c o q k i n C. n (omega arith)), alone r)
 alone (step (release b to h n all edges) r) = (tt, alone r)
+
+-- Locks forbid nothing where there are none: a run keeps them where no construct is a critical, and what is concurrent there is so with locks too.
+module _ {R : Region} (none : (c : ℕ) → R .kind c ≢ critical) where
+  pub free : {m : ℕ} {σ τ : State} (r : Run R m σ τ) → Locked r
+  free done = tt
+  free (step (one l s) r) = ((λ c o q. absurd (none c q)), free r)
+  free (step (release b to h n all edges) r) = (tt, free r)
+
+  pub free-in : {m a b : ℕ} → ConcurrentIn R m a b → LockedIn R m a b
+  free-in M = record { concurrent = M; locked = free (M .run) }

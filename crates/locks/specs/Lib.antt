@@ -1,0 +1,4 @@
+pub mod Locks
+pub mod LocksLaws
+pub mod Known
+pub mod LockedRun
