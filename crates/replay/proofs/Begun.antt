@@ -7,12 +7,13 @@ use Prim.Native.Nat.{ℕ, zero, suc, _+_, _*_, _≤_, _<_}
 use native.Mathlib.Omega.{arith}
 use lib.ListN.{length, getD, replicate}
 use Rattle.lists.specs.Bits.{mask-empty}
-use Rattle.lists.specs.Rows.{row-room}
 use Rattle.chart.specs.Region.{Region}
 use Rattle.team.specs.State.{initial}
 use Rattle.traces.specs.Replay.{together, begun}
 use Rattle.replay_steps.specs.Tables.{Shows}
 use Rattle.replay_marks.specs.Marks.{Sheet, Kept}
+use Rattle.replay_marks.specs.declared.Rows.{Rows}
+use Rattle.replay_marks.proofs.Sheets.{row-fits}
 use Rattle.replay_feed.specs.Playing.{Playing}
 use Rattle.replay_feed.proofs.Releases.{Fresh}
 use Rattle.replay_feed.proofs.Choices.{playing-reached}
@@ -35,13 +36,13 @@ shows-begun R {v} {fresh} q b F = record {
 }
 
 -- no pair is met
-pub sheet-blank : (n : ℕ) {out : List ℕ} → ((j : ℕ) → j < n * n → getD out j 0 ≡ 0) → Sheet n (λ a b. false) out
-sheet-blank n z = record { at = λ a b l k. z (a * n + b) (omega (arith, row-room a n l)) }
+pub sheet-blank : (n : ℕ) (rows : Rows) {out : List ℕ} → ((j : ℕ) → j < rows .count * n → getD out j 0 ≡ 0) → Sheet n rows (λ a b. false) out
+sheet-blank n rows z = record { at = λ i b l k. z (i * n + b) (omega (arith, row-fits i n (rows .count) l)) }
 
-pub playing-begun : (R : Region) {m : ℕ} {team out : List ℕ} → 1 ≤ m → Shows (initial R) team → getD team 784 0 ≡ 0
-    → Sheet (R .nodes) (λ a b. false || together m (initial R) a b) out → Playing (R .nodes) m (begun R m) team out
+pub playing-begun : (R : Region) {m : ℕ} {rows : Rows} {team out : List ℕ} → 1 ≤ m → Shows (initial R) team → getD team 784 0 ≡ 0
+    → Sheet (R .nodes) rows (λ a b. false || together m (initial R) a b) out → Playing (R .nodes) m rows (begun R m) team out
 unfolding begun
 playing-begun R l S z H = playing-reached (λ a b. false) (initial R) (omega arith) S z H
 
-pub kept-cleared : {n : ℕ} {old new : List ℕ} → length new ≡ length old → ((j : ℕ) → n * n ≤ j → getD new j 0 ≡ getD old j 0) → Kept n old new
+pub kept-cleared : {size : ℕ} {old new : List ℕ} → length new ≡ length old → ((j : ℕ) → size ≤ j → getD new j 0 ≡ getD old j 0) → Kept size old new
 kept-cleared l p = record { long = l; past = p }

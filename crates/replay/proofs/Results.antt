@@ -1,6 +1,6 @@
 -- What the replay leaves, as records and as a sheet.
 -- Assumes nothing.
-use mathlib.Core.Path.{_≡_, sym, _∙_}
+use mathlib.Core.Path.{_≡_, sym, _∙_, ap}
 use mathlib.Core.Bool.{Bool, cond}
 use mathlib.Core.List.{List, [], _++_}
 use Prim.Native.Nat.{ℕ, zero, suc, _+_, _-_, _*_, _≤_, _<_}
@@ -45,28 +45,25 @@ row-of (suc k) n j l = go (decLt j n) (λ h. row-of k n (j - n) h)
     go (yes h) before = (0, j, omega arith, h, omega (arith, zero-mul n))
     go (no h) before = let (a, b, x, y, q) = before (omega (arith, suc-mul k n)) in (suc a, b, omega arith, y, omega (arith, suc-mul a n))
 
-pub sheet-content : {n : ℕ} {met : ℕ → ℕ → Bool} {old new : List ℕ} → n * n ≤ length old → Kept n old new → Sheet n met new
+pub sheet-content : {n k : ℕ} {met : ℕ → ℕ → Bool} {old new : List ℕ} → n ≡ k → k * k ≤ length old → Kept (k * n) old new → Sheet n (record { first = 0; count = k }) met new
     → new ≡ metSheet n met ++ drop (length (metSheet n met)) old
 unfolding metSheet
-sheet-content {n} {met} {old} {new} room K S =
+sheet-content {n} {k} {met} {old} {new} same room K S =
     let f : ℕ → ℕ → ℕ = λ a b. cond (met a b) 1 0 in
     let long = rows-length f n n in
-    ext-getD 0 new (rowsOf f n n ++ drop (length (rowsOf f n n)) old) (K .long ∙ sym (front-length (rowsOf f n n) old (omega (arith, long)))) (λ j l. go j (decLt j (n * n)))
+    ext-getD 0 new (rowsOf f n n ++ drop (length (rowsOf f n n)) old) (K .long ∙ sym (front-length (rowsOf f n n) old (rw long (rw (← same) at room)))) (λ j l. go j (decLt j (n * n)))
   where
     go : (j : ℕ) → Dec (j < n * n)
         → getD new j 0 ≡ getD (rowsOf (λ a b. cond (met a b) 1 0) n n ++ drop (length (rowsOf (λ a b. cond (met a b) 1 0) n n)) old) j 0
     go j (yes l) =
         let f : ℕ → ℕ → ℕ = λ a b. cond (met a b) 1 0 in
         let (a, b, la, lb, q) = row-of n n j l in
-        rw q (S .at a b la lb ∙ sym (front-at (rowsOf f n n) old (a * n + b) (omega (arith, rows-length f n n)) ∙ rows-at f n n a b la lb))
+        let z : 0 + a ≡ a = omega arith in
+        rw q (S .at a b (omega arith) lb ∙ ap (λ (x : ℕ). f x b) z ∙ sym (front-at (rowsOf f n n) old (a * n + b) (omega (arith, rows-length f n n)) ∙ rows-at f n n a b la lb))
     go j (no l) =
         let f : ℕ → ℕ → ℕ = λ a b. cond (met a b) 1 0 in
-        K .past j (omega arith) ∙ sym (front-past (rowsOf f n n) old j (omega (arith, rows-length f n n)))
+        K .past j (rw (← same) (omega arith)) ∙ sym (front-past (rowsOf f n n) old j (omega (arith, rows-length f n n)))
 
 pub content-length : (n : ℕ) (met : ℕ → ℕ → Bool) (old : List ℕ) → n * n ≤ length old → length (metSheet n met ++ drop (length (metSheet n met)) old) ≡ length old
 unfolding metSheet
 content-length n met old room = front-length (rowsOf (λ a b. cond (met a b) 1 0) n n) old (omega (arith, rows-length (λ a b. cond (met a b) 1 0) n n))
-
--- room for the sheet, by other names
-pub room-for : {n k a b : ℕ} → n ≡ k → n * n ≤ a → b ≡ a → k * k ≤ b
-room-for p l q = rw (sym p) (omega arith)

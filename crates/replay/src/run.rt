@@ -15,17 +15,13 @@ ghost use Rattle.traces.specs.declared.Replayed.the-variants.{Refused};
 ghost use Rattle.replay.specs.Team.{countBy};
 use crate::records::blank;
 use crate::records::team_of;
-use crate::start::clear;
-use crate::start::set_team;
+use crate::rows::replay_rows;
 use chart::format::Chart;
 use chart::format::Refusal;
 use entrance::enter;
 use outermost::Entered;
-use replay_marks::mark_state;
-use replay_play::play;
-use replay_steps::tables::REGION;
+use replay_marks::Rows;
 use replay_steps::tables::TEAM;
-use replay_tables::fill::fill_table;
 use traces::Replayed;
 use traces::Thread;
 
@@ -48,7 +44,7 @@ fn refused(refusal: Refusal) -> Team
 }
 
 // Row 22.
-fn bad_trace(trace: &[u8], m: usize) -> bool
+pub fn bad_trace(trace: &[u8], m: usize) -> bool
     ensures { λ r. ⌜ r ≡ badTrace (now (trace .entry)) m ⌝ }
 {
     if trace.len() % 2 == 1 {
@@ -60,20 +56,18 @@ fn bad_trace(trace: &[u8], m: usize) -> bool
     m > Thread::MOST
 }
 
-// What no row refuses.
+// What no row refuses: all rows of the sheet.
 fn replay_chart(s: &[u8], chart: Chart, trace: &[u8], m: usize, out: &mut [u8]) -> Team
     requires { ⌜ Accepted (now s) chart × (1 ≤ m) × (m ≤ 8) × (chart .nodes * chart .nodes ≤ length (now out)) ⌝ }
     ensures { λ r. let R = reading (now (s .entry)) chart in ⌜ (r .answer ≡ outcomeOf R m (replayed R m (now (trace .entry)))) × (r .count ≡ m) × (r .threads ≡ tab 8 (recordOf (playOf (replayed R m (now (trace .entry))) .state))) ⌝ }
     ensures { λ _. let R = reading (now (s .entry)) chart in let sheet = metSheet (R .nodes) (playOf (replayed R m (now (trace .entry))) .met) in ⌜ now (out .exit) ≡ sheet ++ drop (length sheet) (now (out .entry)) ⌝ }
 {
-    let mut table = [0u64; REGION];
-    fill_table(s, chart, &mut table);
     let mut team = [0u64; TEAM];
-    set_team(&table, &mut team);
-    let n = chart.nodes;
-    clear(out, n * n);
-    mark_state(&team, m, n, out);
-    let answer = play(&table, &mut team, m, trace, out);
+    let rows = Rows {
+        first: 0,
+        count: chart.nodes,
+    };
+    let answer = replay_rows(s, chart, trace, m, rows, &mut team, out);
     team_of(&team, m, answer)
 }
 

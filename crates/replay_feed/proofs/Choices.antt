@@ -19,11 +19,12 @@ use Rattle.traces.specs.Decide.{decide, apply, allowed}
 use Rattle.traces.specs.Replay.{Play, together, reached, gathered, chosenNow, choose, stepped, feed}
 use Rattle.replay_steps.specs.Tables.{Shows}
 use Rattle.replay_marks.specs.Marks.{Sheet}
+use Rattle.replay_marks.specs.declared.Rows.{Rows}
 use Rattle.replay_feed.specs.Playing.{Playing, After, forbidden, fed}
 
 -- what an entry leads to, by an equation
-pub after-by : {n m : ℕ} {P : Play} {o q : Option Play} {b : Bool} {team out : List ℕ} → o ≡ q → After n m P q b team out → After n m P o b team out
-after-by {n} {m} {P} {b = b} {team = team} {out = out} e A = subst (λ (o : Option Play). After n m P o b team out) (sym e) A
+pub after-by : {n m : ℕ} {rows : Rows} {P : Play} {o q : Option Play} {b : Bool} {team out : List ℕ} → o ≡ q → After n m rows P q b team out → After n m rows P o b team out
+after-by {n} {m} {rows} {P} {b = b} {team = team} {out = out} e A = subst (λ (o : Option Play). After n m rows P o b team out) (sym e) A
 
 module _ (R : Region) (m : ℕ) (P : Play) (t v : ℕ) where
   pub choose-other : (t ≡ length (P .chosen) → ⊥) → choose R m P t v ≡ none
@@ -78,7 +79,7 @@ shows-past {σ} {team} j w l h S =
       taken = λ t c k i. at-set (λ n. n ≡ maskOf (σ .taken t c) 48) team j w (97 * t + 49 + c) at (λ q. absurd (omega arith)) (λ d. S .taken t c k i);
     }
 
-module _ {n m : ℕ} {P : Play} {team out : List ℕ} (L : Playing n m P team out) (few : m ≤ 8) (p v : ℕ) (q : p ≡ length (P .chosen)) where
+module _ {n m : ℕ} {rows : Rows} {P : Play} {team out : List ℕ} (L : Playing n m rows P team out) (few : m ≤ 8) (p v : ℕ) (q : p ≡ length (P .chosen)) where
   -- the node that is chosen last
   at : 776 + p < length team
   at = omega (arith, L .state .long, L .fewer)
@@ -102,7 +103,7 @@ module _ {n m : ℕ} {P : Play} {team out : List ℕ} (L : Playing n m P team ou
 
   -- one entry of a release, not its last
   pub playing-chosen : v < 256 → (length (P .chosen) + 1 ≡ m → ⊥) → (w : ℕ) → w ≡ p + 1
-      → Playing n m (record { state = P .state; chosen = P .chosen ++ (v ∷ []); met = P .met }) (set (set team (776 + p) v) 784 w) out
+      → Playing n m rows (record { state = P .state; chosen = P .chosen ++ (v ∷ []); met = P .met }) (set (set team (776 + p) v) 784 w) out
   playing-chosen b d w e =
       let long = length-append (P .chosen) (v ∷ []) in
       let inside : 784 < length (set team (776 + p) v) = omega (arith, length-set team (776 + p) v, L .state .long) in
@@ -120,8 +121,8 @@ module _ {n m : ℕ} {P : Play} {team out : List ℕ} (L : Playing n m P team ou
       fits long = elim (ℕ-discrete (length (P .chosen) + 1) m) [ yes h ↦ absurd (d h) | no h ↦ omega (arith, L .fewer) ]
 
 -- a state is reached
-pub playing-reached : {n m : ℕ} {team out : List ℕ} (met : ℕ → ℕ → Bool) (σ : State) → 0 < m → Shows σ team → getD team 784 0 ≡ 0
-    → Sheet n (λ a b. met a b || together m σ a b) out → Playing n m (reached m met σ) team out
+pub playing-reached : {n m : ℕ} {rows : Rows} {team out : List ℕ} (met : ℕ → ℕ → Bool) (σ : State) → 0 < m → Shows σ team → getD team 784 0 ≡ 0
+    → Sheet n rows (λ a b. met a b || together m σ a b) out → Playing n m rows (reached m met σ) team out
 unfolding reached
 playing-reached met σ l S z H = record {
   state = S;
@@ -133,12 +134,12 @@ playing-reached met σ l S z H = record {
 }
 
 -- whether an entry was fed tells which of the two it led to
-pub after-none : {n m : ℕ} {P : Play} {o : Option Play} {b : Bool} {team out : List ℕ} → After n m P o b team out → b ≡ false → (o ≡ none) × Playing n m P team out
+pub after-none : {n m : ℕ} {rows : Rows} {P : Play} {o : Option Play} {b : Bool} {team out : List ℕ} → After n m rows P o b team out → b ≡ false → (o ≡ none) × Playing n m rows P team out
 after-none (forbidden L) h = (refl, L)
 after-none (fed L) h = absurd (clash refl h)
 
-pub after-some : {n m : ℕ} {P : Play} {o : Option Play} {b : Bool} {team out : List ℕ} → After n m P o b team out → b ≡ true
-    → (Q : Play) × (o ≡ some Q) × Playing n m Q team out
+pub after-some : {n m : ℕ} {rows : Rows} {P : Play} {o : Option Play} {b : Bool} {team out : List ℕ} → After n m rows P o b team out → b ≡ true
+    → (Q : Play) × (o ≡ some Q) × Playing n m rows Q team out
 after-some (forbidden L) h = absurd (clash h refl)
 after-some (fed {Q} L) h = (Q, refl, L)
 

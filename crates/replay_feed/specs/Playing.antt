@@ -1,4 +1,4 @@
--- What the replay keeps between entries: the table of the team, and the sheet of the pairs met.
+-- What the replay keeps between entries: the table of the team, and rows of the sheet of the pairs met.
 -- Assumes nothing.
 use mathlib.Core.Path.{_≡_}
 use mathlib.Core.Bool.{Bool, true, false}
@@ -10,20 +10,21 @@ use Rattle.team.specs.State.{State}
 use Rattle.traces.specs.Replay.{Play}
 use Rattle.replay_steps.specs.Tables.{Shows}
 use Rattle.replay_marks.specs.Marks.{Sheet}
+use Rattle.replay_marks.specs.declared.Rows.{Rows}
 
-pub record Playing (n m : ℕ) (P : Play) (team out : List ℕ) : Type 0 where
+pub record Playing (n m : ℕ) (rows : Rows) (P : Play) (team out : List ℕ) : Type 0 where
   pub state : Shows (P .state) team
   -- the nodes chosen for a release that is not yet whole
   pub pending : getD team 784 0 ≡ length (P .chosen)
   pub fewer : length (P .chosen) < m
   pub choice : (t : ℕ) → t < length (P .chosen) → getD team (776 + t) 0 ≡ getD (P .chosen) t 0
   pub bytes : (t : ℕ) → t < length (P .chosen) → getD team (776 + t) 0 < 256
-  pub marks : Sheet n (P .met) out
+  pub marks : Sheet n rows (P .met) out
 
 -- What an entry leads to, if anything, and whether it was fed; a forbidden one leaves all as it was.
-pub data After (n m : ℕ) (P : Play) : Option Play → Bool → List ℕ → List ℕ → Type 0 where
-  forbidden : {team out : List ℕ} → Playing n m P team out → After n m P none false team out
-  fed : {Q : Play} {team out : List ℕ} → Playing n m Q team out → After n m P (some Q) true team out
+pub data After (n m : ℕ) (rows : Rows) (P : Play) : Option Play → Bool → List ℕ → List ℕ → Type 0 where
+  forbidden : {team out : List ℕ} → Playing n m rows P team out → After n m rows P none false team out
+  fed : {Q : Play} {team out : List ℕ} → Playing n m rows Q team out → After n m rows P (some Q) true team out
 
 -- No thread has left a begin more than k times.
 abbrev pub Few : ℕ → State → Type 0

@@ -12,6 +12,7 @@ ghost use Rattle.traces.specs.Replay.{Play, gathered as isGathered, choose as c
 ghost use Rattle.replay_steps.specs.Tables.{Tabled, Shows};
 ghost use Rattle.replay_marks.specs.Marks.{Kept};
 ghost use Rattle.replay_feed.specs.Playing.{Playing, After};
+use replay_marks::Rows;
 use replay_marks::mark_state;
 use replay_steps::decide::decide;
 use replay_steps::effects::apply;
@@ -103,10 +104,11 @@ fn choose(
     m: usize,
     t: usize,
     v: usize,
+    rows: Rows,
     out: &mut [u8],
 ) -> bool
-    requires { ⌜ ((R : Region) × (P : Play) × Tabled R (now table) × Playing (R .nodes) m P (now team) (now out) × (m ≤ 8) × (v < 256) × (R .nodes * R .nodes ≤ length (now out))) ⌝ }
-    ensures { λ r. ⌜ ((R : Region) (P : Play) → Tabled R (now (table .entry)) → Playing (R .nodes) m P (now (team .entry)) (now (out .entry)) → After (R .nodes) m P (chosenBy R m P t v) r (now (team .exit)) (now (out .exit)) × Kept (R .nodes) (now (out .entry)) (now (out .exit))) ⌝ }
+    requires { ⌜ ((R : Region) × (P : Play) × Tabled R (now table) × Playing (R .nodes) m rows P (now team) (now out) × (m ≤ 8) × (v < 256) × (rows .count * R .nodes ≤ length (now out))) ⌝ }
+    ensures { λ r. ⌜ ((R : Region) (P : Play) → Tabled R (now (table .entry)) → Playing (R .nodes) m rows P (now (team .entry)) (now (out .entry)) → After (R .nodes) m rows P (chosenBy R m P t v) r (now (team .exit)) (now (out .exit)) × Kept (rows .count * R .nodes) (now (out .entry)) (now (out .exit))) ⌝ }
 {
     let pending = team[PENDING] as usize;
     if t != pending {
@@ -118,7 +120,7 @@ fn choose(
     team[CHOSEN + pending] = v as u64;
     if pending + 1 == m {
         release(team, m);
-        mark_state(team, m, at(table, NODES), out);
+        mark_state(team, m, at(table, NODES), rows, out);
         return true;
     }
     team[PENDING] = (pending + 1) as u64;
@@ -145,11 +147,12 @@ fn step(
     m: usize,
     t: usize,
     v: usize,
+    rows: Rows,
     out: &mut [u8],
 ) -> bool
-    requires { ⌜ ((R : Region) × (P : Play) × Tabled R (now table) × Playing (R .nodes) m P (now team) (now out) × (m ≤ 8) × (v < 256) × (R .nodes * R .nodes ≤ length (now out))) ⌝ }
+    requires { ⌜ ((R : Region) × (P : Play) × Tabled R (now table) × Playing (R .nodes) m rows P (now team) (now out) × (m ≤ 8) × (v < 256) × (rows .count * R .nodes ≤ length (now out))) ⌝ }
     requires { ⌜ ((t c : ℕ) → t < 8 → c < 48 → getD (now team) (97 * t + 1 + c) 0 + 1 < 18446744073709551616) ⌝ }
-    ensures { λ r. ⌜ ((R : Region) (P : Play) → Tabled R (now (table .entry)) → Playing (R .nodes) m P (now (team .entry)) (now (out .entry)) → isGathered R m (P .state) ≡ false → After (R .nodes) m P (fedBy R m P t v) r (now (team .exit)) (now (out .exit)) × Kept (R .nodes) (now (out .entry)) (now (out .exit))) ⌝ }
+    ensures { λ r. ⌜ ((R : Region) (P : Play) → Tabled R (now (table .entry)) → Playing (R .nodes) m rows P (now (team .entry)) (now (out .entry)) → isGathered R m (P .state) ≡ false → After (R .nodes) m rows P (fedBy R m P t v) r (now (team .exit)) (now (out .exit)) × Kept (rows .count * R .nodes) (now (out .entry)) (now (out .exit))) ⌝ }
 {
     let effect = decide(table, team, m, t, v);
     if !is_allowed(effect) {
@@ -157,7 +160,7 @@ fn step(
     }
     apply(team, t, v, effect);
     team[PENDING] = 0;
-    mark_state(team, m, at(table, NODES), out);
+    mark_state(team, m, at(table, NODES), rows, out);
     true
 }
 
@@ -168,14 +171,15 @@ pub fn feed(
     m: usize,
     t: usize,
     v: usize,
+    rows: Rows,
     out: &mut [u8],
 ) -> bool
-    requires { ⌜ ((R : Region) × (P : Play) × Tabled R (now table) × Playing (R .nodes) m P (now team) (now out) × (m ≤ 8) × (v < 256) × (R .nodes * R .nodes ≤ length (now out))) ⌝ }
+    requires { ⌜ ((R : Region) × (P : Play) × Tabled R (now table) × Playing (R .nodes) m rows P (now team) (now out) × (m ≤ 8) × (v < 256) × (rows .count * R .nodes ≤ length (now out))) ⌝ }
     requires { ⌜ ((t c : ℕ) → t < 8 → c < 48 → getD (now team) (97 * t + 1 + c) 0 + 1 < 18446744073709551616) ⌝ }
-    ensures { λ r. ⌜ ((R : Region) (P : Play) → Tabled R (now (table .entry)) → Playing (R .nodes) m P (now (team .entry)) (now (out .entry)) → After (R .nodes) m P (fedBy R m P t v) r (now (team .exit)) (now (out .exit)) × Kept (R .nodes) (now (out .entry)) (now (out .exit))) ⌝ }
+    ensures { λ r. ⌜ ((R : Region) (P : Play) → Tabled R (now (table .entry)) → Playing (R .nodes) m rows P (now (team .entry)) (now (out .entry)) → After (R .nodes) m rows P (fedBy R m P t v) r (now (team .exit)) (now (out .exit)) × Kept (rows .count * R .nodes) (now (out .entry)) (now (out .exit))) ⌝ }
 {
     if gathered(table, team, m) {
-        return choose(table, team, m, t, v, out);
+        return choose(table, team, m, t, v, rows, out);
     }
-    step(table, team, m, t, v, out)
+    step(table, team, m, t, v, rows, out)
 }

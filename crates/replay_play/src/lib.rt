@@ -10,27 +10,29 @@ ghost use Rattle.replay_feed.specs.Playing.{Playing};
 use chart::cursor::wide;
 use replay_feed::at_finish;
 use replay_feed::feed;
+use replay_marks::Rows;
 use replay_steps::tables::RegionTable;
 use replay_steps::tables::TeamTable;
 use traces::Replayed;
 
-// What the replay says; the team and the sheet are left as at the last legal entry.
+// What the replay says; the team and the rows kept of the sheet are left as at the last legal entry.
 pub fn play(
     table: &RegionTable,
     team: &mut TeamTable,
     m: usize,
     trace: &[u8],
+    rows: Rows,
     out: &mut [u8],
 ) -> Replayed
-    requires { ⌜ ((R : Region) × Tabled R (now table) × Playing (R .nodes) m (begun R m) (now team) (now out) × (m ≤ 8) × (R .nodes * R .nodes ≤ length (now out))) ⌝ }
-    ensures { λ r. ⌜ ((R : Region) → Tabled R (now (table .entry)) → Playing (R .nodes) m (begun R m) (now (team .entry)) (now (out .entry)) → (r ≡ outcomeOf R m (replayed R m (now (trace .entry)))) × Playing (R .nodes) m (playOf (replayed R m (now (trace .entry)))) (now (team .exit)) (now (out .exit)) × Kept (R .nodes) (now (out .entry)) (now (out .exit))) ⌝ }
+    requires { ⌜ ((R : Region) × Tabled R (now table) × Playing (R .nodes) m rows (begun R m) (now team) (now out) × (m ≤ 8) × (rows .count * R .nodes ≤ length (now out))) ⌝ }
+    ensures { λ r. ⌜ ((R : Region) → Tabled R (now (table .entry)) → Playing (R .nodes) m rows (begun R m) (now (team .entry)) (now (out .entry)) → (r ≡ outcomeOf R m (replayed R m (now (trace .entry)))) × Playing (R .nodes) m rows (playOf (replayed R m (now (trace .entry)))) (now (team .exit)) (now (out .exit)) × Kept (rows .count * R .nodes) (now (out .entry)) (now (out .exit))) ⌝ }
 {
     let n = trace.len() / 2;
     let mut i = 0;
     while i < n {
         let t = wide(trace[2 * i]);
         let v = wide(trace[2 * i + 1]);
-        if !feed(table, team, m, t, v, out) {
+        if !feed(table, team, m, t, v, rows, out) {
             return Replayed::Forbidden(i);
         }
         i += 1;

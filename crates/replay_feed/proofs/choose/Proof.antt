@@ -64,8 +64,7 @@ mark-state-requires c κs =
     let n = c .before .at .ensures ∙ sym (T .nodes) in (
       c .before .before .before .release .ensures .0 (a .pre .1 .state) (shows-chosen L (a .pre .4) _ (a .args .v) (L .pending)) .long,
       a .pre .4,
-      omega (arith, n, T .few-nodes),
-      subst (λ (k : ℕ). k * k ≤ length (a .args .out .now)) (sym n) (a .pre .6),
+      subst (λ (k : ℕ). a .args .rows .count * k ≤ length (a .args .out .now)) (sym n) (a .pre .6),
     )
 
 same-length : tie.Need-same-length
@@ -86,7 +85,7 @@ returns-3 c =
       after-by
           (choose-last R (a .args .m) P (a .args .t) (a .args .v) (c .before .before .before .before .before .before .before .before .before .before .before .before .before .if1 .left ∙ L .pending) (edge ∙ not-false _ (c .before .before .before .before .before .before .before .before .before .if2 .left)) last)
           (fed (playing-reached (P .met) _ (omega (arith, L .fewer)) to (c .before .before .before .before .before .before .release .ensures .1) (sheet-size n (marked .0 _ (P .met) to sheet)))),
-      kept-size n (marked .1),
+      kept-size _ n (marked .1),
     )
 
 add-team-2 : tie.Need-add-team-2

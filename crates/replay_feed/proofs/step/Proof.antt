@@ -51,8 +51,7 @@ mark-state-requires c κs =
     let n = c .before .at .ensures ∙ sym (T .nodes) in (
       shows-past 784 0 (omega arith) (omega arith) (c .before .before .before .apply .ensures (P .state) (L .state)) .long,
       few,
-      omega (arith, n, T .few-nodes),
-      subst (λ (k : ℕ). k * k ≤ length (a .args .out .now)) (sym n) room,
+      subst (λ (k : ℕ). a .args .rows .count * k ≤ length (a .args .out .now)) (sym n) room,
     )
 
 same-length : tie.Need-same-length
@@ -70,7 +69,7 @@ returns-2 c =
     let marked = c .before .before .mark-state .ensures in (
       after-by (fed-step R (a .args .m) P (a .args .t) (a .args .v) g al)
           (fed (playing-reached (P .met) _ (omega (arith, L .fewer)) S′ (none-pending S) (sheet-size n (marked .0 _ (P .met) S′ (sheet-size (sym n) (L .marks)))))),
-      kept-size n (marked .1),
+      kept-size _ n (marked .1),
     )
 
 pub step-spec : {M : Type 1} → statement M

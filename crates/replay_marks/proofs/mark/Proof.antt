@@ -1,41 +1,28 @@
 -- `replay_marks::mark` meets its contract.
 -- Assumes nothing.
-use mathlib.Core.Logic.{inl, inr}
-use native.Mathlib.Omega.{arith}
-use Rattle.lists.specs.Rows.{row-room, square}
-use Rattle.replay_marks.proofs.Sheets.{sheet-off, sheet-marked, kept-same, kept-marked}
+use mathlib.Core.Path.{refl}
+use lib.ListN.{length-set}
+use Rattle.replay_marks.proofs.Sheets.{line-off, line-marked}
 use Rattle.replay_marks.proofs.mark.Statement.{statement}
 use Rattle.replay_marks.proofs.mark.Tie as tie
 
-mul-out : tie.Need-mul-out
-mul-out c = omega (arith, row-room (c .before .before .args .a) (c .before .before .args .n) (c .before .if1 .taken), square (c .before .before .pre .0))
-
-add-out : tie.Need-add-out
-add-out c = omega (arith, row-room (c .before .before .args .a) (c .before .before .args .n) (c .before .if1 .taken), square (c .before .before .pre .0))
-
-slice-write-out : tie.Need-slice-write-out
-slice-write-out c = omega (arith, row-room (c .before .before .args .a) (c .before .before .args .n) (c .before .if1 .taken), square (c .before .before .pre .0), c .before .before .pre .1)
+slice-write-row : tie.Need-slice-write-row
+slice-write-row c = c .if1 .taken
 
 same-length : tie.Need-same-length
-same-length c = kept-marked (c .before .before .args .n) (c .before .before .args .a) (c .before .before .args .b) (c .before .before .args .out .now) (c .before .if1 .taken) (c .if2 .taken) .long
+same-length c = length-set (c .before .args .row .now) (c .before .args .b) 1
 
 returns : tie.Need-returns
-returns c = (λ met S. sheet-marked (c .before .before .args .n) (c .before .before .args .a) (c .before .before .args .b) met (c .before .if1 .taken) (c .if2 .taken) (c .before .before .pre .1) S, kept-marked (c .before .before .args .n) (c .before .before .args .a) (c .before .before .args .b) _ (c .before .if1 .taken) (c .if2 .taken))
+returns c = (λ met S. line-marked (c .before .args .b) met (c .if1 .taken) S, length-set (c .before .args .row .now) (c .before .args .b) 1)
 
 returns-2 : tie.Need-returns-2
-returns-2 c = (λ met S. sheet-off (c .before .before .args .n) (c .before .before .args .a) (c .before .before .args .b) met (inr (c .if2 .left)) S, kept-same _ _)
-
-returns-3 : tie.Need-returns-3
-returns-3 c = (λ met S. sheet-off (c .before .args .n) (c .before .args .a) (c .before .args .b) met (inl (c .if1 .left)) S, kept-same _ _)
+returns-2 c = (λ met S. line-off (c .before .args .b) met (c .if1 .left) S, refl)
 
 pub mark-spec : {M : Type 1} → statement M
 mark-spec =
     tie.close
     (tie.spec
-    mul-out
-    add-out
-    slice-write-out
+    slice-write-row
     same-length
     returns
-    returns-2
-    returns-3)
+    returns-2)

@@ -3,7 +3,7 @@
 use mathlib.Core.Path.{_≡_}
 use mathlib.Core.Bool.{Bool, _&&_, _||_, not}
 use lib.Dec.{eqb}
-use Prim.Native.Nat.{ℕ, _-_, _≤_}
+use Prim.Native.Nat.{ℕ, _*_, _-_, _≤_}
 use native.Mathlib.Omega.{arith}
 use Rattle.lists.specs.Range.{any}
 use Rattle.team.specs.State.{State}
@@ -15,19 +15,21 @@ use Rattle.replay_marks.proofs.mark_state.Statement.{statement}
 use Rattle.replay_marks.proofs.mark_state.Tie as tie
 
 abbrev Inv-loop : tie.InvT-loop
-Inv-loop team m n out₀ t₀ out t =
+Inv-loop team m n rows out₀ t₀ out t =
     (t ≤ m)
-    × ((σ : State) (met : ℕ → ℕ → Bool) → Shows σ team → Sheet n met out₀ → Sheet n (λ a b. met a b || any t (λ j. any m (λ k. not (eqb j k) && (eqb (σ .node j) a && eqb (σ .node k) b)))) out)
-    × Kept n out₀ out
+    × ((σ : State) (met : ℕ → ℕ → Bool) → Shows σ team → Sheet n rows met out₀ → Sheet n rows (λ a b. met a b || any t (λ j. any m (λ k. not (eqb j k) && (eqb (σ .node j) a && eqb (σ .node k) b)))) out)
+    × Kept (rows .count * n) out₀ out
 
 abbrev μ-loop : tie.MeasureT-loop
-μ-loop team m n out₀ t₀ out t = m - t
+μ-loop team m n rows out₀ t₀ out t = m - t
 
 loop-holds : tie.Need-loop-holds Inv-loop μ-loop
 loop-holds c = (omega arith, λ σ met S H. sheet-same (λ a b. met-none (met a b) (λ j. any (c .before .args .m) (λ k. not (eqb j k) && (eqb (σ .node j) a && eqb (σ .node k) b)))) H, kept-same _ _)
 
 mark-thread-requires : tie.Need-mark-thread-requires Inv-loop μ-loop
-mark-thread-requires c κs = (c .before .before .before .before .pre .0, c .before .before .before .before .pre .1, c .before .before .before .before .pre .2, omega (arith, c .before .before .before .before .pre .3, c .before .before .loop .inv .2 .long), omega arith)
+mark-thread-requires c κs =
+    let pre = c .before .before .before .before .pre in
+    (pre .0, pre .1, omega (arith, pre .2, c .before .before .loop .inv .2 .long), omega (arith, pre .1))
 
 add-t : tie.Need-add-t Inv-loop μ-loop
 add-t c = omega arith

@@ -1,7 +1,7 @@
 -- `replay_play::play` meets its contract. The loop's invariant: the entries passed are fed.
 -- Assumes nothing.
 use mathlib.Core.Path.{_≡_, refl, sym, _∙_}
-use Prim.Native.Nat.{suc, _-_, _/_, _≤_}
+use Prim.Native.Nat.{suc, _*_, _-_, _/_, _≤_}
 use native.Mathlib.Omega.{arith}
 use native.Mathlib.Numerals.{add-one}
 use lib.ListN.{length}
@@ -20,14 +20,14 @@ use Rattle.replay_play.proofs.play.Statement.{statement}
 use Rattle.replay_play.proofs.play.Tie as tie
 
 abbrev Inv-loop : tie.InvT-loop
-Inv-loop table team₀ m trace out₀ n i₀ team out i =
+Inv-loop table team₀ m trace rows out₀ n i₀ team out i =
     (i ≤ n)
     × (n ≡ length trace / 2)
-    × ((R : Region) → Tabled R table → Playing (R .nodes) m (begun R m) team₀ out₀
-    → (P : Play) × (progress R m trace i ≡ going P) × (Playing (R .nodes) m P team out × (Few i (P .state) × Kept (R .nodes) out₀ out)))
+    × ((R : Region) → Tabled R table → Playing (R .nodes) m rows (begun R m) team₀ out₀
+    → (P : Play) × (progress R m trace i ≡ going P) × (Playing (R .nodes) m rows P team out × (Few i (P .state) × Kept (rows .count * R .nodes) out₀ out)))
 
 abbrev μ-loop : tie.MeasureT-loop
-μ-loop table team₀ m trace out₀ n i₀ team out i = n - i
+μ-loop table team₀ m trace rows out₀ n i₀ team out i = n - i
 
 loop-holds : tie.Need-loop-holds Inv-loop μ-loop
 unfolding progress
@@ -79,7 +79,7 @@ returns c =
     let A = c .before .before .before .feed .ensures R P T L in
     let same = fed-at R (a .args .m) P (c .before .before .before .before .before .before .before .before .wide .ensures .0) (c .before .before .before .before .before .before .wide2 .ensures .0) in
     let (o, L′) = after-none (A .0) (not-true _ (c .if1 .taken)) in
-    let stop = stays R (a .args .m) (a .args .trace .now) P (l .loop .i) (suc (l .loop .i)) (length (a .args .trace .now) / 2) (omega (arith, l .loop .inv .1)) (halts R (a .args .m) (a .args .trace .now) (l .loop .i) P e (same ∙ o)) in
+    let stop = stays R (a .args .m) (a .args .trace .now) P (l .loop .i) (suc (l .loop .i)) (length (a .args .trace .now) / 2) (omega (arith, l .loop .inv .1, c .before .before .before .before .before .before .before .before .before .before .loop-test .taken)) (halts R (a .args .m) (a .args .trace .now) (l .loop .i) P e (same ∙ o)) in
     rw stop (refl, L′, kept-then k (A .1))
 
 add-i : tie.Need-add-i Inv-loop μ-loop
