@@ -21,6 +21,8 @@ ghost use Rattle.correctness.specs.RacesCorrect.{RacesCorrect};
 ghost use Rattle.correctness.specs.InsertCorrect.{InsertCorrect};
 ghost use Rattle.correctness.specs.RemoveCorrect.{RemoveCorrect};
 ghost use Rattle.correctness.specs.ListingCorrect.{ListingCorrect};
+ghost use Rattle.correctness.specs.WitnessedCorrect.{WitnessedCorrect};
+ghost use Rattle.witnesses.specs.Witness.{witnessed, numberOf as Witnessed·numberOf};
 ghost use Rattle.edits.specs.Edits.{insertWritten, insertLeft, removeWritten, removeLeft};
 ghost use Rattle.edits.specs.declared.Receipt.{Receipt};
 use answers::Size;
@@ -30,6 +32,7 @@ use numbers::counts;
 use numbers::sized::judge;
 use numbers::sized::pair;
 use numbers::sized::sheet;
+use numbers::witnessed;
 use numbers::written;
 use removing::remove_edge;
 
@@ -179,4 +182,20 @@ pub extern "C" fn bohrali_remove_edge(buffer: &mut [u8], chart_len: usize, from:
     ensures { λ r. ⌜ RemoveCorrect (now (buffer .entry)) «chart_len» from to r (now (buffer .exit)) ⌝ }
 {
     written::number_of(remove_edge(buffer, chart_len, from, to))
+}
+
+// Whether a trace is a finished run of a team of `size` threads, by the team rules, that has two of them at a and b together.
+#[no_mangle]
+pub extern "C" fn bohrali_witnessed(
+    chart: &[u8],
+    region: usize,
+    size: usize,
+    trace: &[u8],
+    a: usize,
+    b: usize,
+) -> i64
+    ensures { λ r. ⌜ r ≡ Witnessed·numberOf (witnessed (now (chart .entry)) region size (now (trace .entry)) a b) ⌝ }
+    ensures { λ r. ⌜ WitnessedCorrect (now (chart .entry)) region size (now (trace .entry)) a b r ⌝ }
+{
+    witnessed::number_of(call_witnessed::witnessed(chart, region, size, trace, a, b))
 }

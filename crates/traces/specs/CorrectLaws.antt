@@ -60,6 +60,15 @@ module _ (R : Region) (W : WellFormed R) (m : ℕ) (least : 1 ≤ m) (trace : Li
   outcome-came (going P) e F = rw e
   outcome-came (stopped P i) e S = rw (S .came)
 
+-- what row 22 leaves
+pub whole-trace : (trace : List ℕ) (m : ℕ) → badTrace trace m ≡ false → (1 ≤ m) × (m ≤ 8)
+unfolding badTrace
+whole-trace trace m h =
+    let (odd, team) = or-neither (eqb (length trace % 2) 1) _ h in
+    let (empty, many) = or-neither (eqb m 0) (ltb 8 m) team in
+    let some-thread = eqb-false m 0 empty in
+    (omega arith, ltb-false 8 m many)
+
 module _ (s : List ℕ) (p : ℕ) (trace : List ℕ) (m : ℕ) (out : List ℕ) where
   abbrev R : Region
   R = regionOf p (decode s)
@@ -70,16 +79,14 @@ module _ (s : List ℕ) (p : ℕ) (trace : List ℕ) (m : ℕ) (out : List ℕ) 
   abbrev rows : List Row
   rows = replayRows s p trace m (length out)
 
-  -- what rows 22 and 11 leave
+  -- what row 11 leaves too
   pub passed-team : firstOf rows ≡ none → (1 ≤ m) × ((m ≤ 8) × (n * n ≤ length out))
-  unfolding replayRows outputRows roomRow badTrace
+  unfolding replayRows outputRows roomRow
   passed-team h =
       let row : Row = record { number = 22; applies = badTrace trace m } in
       let (before, room) = both-pass (regionRows s p ++ (row ∷ [])) (roomRow (length out) (n * n) ∷ []) h in
-      let bad-trace = none-applies (row ∷ []) (both-pass (regionRows s p) (row ∷ []) before .1) .0 in
-      let (none-in, many) = or-neither (eqb m 0) (ltb 8 m) (or-neither (eqb (length trace % 2) 1) _ bad-trace .1) in
-      let some-in : m ≡ 0 → ⊥ = eqb-false m 0 none-in in
-      (omega arith, (ltb-false 8 m many, ltb-false (length out) (n * n) (none-applies (roomRow (length out) (n * n) ∷ []) room .0)))
+      let (least, most) = whole-trace trace m (none-applies (row ∷ []) (both-pass (regionRows s p) (row ∷ []) before .1) .0) in
+      (least, (most, ltb-false (length out) (n * n) (none-applies (roomRow (length out) (n * n) ∷ []) room .0)))
 
   pub replay-told : firstOf rows ≡ none → Told R m trace (outcomeOf R m (replayed R m trace)) (final s p trace m .state) (sheetLeft s p trace m out)
   replay-told h =
