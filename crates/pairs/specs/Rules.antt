@@ -62,7 +62,7 @@ module _ {R : Region} (W : WellFormed R) where
         )
 
     -- the test of rule 1, of one direction
-    apart-by : (d : Direction) → noCommon d R a b ≡ not (common (marks d R a) (marks d R b))
+    pub apart-by : (d : Direction) → noCommon d R a b ≡ not (common (marks d R a) (marks d R b))
     apart-by d =
         let n = no-common-of W a b d in
         let m = not-of (common-marks d) in
@@ -81,23 +81,23 @@ module _ {R : Region} (W : WellFormed R) where
       λ (d, (l, (x, (y, q)))). t .1 (d, (l, ((subst (Holds R a d) (sym q) x, subst (Holds R b d) (sym q) y), q))),
     )
 
-    masters-by : OfKind R master s → bothInMasters R a b ≡ common (bitAnd m n) s
+    pub masters-by : OfKind R master s → bothInMasters R a b ≡ common (bitAnd m n) s
     masters-by z = let t = both-hold master z in same-truth _ _
         (λ h. let (c, (d, ((x, y), e))) = masters-of W a b .0 h in t .1 (c, (W .inside-below (x .1), ((c, (x, refl)), ((d, (y, sym e)), x .0)))))
         (λ h. let (k, (l, (x, (y, q)))) = t .0 h in masters-of W a b .1 (x .0, (y .0, ((x .1 .0, y .1 .0), x .1 .1 ∙ sym (y .1 .1)))))
 
-    single-by : OfKind R single s → bothInSingle R a b ≡ common (bitAnd m n) s
+    pub single-by : OfKind R single s → bothInSingle R a b ≡ common (bitAnd m n) s
     single-by z = let t = both-hold single z in same-truth _ _
         (λ h. let (c, ((x, y), f)) = single-of W a b .0 h in t .1 (c, (W .inside-below (x .1), ((x .1, f), ((y .1, f), x .0)))))
         (λ h. let (c, (l, (x, (y, q)))) = t .0 h in single-of W a b .1 (c, (((q, x .0), (q, y .0)), x .1)))
 
-    ordereds-by : OfKind R loop s → bothInOrdereds R a b ≡ common (bitAnd m n) s
+    pub ordereds-by : OfKind R loop s → bothInOrdereds R a b ≡ common (bitAnd m n) s
     ordereds-by z = let t = both-hold loop z in same-truth _ _
         (λ h. let (d, ((x, y), f)) = ordereds-of W a b .0 h in
         t .1 (d, (do-below W x, ((x, f), ((y, f), subst (λ (e : ℕ). R .kind e ≡ loop) (x .of-do) (W .ordered-loop (x .within) (x .is-ordered)))))))
         (λ h. let (d, (l, (x, (y, q)))) = t .0 h in ordereds-of W a b .1 (d, ((x .0, y .0), x .1)))
 
-    section-by : OfKind R section s → bothInSection R a b ≡ common (bitAnd m n) s
+    pub section-by : OfKind R section s → bothInSection R a b ≡ common (bitAnd m n) s
     section-by z = let t = both-hold section z in same-truth _ _
         (λ h. let (d, ((x, y), f)) = section-of W a b .0 h in t .1 (d, (section-below W x, ((x, f), ((y, f), x .is-section)))))
         (λ h. let (d, (l, (x, (y, q)))) = t .0 h in section-of W a b .1 (d, ((x .0, y .0), x .1)))
@@ -110,7 +110,7 @@ module _ {R : Region} (W : WellFormed R) where
     lacked : (x : ℕ) → lacksThread R size x ≡ true → (d : ℕ) × ((d < R .constructs) × (Holds R x d (R .kind d) × Lacked R size d))
     lacked x h = let (c, (i, l)) = lacks-of W size x .0 h in (c, (W .inside-below (i .1), (subst (Holds R x c) (sym (i .0)) (c, (i, refl)), (i .0, l))))
 
-    lacks-by : (lacksThread R size a || lacksThread R size b) ≡ common (bitOr m n) s
+    pub lacks-by : (lacksThread R size a || lacksThread R size b) ≡ common (bitOr m n) s
     lacks-by = let t = common-test (mask-either v w) z in same-truth _ _
         (λ h. elim (or-cases (lacksThread R size a) (lacksThread R size b) h) [
           | inl p ↦ (let (d, (l, (x, q))) = lacked a p in t .1 (d, (l, (inl x, q))))

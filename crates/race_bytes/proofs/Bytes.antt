@@ -26,7 +26,7 @@ use Rattle.race_rows.specs.Bytes.{byLine}
 use Rattle.race_rows.proofs.Filled.{filled-tab}
 use Rattle.race_lines.specs.Lines.{LineOf}
 use Rattle.race_pairs.specs.Lines.{lineByte}
-use Rattle.race_bytes.proofs.Meeting.{line-race}
+use Rattle.race_bytes.proofs.LineRace.{line-race}
 
 tab-same : (n : ℕ) (f g : ℕ → ℕ) → ((k : ℕ) → k < n → f k ≡ g k) → tab n f ≡ tab n g
 tab-same n f g h = filled-tab g n (tab n f) (tab-length n f) (λ k l. tab-at n f 0 k l ∙ h k l)

@@ -1,3 +1,3 @@
 pub mod Bytes
-pub mod Meeting
+pub mod LineRace
 pub mod Sharing

@@ -5,7 +5,6 @@ use mathlib.Core.Bool.{Bool, true, false, _&&_, not, cond}
 use mathlib.Core.List.{List, [], _∷_}
 use Prim.Native.Nat.{ℕ, _+_, _*_, _/_, _%_, _^_, _<_}
 use native.Mathlib.Omega.{arith}
-use lib.Bits.{bitAnd}
 use lib.Dec.{eqb}
 use lib.ListN.{getD}
 use Rattle.lists.specs.Bits.{has}
@@ -13,26 +12,12 @@ use Rattle.lists.specs.Common.{common}
 use Rattle.unions.specs.Unions.{Joined}
 use Rattle.unions.specs.declared.Words.{Words}
 use Rattle.nodesets.specs.Shared.{shared}
-use Rattle.profiles.specs.Marks.{startsIn, endsIn, heldIn}
 use Rattle.pairs.specs.declared.rules.Profile.{Profile}
-use Rattle.sheet_rows.specs.Sheet.{SharedFrom}
-use Rattle.sheet_rows.proofs.Ranks.{has-and, bit-is}
+use Rattle.sheet_rows.proofs.Ranks.{bit-is}
 use Rattle.sheet_rows.proofs.RowSets.{three-words}
 use Rattle.race_rows.specs.Bytes.{lineRace}
-use Rattle.race_lines.specs.Lines.{meets, MetFrom, Met, Named, raceBy, LineOf}
-
--- of 64 nodes, those that share a start and an end, and hold no construct in common
-pub met-from : (closed : List ℕ) (marks : List (List ℕ)) (own : Profile) (first : ℕ) (s e h r : ℕ)
-    → SharedFrom closed (startsIn marks) (own .starts) first s → SharedFrom closed (endsIn marks) (own .ends) first e → SharedFrom closed (heldIn marks) (own .held) first h
-    → ((j : ℕ) → has r j ≡ (has (bitAnd s e) j && not (has h j))) → MetFrom closed marks own first r
-unfolding meets
-met-from closed marks own first s e h r S E H W j l =
-    W j ∙ ap (λ (b : Bool). b && not (has h j)) (has-and s e j)
-    ∙ rw (S j l, E j l, H j l) (go (eqb (getD closed (first + j) 0) 0) _ _ _)
-  where
-    go : (o s e h : Bool) → (((o && s) && (o && e)) && not (o && h)) ≡ (o && ((s && e) && not h))
-    go true s e h = refl
-    go false s e h = refl
+use Rattle.met_nodes.specs.Meets.{meets, SetFrom, NodeSet, Named}
+use Rattle.race_lines.specs.Lines.{raceBy, LineOf}
 
 -- a byte from the bits of a node in a line's two sets
 byte-by : (o m n : Bool) → cond (o && m) 1 0 + cond ((o && m) && not (o && n)) 1 0 ≡ cond (o && m) (cond n 1 2) 0
@@ -42,7 +27,7 @@ byte-by true false n = refl
 byte-by false m n = refl
 
 module _ (closed : List ℕ) (marks : List (List ℕ)) (names : List ℕ) (own : Profile) (around : ℕ) where
-  race-word : (first j set free union : ℕ) → j < 64 → MetFrom closed marks own first set
+  race-word : (first j set free union : ℕ) → j < 64 → SetFrom closed (meets own marks) first set
       → has union j ≡ (eqb (getD closed (first + j) 0) 0 && common around (getD names (first + j) 0))
       → has free j ≡ (has set j && not (has union j))
       → set / 2 ^ j % 2 + free / 2 ^ j % 2 ≡ raceBy closed marks names own around (first + j)
@@ -52,7 +37,7 @@ module _ (closed : List ℕ) (marks : List (List ℕ)) (names : List ℕ) (own :
       ∙ rw (F, M j l, U) (byte-by (eqb (getD closed (first + j) 0) 0) (meets own marks (first + j)) (common around (getD names (first + j) 0)))
 
   -- the line of a node that meets these and has these names around it
-  pub line-by : (met : Words) (union : Words) (f₀ f₁ f₂ : ℕ) → around < 2 ^ 64 → Met closed marks own met → {sets : List (List ℕ)} → Named closed names sets
+  pub line-by : (met : Words) (union : Words) (f₀ f₁ f₂ : ℕ) → around < 2 ^ 64 → NodeSet closed (meets own marks) met → {sets : List (List ℕ)} → Named closed names sets
       → Joined around (getD sets 0 []) (union .low) → Joined around (getD sets 1 []) (union .middle) → Joined around (getD sets 2 []) (union .high)
       → ((j : ℕ) → has f₀ j ≡ (has (met .low) j && not (has (union .low) j))) → ((j : ℕ) → has f₁ j ≡ (has (met .middle) j && not (has (union .middle) j)))
       → ((j : ℕ) → has f₂ j ≡ (has (met .high) j && not (has (union .high) j)))

@@ -1,55 +1,29 @@
 // The lines that rows of races are filled from: for each node those that it may meet, and those of them that it has no name in common with. A set of nodes
 // is three words, so that the lines of all nodes leave room on a small stack, where a byte for each two nodes would not.
 ghost use mathlib.Core.Path.{_≡_};
-ghost use mathlib.Core.Bool.{_&&_, not};
 ghost use mathlib.Core.List.{List, []};
 ghost use Prim.Native.Nat.{ℕ, _≤_, _<_};
 ghost use lib.ListN.{length, getD};
-ghost use Rattle.lists.specs.Bits.{has};
 ghost use Rattle.pairs.specs.Rules.{profileAt};
 ghost use Rattle.pairs.specs.declared.rules.Profile.{Profile as Masks};
 ghost use Rattle.sheet_rows.specs.Sheet.{InSets};
-ghost use Rattle.race_lines.specs.Lines.{Met, Named, LineOf};
+ghost use Rattle.met_nodes.specs.Meets.{meets, NodeSet, Named};
+ghost use Rattle.race_lines.specs.Lines.{LineOf};
 use chart::format::Chart;
-use nodesets::gather;
+use met_nodes::NameSets;
+use met_nodes::met_nodes;
+use met_nodes::unbarred_nodes;
+use met_nodes::without;
 use pairs::rules::Profile;
 use pairs::rules::profile_of;
 use pairs::rules::same;
-use profiles::marks::ENDS;
-use profiles::marks::HELD;
 use profiles::marks::MaskTable;
-use profiles::marks::STARTS;
 use race_rows::Line;
 use sheet_rows::NodeSets;
-use sheet_rows::sharing;
-use unions::BITS;
 use unions::Words;
 use unions::join;
 
-// By bit of a mask of names the nodes that have it, 64 nodes each.
-pub type NameSets = [[u64; BITS]; THIRDS];
-
-pub const THIRDS: usize = 3;
-
 pub type Lines = [Line; Chart::NODES];
-
-pub fn gather_names(names: &[u64; Chart::NODES], closed: &[u8; Chart::NODES], named: &mut NameSets)
-    requires { ⌜ length (now named) ≡ 3 ⌝ }
-    ensures { λ _. ⌜ Named (now (closed .entry)) (now (names .entry)) (now (named .exit)) ⌝ }
-{
-    let mut w = 0;
-    while w < THIRDS {
-        gather(names, closed, 64 * w, &mut named[w]);
-        w += 1;
-    }
-}
-
-// The members of a set that are not in another.
-fn without(set: u64, other: u64) -> u64
-    ensures { λ r. ⌜ ((j : ℕ) → has r j ≡ (has set j && not (has other j))) ⌝ }
-{
-    set ^ (set & other)
-}
 
 // The nodes that a node with these masks may meet.
 pub struct Kept {
@@ -57,23 +31,17 @@ pub struct Kept {
     pub met: Words,
 }
 
-fn met_nodes(own: Profile, nodes: &NodeSets) -> Kept
-    ensures { λ r. ⌜ (r .own ≡ own) × ((closed : List ℕ) (marks : List (List ℕ)) → InSets closed marks (now (nodes .entry)) → Met closed marks own (r .met)) ⌝ }
+fn kept_of(own: Profile, nodes: &NodeSets) -> Kept
+    ensures { λ r. ⌜ (r .own ≡ own) × ((closed : List ℕ) (marks : List (List ℕ)) → InSets closed marks (now (nodes .entry)) → NodeSet closed (meets own marks) (r .met)) ⌝ }
 {
-    let s = sharing(own.starts, STARTS, nodes);
-    let e = sharing(own.ends, ENDS, nodes);
-    let h = sharing(own.held, HELD, nodes);
-    let met = Words {
-        low: without(s.low & e.low, h.low),
-        middle: without(s.middle & e.middle, h.middle),
-        high: without(s.high & e.high, h.high),
-    };
+    let set = unbarred_nodes(own, nodes);
+    let met = met_nodes(own, set, nodes);
     Kept { own, met }
 }
 
 // Those that are kept, or those of a node with these masks, unless that is closed. Neighbours often have the same masks.
 fn keep(own: Profile, closed: u8, kept: Kept, nodes: &NodeSets) -> Kept
-    ensures { λ r. ⌜ (closed ≡ 0 → r .own ≡ own) × ((shut : List ℕ) (marks : List (List ℕ)) → InSets shut marks (now (nodes .entry)) → Met shut marks (kept .own) (kept .met) → Met shut marks (r .own) (r .met)) ⌝ }
+    ensures { λ r. ⌜ (closed ≡ 0 → r .own ≡ own) × ((shut : List ℕ) (marks : List (List ℕ)) → InSets shut marks (now (nodes .entry)) → NodeSet shut (meets (kept .own) marks) (kept .met) → NodeSet shut (meets (r .own) marks) (r .met)) ⌝ }
 {
     if closed != 0 {
         return kept;
@@ -82,12 +50,12 @@ fn keep(own: Profile, closed: u8, kept: Kept, nodes: &NodeSets) -> Kept
     if same(own, last) {
         return kept;
     }
-    met_nodes(own, nodes)
+    kept_of(own, nodes)
 }
 
 // The line of a node that meets these and has these names around it.
 fn line_of(met: Words, around: u64, named: &NameSets) -> Line
-    ensures { λ r. ⌜ ((closed : List ℕ) (marks : List (List ℕ)) (names : List ℕ) (own : Masks) → Met closed marks own met → Named closed names (now (named .entry)) → LineOf closed marks names own around r) ⌝ }
+    ensures { λ r. ⌜ ((closed : List ℕ) (marks : List (List ℕ)) (names : List ℕ) (own : Masks) → NodeSet closed (meets own marks) met → Named closed names (now (named .entry)) → LineOf closed marks names own around r) ⌝ }
 {
     let shared = join(around, &named[0], &named[1], &named[2]);
     [
@@ -114,7 +82,7 @@ pub fn fill_lines(
     ensures { λ _. ⌜ ((a : ℕ) → a < n → getD (now (closed .entry)) a 0 ≡ 0
         → LineOf (now (closed .entry)) (now (marks .entry)) (now (names .entry)) (profileAt (now (marks .entry)) a) (getD (now (names .entry)) a 0) (getD (now (lines .exit)) a [])) ⌝ }
 {
-    let mut kept = met_nodes(profile_of(0, marks), nodes);
+    let mut kept = kept_of(profile_of(0, marks), nodes);
     let mut a = 0;
     while a < n {
         kept = keep(profile_of(a, marks), closed[a], kept, nodes);

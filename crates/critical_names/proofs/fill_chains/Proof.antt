@@ -9,31 +9,27 @@ use Rattle.chart.specs.Scope.{parentOf}
 use Rattle.chart.specs.Checked.{reading}
 use Rattle.chart.proofs.Records.{constructs-length}
 use Rattle.chart.proofs.Tree.{Below}
-use Rattle.chart.proofs.RegionFacts.{Counts}
 use Rattle.profiles.proofs.Constructs.{index-below, parent-lower}
-use Rattle.critical_names.specs.Names.{NameChains}
+use Rattle.critical_names.specs.Names.{Chained}
 use Rattle.critical_names.proofs.Peers.{chains-next}
 use Rattle.critical_names.proofs.fill_chains.Statement.{statement}
 use Rattle.critical_names.proofs.fill_chains.Tie as tie
 
 abbrev Inv-loop : tie.InvT-loop
-Inv-loop s chart chains₀ members n c₀ chains c = (c ≤ chart .constructs) × NameChains (reading s chart) (Counts (decode s) (chart .region)) c chains
+Inv-loop s chart given chains₀ n c₀ chains c = (c ≤ chart .constructs) × Chained (reading s chart) given c chains
 
 abbrev μ-loop : tie.MeasureT-loop
-μ-loop s chart chains₀ members n c₀ chains c = chart .constructs - c
-
-members-of-requires : tie.Need-members-of-requires Inv-loop μ-loop
-members-of-requires c κs = c .before .pre .0
+μ-loop s chart given chains₀ n c₀ chains c = chart .constructs - c
 
 -- where the function was called
 abbrev start : tie.At-loop Inv-loop μ-loop → tie.Start Inv-loop μ-loop
-start l = l .before .before .before
+start l = l .before .before
 
 below : (c : tie.In-loop Inv-loop μ-loop) → c .before .loop .c < length (decode (start (c .before) .args .s .now) .constructs)
 below c = let e = start (c .before) in omega (arith, constructs-length _ (e .args .chart) (e .pre .0 .laid))
 
 loop-holds : tie.Need-loop-holds Inv-loop μ-loop
-loop-holds c = (omega arith, record { long = c .before .before .pre .1; named = λ d l. absurd (omega arith) })
+loop-holds c = (omega arith, record { long = c .before .pre .2; at = λ d l. absurd (omega arith) })
 
 read-requires : tie.Need-read-requires Inv-loop μ-loop
 read-requires c κs = (start (c .before) .pre .0 .laid, omega arith)
@@ -47,13 +43,14 @@ mask-at-requires c κs =
     index-below (omega (arith, e .pre .0 .laid .constructs-most))
     (subst (Below (i .before .loop .c)) (sym (r .read .ensures .1)) (parent-lower _ (e .args .chart) (e .pre .0) (i .before .loop .c) (below i)))
 
-gives-requires : tie.Need-gives-requires Inv-loop μ-loop
-gives-requires c κs =
-    let l = c .before .before .before .before in
-    (start l .pre .0, omega arith, l .before .members-of .ensures)
-
 mul-chains : tie.Need-mul-chains Inv-loop μ-loop
 mul-chains c = omega arith
+
+element-copy-out-chains : tie.Need-element-copy-out-chains Inv-loop μ-loop
+element-copy-out-chains c = omega (arith, start (c .before .before .before .before) .pre .0 .laid .constructs-most)
+
+mul-chains-2 : tie.Need-mul-chains-2 Inv-loop μ-loop
+mul-chains-2 c = omega arith
 
 element-write-chains : tie.Need-element-write-chains Inv-loop μ-loop
 element-write-chains c = omega (arith, start (c .before .before .before .before .before) .pre .0 .laid .constructs-most)
@@ -72,7 +69,7 @@ loop-again c =
     let i = r .before in
     let l = i .before in
     let e = start l in
-    (omega arith, rw (m .mask-at .ensures, r .read .ensures .1) (chains-next _ (e .args .chart) (e .pre .0) (l .loop .c) (below i) (l .loop .inv .1) (c .gives .ensures)))
+    (omega arith, rw (m .mask-at .ensures, r .read .ensures .1) (chains-next _ (e .args .chart) (e .pre .0) (l .loop .c) (below i) (e .pre .1) (l .loop .inv .1)))
 
 returns : tie.Need-returns Inv-loop μ-loop
 returns c =
@@ -86,12 +83,12 @@ fill-chains-spec =
     (tie.spec
     Inv-loop
     μ-loop
-    members-of-requires
     loop-holds
     read-requires
     mask-at-requires
-    gives-requires
     mul-chains
+    element-copy-out-chains
+    mul-chains-2
     element-write-chains
     add-c
     loop-less

@@ -8,7 +8,8 @@ use lib.ListN.{length, getD, length-set}
 use Rattle.pairs.specs.Rules.{profileAt}
 use Rattle.pairs.specs.declared.rules.Profile.{Profile}
 use Rattle.sheet_rows.proofs.RowSets.{stored-row}
-use Rattle.race_lines.specs.Lines.{Met, LineOf}
+use Rattle.met_nodes.specs.Meets.{meets, NodeSet}
+use Rattle.race_lines.specs.Lines.{LineOf}
 use Rattle.race_lines.proofs.fill_lines.Statement.{statement}
 use Rattle.race_lines.proofs.fill_lines.Tie as tie
 
@@ -18,7 +19,7 @@ Lined closed marks names a line = getD closed a 0 ≡ 0 → LineOf closed marks 
 
 abbrev Inv-loop : tie.InvT-loop
 Inv-loop n marks names closed nodes named lines₀ kept₀ a₀ lines kept a =
-    (a ≤ n) × (length lines ≡ 192) × Met closed marks (kept .own) (kept .met) × ((b : ℕ) → b < a → Lined closed marks names b (getD lines b []))
+    (a ≤ n) × (length lines ≡ 192) × NodeSet closed (meets (kept .own) marks) (kept .met) × ((b : ℕ) → b < a → Lined closed marks names b (getD lines b []))
 
 abbrev μ-loop : tie.MeasureT-loop
 μ-loop n marks names closed nodes named lines₀ kept₀ a₀ lines kept a = n - a
@@ -30,16 +31,16 @@ start l = l .before .before .before
 profile-of-requires : tie.Need-profile-of-requires Inv-loop μ-loop
 profile-of-requires c κs = omega arith
 
-met-nodes-requires : tie.Need-met-nodes-requires Inv-loop μ-loop
-met-nodes-requires c κs = tt
+kept-of-requires : tie.Need-kept-of-requires Inv-loop μ-loop
+kept-of-requires c κs = tt
 
 loop-holds : tie.Need-loop-holds Inv-loop μ-loop
 loop-holds c =
     let e = c .before .before in
-    let (own, met) = c .met-nodes .ensures in (
+    let (own, met) = c .kept-of .ensures in (
       omega arith,
       e .pre .3,
-      subst (λ (x : Profile). Met (e .args .closed .now) (e .args .marks .now) x (c .met-nodes .result .met)) (sym own) (met _ _ (e .pre .1)),
+      subst (λ (x : Profile). NodeSet (e .args .closed .now) (meets x (e .args .marks .now)) (c .kept-of .result .met)) (sym own) (met _ _ (e .pre .1)),
       λ b l. absurd (omega arith),
     )
 
@@ -107,7 +108,7 @@ fill-lines-spec =
     Inv-loop
     μ-loop
     profile-of-requires
-    met-nodes-requires
+    kept-of-requires
     loop-holds
     profile-of-requires-2
     element-copy-out-keep

@@ -1,8 +1,8 @@
--- `race_lines::without` meets its contract.
+-- `met_nodes::without` meets its contract.
 -- Assumes nothing.
 use Rattle.sheet_rows.proofs.Ranks.{has-without}
-use Rattle.race_lines.proofs.without.Statement.{statement}
-use Rattle.race_lines.proofs.without.Tie as tie
+use Rattle.met_nodes.proofs.without.Statement.{statement}
+use Rattle.met_nodes.proofs.without.Tie as tie
 
 returns : tie.Need-returns
 returns c = λ j. has-without (c .args .set) (c .args .other) j

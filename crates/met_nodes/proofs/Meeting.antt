@@ -1,6 +1,6 @@
--- Two nodes that a claim may name are concurrent where they have a start and an end in common and hold no construct in common: what a line says of them.
+-- Two nodes that a claim may name are concurrent where they have a start and an end in common and hold no construct in common.
 -- Assumes nothing.
-use mathlib.Core.Path.{_≡_, refl, subst, _∙_}
+use mathlib.Core.Path.{_≡_, refl, sym, subst}
 use mathlib.Core.Logic.{inl, inr}
 use mathlib.Core.Bool.{Bool, true, false, _&&_, _||_, not, cond}
 use mathlib.Core.List.{List}
@@ -9,20 +9,16 @@ use native.Mathlib.Omega.{arith}
 use lib.Bits.{bitAnd}
 use lib.Dec.{eqb}
 use lib.ListN.{getD}
-use Rattle.lists.specs.Truth.{same-truth, or-cases, or-left, or-right}
+use Rattle.lists.specs.Truth.{and-false, same-truth, or-cases, or-left, or-right}
 use Rattle.lists.specs.Common.{mask-both, common, common-test}
 use Rattle.chart.specs.Region.{Kind, single, master, critical, loop, ordered, sections, section, parallel, Region}
 use Rattle.answers.specs.Answer.{answer}
-use Rattle.answers.specs.Numbers.{asked}
-use Rattle.loading.specs.Tables.{Closed}
+use Rattle.exact.specs.Barred.{isBarred}
+use Rattle.phases.specs.Phases.{forward}
 use Rattle.profiles.specs.Marks.{Holds, OfKind, startsIn, endsIn, heldIn, Marks}
 use Rattle.profiles.specs.declared.chains.Sets.{Sets}
-use Rattle.pairs.specs.Rules.{profileAt, ruledBy, ruled-by}
-use Rattle.accesses.specs.Races.{raceAt}
-use Rattle.critical_names.specs.Names.{Names}
-use Rattle.race_rows.specs.Bytes.{lineRace}
-use Rattle.race_lines.specs.Lines.{meets, raceBy, LineOf}
-use Rattle.race_bytes.proofs.Sharing.{share-by}
+use Rattle.pairs.specs.Rules.{profileAt, ruledBy, apart-by, masters-by, single-by, ordereds-by, section-by, ruled-by}
+use Rattle.met_nodes.specs.Meets.{unbarred, meets}
 
 module _ {R : Region} {marks : List (List ℕ)} {sets : Sets} (M : Marks R marks sets) (a b : ℕ) (la : a < R .nodes) (lb : b < R .nodes) where
   -- the constructs that both hold, by their kinds
@@ -67,26 +63,38 @@ module _ {R : Region} {marks : List (List ℕ)} {sets : Sets} (M : Marks R marks
       (λ h. let (d, (l, (x, y))) = common-test (M .has-held a la) (M .has-held b lb) .0 h in by-kind d l (R .kind d) refl x y)
 
   pub met-by : eqb (answer R a b) 0 ≡ meets (profileAt marks a) marks b
-  unfolding meets ruledBy profileAt
+  unfolding meets unbarred ruledBy profileAt
   met-by = rw (ruled-by M a b la lb, ← held-by) (go
       (common (getD (startsIn marks) a 0) (getD (startsIn marks) b 0)) (common (getD (endsIn marks) a 0) (getD (endsIn marks) b 0))
       (both (sets .masters)) (both (sets .singles)) (both (sets .dos)) (both (sets .sections)))
     where
-      go : (s e m k d c : Bool) → eqb (cond (not s || not e) 1 (cond m 2 (cond k 3 (cond d 4 (cond c 5 0))))) 0 ≡ ((s && e) && not (m || (k || (d || c))))
+      go : (s e m k d c : Bool) → eqb (cond (not s || not e) 1 (cond m 2 (cond k 3 (cond d 4 (cond c 5 0))))) 0 ≡ ((s && not (m || (k || (d || c)))) && e)
       go false e m k d c = refl
-      go true false m k d c = refl
+      go true false m k d c = sym (and-false (not (m || (k || (d || c)))))
       go true true true k d c = refl
       go true true false true d c = refl
       go true true false false true c = refl
       go true true false false false true = refl
       go true true false false false false = refl
 
-  pub line-race : {closed names line : List ℕ} → Closed R closed → Names R names → asked R b ≡ true
-      → LineOf closed marks names (profileAt marks a) (getD names a 0) line → lineRace line b ≡ raceAt R a b
-  unfolding raceBy raceAt
-  line-race {closed} {names} {line} C N k L =
-      L .at b (omega (arith, M .few)) ∙ rw (C .at b lb, k, ← met-by, share-by (M .well-formed) a b (N a la) (N b lb)) (go (eqb (answer R a b) 0) _)
+  -- and so they are in runs that need not finish, without the end
+  pub unbarred-by : not (isBarred R a b) ≡ unbarred (profileAt marks a) marks b
+  unfolding unbarred isBarred profileAt
+  unbarred-by =
+      let W = M .well-formed in
+      let v = M .has-held a la in
+      let w = M .has-held b lb in
+      rw (
+        apart-by W a b forward,
+        ← M .has-starts a (omega (arith, M .few)),
+        ← M .has-starts b (omega (arith, M .few)),
+        masters-by W a b v w (M .kinds .masters),
+        single-by W a b v w (M .kinds .singles),
+        ordereds-by W a b v w (M .kinds .dos),
+        section-by W a b v w (M .kinds .sections),
+        held-by,
+      ) (go (common (getD (startsIn marks) a 0) (getD (startsIn marks) b 0)) (common (getD (heldIn marks) a 0) (getD (heldIn marks) b 0)))
     where
-      go : (t : Bool) (x : ℕ) → cond t x 0 ≡ cond (not t) 0 x
-      go true x = refl
-      go false x = refl
+      go : (s h : Bool) → not (not s || h) ≡ (s && not h)
+      go true h = refl
+      go false h = refl

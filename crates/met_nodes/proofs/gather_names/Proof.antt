@@ -1,4 +1,4 @@
--- `race_lines::gather_names` meets its contract. The loop's invariant: the sets passed are there.
+-- `met_nodes::gather_names` meets its contract. The loop's invariant: the sets passed are there.
 -- Assumes nothing.
 use mathlib.Core.Path.{_≡_, _∙_}
 use mathlib.Core.List.{[]}
@@ -7,8 +7,8 @@ use native.Mathlib.Omega.{arith}
 use lib.ListN.{length, getD, length-set}
 use Rattle.nodesets.specs.Gathered.{Gathered}
 use Rattle.sheet_rows.proofs.RowSets.{stored-row}
-use Rattle.race_lines.proofs.gather_names.Statement.{statement}
-use Rattle.race_lines.proofs.gather_names.Tie as tie
+use Rattle.met_nodes.proofs.gather_names.Statement.{statement}
+use Rattle.met_nodes.proofs.gather_names.Tie as tie
 
 abbrev Inv-loop : tie.InvT-loop
 Inv-loop names closed named₀ w₀ named w = (w ≤ 3) × (length named ≡ 3) × ((k : ℕ) → k < w → Gathered closed names (64 * k) (getD named k []))
