@@ -12,14 +12,12 @@ ghost use Rattle.output.specs.Output.{outputRows, writtenBy, leftBy};
 ghost use Rattle.calls.specs.Sheet.{sheetWrittenFor, sheetLeftFor};
 use answers::Size;
 use chart::format::Chart;
-use chart::format::Refusal;
 use output::Written;
-use output::room_for;
 use profiles::chains::Sets;
 use profiles::marks::MaskTable;
 use profiles::marks::ROWS;
 use sheets::fill_sheet;
-use sizes::bad_size;
+use sizes::room_sized;
 use survey::Surveyed;
 use survey::survey;
 
@@ -43,12 +41,9 @@ fn write_sheet(
         ⌜ now (out .exit) ≡ leftBy (outputRows [] (length (now (out .entry))) (length result) (sizeRows size)) result (now (out .entry)) ⌝ }
 {
     let n = chart.nodes;
-    match room_for(n * n, out.len()) {
+    match room_sized(n * n, out.len(), size) {
         Written::Refused(refusal) => Written::Refused(refusal),
         Written::Bytes(bytes) => {
-            if bad_size(size) {
-                return Written::Refused(Refusal::SIZE);
-            }
             fill_sheet(s, chart, size, marks, sets, out);
             Written::Bytes(bytes)
         }

@@ -1,7 +1,7 @@
 // Teams of a known size: which sizes a call takes, and what the rules read of one.
 ghost use mathlib.Core.Path.{_≡_};
 ghost use mathlib.Core.Bool.{cond, _&&_};
-ghost use mathlib.Core.List.{List};
+ghost use mathlib.Core.List.{List, []};
 ghost use mathlib.Core.Option.{none, some};
 ghost use Prim.Native.Nat.{ℕ};
 ghost use lib.Dec.{eqb, leb};
@@ -13,11 +13,15 @@ ghost use Rattle.chart.specs.Refusal.{firstOf};
 ghost use Rattle.chart.specs.Checked.{Laid, reading};
 ghost use Rattle.answers.specs.Size.{sizeRows};
 ghost use Rattle.loading.specs.Tables.{Accepted};
+ghost use Rattle.output.specs.Output.{outputRows, writtenBy};
 ghost use Rattle.profiles.specs.Chains.{isOver};
 ghost use Rattle.profiles.specs.Marks.{Sized, Marks};
 use answers::Size;
 use chart::format::Chart;
 use chart::format::Construct;
+use chart::format::Refusal;
+use output::Written;
+use output::room_for;
 use profiles::chains::Sets;
 use profiles::peers::add_if;
 
@@ -36,6 +40,21 @@ pub fn bad_size(size: Size) -> bool
                 return true;
             }
             threads > MOST
+        }
+    }
+}
+
+// Rows 11 and 21, for a result of so many bytes.
+pub fn room_sized(bytes: usize, room: usize, size: Size) -> Written
+    ensures { λ r. ⌜ r ≡ writtenBy (outputRows [] room bytes (sizeRows size)) bytes ⌝ }
+{
+    match room_for(bytes, room) {
+        Written::Refused(refusal) => Written::Refused(refusal),
+        Written::Bytes(count) => {
+            if bad_size(size) {
+                return Written::Refused(Refusal::SIZE);
+            }
+            Written::Bytes(count)
         }
     }
 }
