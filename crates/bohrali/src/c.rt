@@ -7,17 +7,19 @@ ghost use Rattle.admission.specs.Admission.{admitted, numberOf as Admission·nu
 ghost use Rattle.output.specs.Output.{numberOf as Output·numberOf};
 ghost use Rattle.distances.specs.Distances.{distancesWritten, distancesLeft};
 ghost use Rattle.accesses.specs.Races.{racesWritten, racesLeft};
+ghost use Rattle.locks.specs.Locks.{locksWrittenFor, locksLeftFor};
 ghost use Rattle.listing.specs.Call.{listingWritten, listingLeft};
 ghost use Rattle.calls.specs.Phases.{phasesWritten, phasesLeft};
 ghost use Rattle.calls.specs.Sheet.{sheetWritten, sheetLeft, sheetWrittenFor, sheetLeftFor};
 ghost use Rattle.calls.specs.Pair.{pairAnswered, pairAnsweredFor, numberOf as Pair·numberOf};
-ghost use Rattle.answers.specs.declared.Size.the-variants.{Of};
+ghost use Rattle.answers.specs.declared.Size.the-variants.{Any, Of};
 ghost use Rattle.verdicts.specs.Judged.{judged, judgedFor, numberOf as Judged·numberOf};
 ghost use Rattle.verdicts.specs.Correct.{Correct, CorrectIn};
 ghost use Rattle.correctness.specs.PhasesCorrect.{PhasesCorrect, AdmitCorrect};
 ghost use Rattle.correctness.specs.DistancesCorrect.{DistancesCorrect};
 ghost use Rattle.correctness.specs.AnswersCorrect.{PairCorrect, PairCorrectIn, SheetCorrect, SheetCorrectIn};
 ghost use Rattle.correctness.specs.RacesCorrect.{RacesCorrect};
+ghost use Rattle.correctness.specs.LocksCorrect.{LocksCorrect, LocksCorrectIn};
 ghost use Rattle.correctness.specs.InsertCorrect.{InsertCorrect};
 ghost use Rattle.correctness.specs.RemoveCorrect.{RemoveCorrect};
 ghost use Rattle.correctness.specs.ListingCorrect.{ListingCorrect};
@@ -30,6 +32,7 @@ use edits::Receipt;
 use inserting::insert_edge;
 use numbers::counts;
 use numbers::sized::judge;
+use numbers::sized::locks;
 use numbers::sized::pair;
 use numbers::sized::sheet;
 use numbers::witnessed;
@@ -145,6 +148,31 @@ pub extern "C" fn bohrali_races(chart: &[u8], region: usize, accesses: &[u8], ou
     ensures { λ r. ⌜ RacesCorrect (now (chart .entry)) region (now (accesses .entry)) (now (out .entry)) r (now (out .exit)) ⌝ }
 {
     written::number_of(races::races(chart, region, accesses, out))
+}
+
+// For each construct a byte: 0 the lock of this critical is needed, 1 it can be dropped as far as finished runs go, 2 in every run; 255 it is no
+// critical of the region.
+#[no_mangle]
+pub extern "C" fn bohrali_locks(chart: &[u8], region: usize, out: &mut [u8]) -> i64
+    ensures { λ r. ⌜ r ≡ Output·numberOf (locksWrittenFor (now (chart .entry)) region Any (now (out .entry))) ⌝ }
+    ensures { λ _. ⌜ now (out .exit) ≡ locksLeftFor (now (chart .entry)) region Any (now (out .entry)) ⌝ }
+    ensures { λ r. ⌜ LocksCorrect (now (chart .entry)) region (now (out .entry)) r (now (out .exit)) ⌝ }
+{
+    locks(chart, region, Size::Any, out)
+}
+
+#[no_mangle]
+pub extern "C" fn bohrali_locks_sized(
+    chart: &[u8],
+    region: usize,
+    size: usize,
+    out: &mut [u8],
+) -> i64
+    ensures { λ r. ⌜ r ≡ Output·numberOf (locksWrittenFor (now (chart .entry)) region (Of size) (now (out .entry))) ⌝ }
+    ensures { λ _. ⌜ now (out .exit) ≡ locksLeftFor (now (chart .entry)) region (Of size) (now (out .entry)) ⌝ }
+    ensures { λ r. ⌜ LocksCorrectIn (now (chart .entry)) region size (now (out .entry)) r (now (out .exit)) ⌝ }
+{
+    locks(chart, region, Size::Of(size), out)
 }
 
 // The chart is the first `chart_len` bytes of the buffer; the receipt's two numbers are those that asking gave.

@@ -1,0 +1,18 @@
+-- A byte for each construct, by masks.
+-- Assumes nothing.
+use mathlib.Core.Path.{_≡_}
+use mathlib.Core.Bool.{cond}
+use mathlib.Core.List.{List}
+use Prim.Native.Nat.{ℕ, _≤_, _<_}
+use lib.ListN.{length, getD}
+use Rattle.lists.specs.Bits.{has}
+use Rattle.answer_locks.specs.declared.search.Tried.{Tried}
+
+unfoldable pub byteBy : ℕ → Tried → ℕ → ℕ
+byteBy criticals found c = cond (has criticals c) (cond (has (found .needed) c) 0 (cond (has (found .ever) c) 1 2)) 255
+
+-- The bytes of the first n constructs stand at the front, and the rest stays.
+pub record Put (criticals : ℕ) (found : Tried) (n : ℕ) (old new : List ℕ) : Type 0 where
+  pub long : length new ≡ length old
+  pub at : (c : ℕ) → c < n → getD new c 0 ≡ byteBy criticals found c
+  pub past : (c : ℕ) → n ≤ c → getD new c 0 ≡ getD old c 0

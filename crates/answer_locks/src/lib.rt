@@ -1,0 +1,56 @@
+// The bytes of Locks, off the masks of a chart: which nodes the team can have, the criticals that some pair of them needs, and a byte for each construct.
+ghost use mathlib.Core.Path.{_≡_};
+ghost use mathlib.Core.List.{_++_};
+ghost use Prim.Native.Nat.{_≤_};
+ghost use lib.ListN.{length, drop};
+ghost use Rattle.chart.specs.Checked.{reading};
+ghost use Rattle.loading.specs.Tables.{Accepted};
+ghost use Rattle.profiles.specs.Marks.{Marks};
+ghost use Rattle.locks.specs.Locks.{locksResult};
+use crate::bytes::put_bytes;
+use crate::fitting::close_lacking;
+use crate::search::search;
+use answers::Size;
+use chart::format::Chart;
+use closed_nodes::load_closed;
+use critical_names::fill_around;
+use critical_names::fill_given;
+use critical_names::spread;
+use met_nodes::THIRDS;
+use met_nodes::gather_names;
+use profiles::chains::Sets;
+use profiles::marks::MaskTable;
+use sheet_rows::SETS;
+use sheet_rows::gather_all;
+use sizes::sets_for;
+use unions::BITS;
+
+pub mod bytes;
+pub mod fitting;
+pub mod search;
+
+// The bytes fill the front of `out`.
+pub fn put_locks(s: &[u8], chart: Chart, size: Size, marks: &MaskTable, kinds: Sets, out: &mut [u8])
+    requires { ⌜ Accepted (now s) chart × Marks (reading (now s) chart) (now marks) kinds × (chart .constructs ≤ length (now out)) ⌝ }
+    ensures { λ _.
+        let result = locksResult (reading (now (s .entry)) chart) size in
+        ⌜ now (out .exit) ≡ result ++ drop (length result) (now (out .entry)) ⌝ }
+{
+    let mut given = [0u64; Chart::CONSTRUCTS];
+    fill_given(s, chart, &mut given);
+    let mut names = [0u64; Chart::NODES];
+    spread(s, chart, &given, &mut names);
+    let mut around = [0u64; Chart::NODES];
+    let criticals = fill_around(s, chart, &given, &mut around);
+    let mut closed = [0u8; Chart::NODES];
+    load_closed(s, chart, &mut closed);
+    let sets = sets_for(s, chart, size, kinds);
+    let mut shut = [0u8; Chart::NODES];
+    close_lacking(chart.nodes, marks, sets, &closed, &mut shut);
+    let mut nodes = [[0u64; BITS]; SETS];
+    gather_all(marks, &shut, &mut nodes);
+    let mut named = [[0u64; BITS]; THIRDS];
+    gather_names(&names, &shut, &mut named);
+    let found = search(chart.nodes, marks, &around, &shut, &nodes, &named);
+    put_bytes(chart.constructs, criticals, found, out);
+}

@@ -1,0 +1,70 @@
+-- `call_locks::locks` meets its contract: rows 1 to 10 and 23, and where none of them applies rows 11 and 21 and the bytes.
+-- Assumes nothing.
+use mathlib.Core.Path.{refl, ap, sym, _∙_}
+use borrow.Author.Needs.{needs}
+use Rattle.chart.specs.Format.{decode}
+use Rattle.chart.specs.Reading.{regionOf}
+use Rattle.chart.specs.Checked.{countsOf, readFor}
+use Rattle.chart.specs.declared.format.Chart.{Chart}
+use Rattle.refusals.proofs.Outcome.{passed-none, refused-some}
+use Rattle.paths.specs.Admission.{regionRows}
+use Rattle.answers.specs.Size.{sizeRows}
+use Rattle.locks.specs.Locks.{locksResult}
+use Rattle.survey.specs.Surveyed.{checkedOf}
+use Rattle.output.proofs.Outputs.{refused-before}
+use Rattle.calls.proofs.Passed.{output-passed}
+use Rattle.call_locks.proofs.locks.Statement.{statement}
+use Rattle.call_locks.proofs.locks.Tie as tie
+
+survey-requires : tie.Need-survey-requires
+survey-requires c κs = refl
+
+enum-known-refusal : tie.Need-enum-known-refusal
+enum-known-refusal c = search needs
+
+enum-known-chart : tie.Need-enum-known-chart
+enum-known-chart c = search needs
+
+write-locks-requires : tie.Need-write-locks-requires
+write-locks-requires c κs =
+    let m = c .before .before .before in
+    let S = m .before .before .survey .ensures .1 _ _ (m .chart .given .1) in
+    (S .accepted, S .marked)
+
+returns : tie.Need-returns
+unfolding checkedOf
+returns c =
+    let k = c .before .before .before in
+    let e = k .before .before .before .before in
+    let s = e .args .s .now in
+    let p = e .args .region in
+    let n = refused-some _ (readFor (countsOf s) p) _ (sym (k .survey .ensures .0) ∙ ap checkedOf (c .before .refusal .given .1)) in
+    refused-before (regionRows s p) (sizeRows (e .args .size)) _ (locksResult (regionOf p (decode s)) (e .args .size)) (e .args .out .now) _ n
+
+same-length : tie.Need-same-length
+same-length c = search needs
+
+returns-2 : tie.Need-returns-2
+unfolding checkedOf
+returns-2 c =
+    let w = c .before .before in
+    let m = w .before .before .before .before in
+    let k = m .before .before in
+    let e = k .before .before .before .before in
+    let s = e .args .s .now in
+    let p = e .args .region in
+    let n = passed-none _ (readFor (countsOf s) p) _ (sym (k .survey .ensures .0) ∙ ap checkedOf (m .chart .given .1)) in
+    let named = sym (ap (λ (chart : Chart). chart .region) (n .1)) in
+    output-passed s p _ named (n .0) (sizeRows (e .args .size)) (λ R. locksResult R (e .args .size)) (e .args .out .now) (w .write-locks .ensures .0) (w .write-locks .ensures .1)
+
+pub locks-spec : {M : Type 1} → statement M
+locks-spec =
+    tie.close
+    (tie.spec
+    survey-requires
+    enum-known-refusal
+    enum-known-chart
+    write-locks-requires
+    returns
+    same-length
+    returns-2)

@@ -1,0 +1,59 @@
+// Locks as a call on slices: for each construct whether the lock of this critical is needed, or can be dropped, in finished runs or in all. What the
+// bytes say about runs is in crate correctness, specs/LocksCorrect.antt.
+ghost use mathlib.Core.Path.{_≡_};
+ghost use mathlib.Core.List.{[]};
+ghost use lib.ListN.{length};
+ghost use Rattle.chart.specs.Checked.{reading};
+ghost use Rattle.answers.specs.Size.{sizeRows};
+ghost use Rattle.locks.specs.Locks.{locksResult, locksWrittenFor, locksLeftFor};
+ghost use Rattle.loading.specs.Tables.{Accepted};
+ghost use Rattle.profiles.specs.Marks.{Marks};
+ghost use Rattle.output.specs.Output.{outputRows, writtenBy, leftBy};
+use answer_locks::put_locks;
+use answers::Size;
+use chart::format::Chart;
+use output::Written;
+use profiles::chains::Sets;
+use profiles::marks::MaskTable;
+use profiles::marks::ROWS;
+use sizes::room_sized;
+use survey::Surveyed;
+use survey::survey;
+
+// Rows 11 and 21 and the bytes, of a chart whose nodes are marked.
+fn write_locks(
+    s: &[u8],
+    chart: Chart,
+    size: Size,
+    marks: &MaskTable,
+    sets: Sets,
+    out: &mut [u8],
+) -> Written
+    requires { ⌜ Accepted (now s) chart × Marks (reading (now s) chart) (now marks) sets ⌝ }
+    ensures { λ r.
+        let bytes = length (locksResult (reading (now (s .entry)) chart) size) in
+        ⌜ r ≡ writtenBy (outputRows [] (length (now (out .entry))) bytes (sizeRows size)) bytes ⌝ }
+    ensures { λ _.
+        let result = locksResult (reading (now (s .entry)) chart) size in
+        ⌜ now (out .exit) ≡ leftBy (outputRows [] (length (now (out .entry))) (length result) (sizeRows size)) result (now (out .entry)) ⌝ }
+{
+    match room_sized(chart.constructs, out.len(), size) {
+        Written::Refused(refusal) => Written::Refused(refusal),
+        Written::Bytes(bytes) => {
+            put_locks(s, chart, size, marks, sets, out);
+            Written::Bytes(bytes)
+        }
+    }
+}
+
+// The first of rows 1 to 10, 23, 11 and 21 that applies, or the bytes written, for teams of this size.
+pub fn locks(s: &[u8], region: usize, size: Size, out: &mut [u8]) -> Written
+    ensures { λ r. ⌜ r ≡ locksWrittenFor (now (s .entry)) region size (now (out .entry)) ⌝ }
+    ensures { λ _. ⌜ now (out .exit) ≡ locksLeftFor (now (s .entry)) region size (now (out .entry)) ⌝ }
+{
+    let mut marks = [[0u64; Chart::NODES]; ROWS];
+    match survey(s, region, &mut marks) {
+        Surveyed::Refused(refusal) => Written::Refused(refusal),
+        Surveyed::Marked(chart, sets) => write_locks(s, chart, size, &marks, sets, out),
+    }
+}
