@@ -4,6 +4,7 @@
 pub mod benchmark;
 pub mod damage;
 pub mod listings;
+pub mod locks;
 pub mod more_edges;
 pub mod races;
 pub mod random;

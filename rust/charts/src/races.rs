@@ -4,7 +4,7 @@ use crate::random::Random;
 use crate::valid::{Shape, EDITION_1, NEAR_FILTERS};
 
 /// Mostly criticals, with what may stand above, below and beside them.
-const LOCKED_KINDS: &[u8] = &[3, 3, 3, 3, 3, 3, 3, 3, 3, 1, 2, 5, 7, 8, 8];
+pub const LOCKED_KINDS: &[u8] = &[3, 3, 3, 3, 3, 3, 3, 3, 3, 1, 2, 5, 7, 8, 8];
 
 /// The bytes of an access.
 const ACCESS_BYTES: usize = 4;

@@ -1,14 +1,17 @@
 //! The comparison: for every pair of non-barrier nodes of each region of a chart, the exploration finds
-//! the pair met exactly when the answer is 0: the one for teams of just that size where the team is whole,
-//! and the one for teams of any size where the threads are some of a team that is large enough.
+//! the pair met by a finished run exactly when the answer is 0: the one for teams of just that size where
+//! the team is whole, and the one for teams of any size where the threads are some of a team that is large
+//! enough. And it finds the pair met by some run, finished or not, exactly when no rule but "no common end"
+//! excludes it.
 
 use crate::fault::Fault;
 use crate::regions::Readings;
-use crate::search::{met, Met};
+use crate::search::{meetings, Meetings, Met};
 use crate::team::Team;
 use reference::answers::Rules;
 use reference::chart::Chart;
 use reference::regions::OUTERMOST;
+use reference::sizes::Teams;
 
 /// How far an exploration goes.
 #[derive(Clone, Copy, Debug)]
@@ -42,8 +45,17 @@ pub struct Mismatch {
     pub region: u8,
     pub a: usize,
     pub b: usize,
+    /// By the rules of finished runs, or by those of all.
+    pub finished: bool,
     pub answer: u8,
     pub encounters: u8,
+}
+
+/// The pair rules of finished runs, and those of all runs, for some teams.
+struct Asked {
+    finished: Rules,
+    all: Rules,
+    teams: Teams,
 }
 
 /// Compares all pairs of all regions of one chart, with or without a planted fault.
@@ -66,32 +78,28 @@ fn compare_region(
     fault: Option<Fault>,
     tally: &mut Tally,
 ) -> Result<(), Mismatch> {
-    let mut rules = Rules::of(readings.ruled.clone());
-    if let Some(fault) = fault {
-        fault.plant(&mut rules);
-    }
+    let asked = Asked::of(readings, bounds, fault);
     for encounters in bounds.first_encounters..=bounds.most_encounters {
         let team = Team::of_numbers(&readings.run, bounds.threads, encounters).with_fault(fault);
-        let teams = fault.map_or(team.teams(), |fault| fault.asked(team.teams()));
-        let answer = |a: usize, b: usize| rules.answer_for(teams, a, b);
-        let Some(met) = met(&team, bounds.most_states) else {
+        let Some(met) = meetings(&team, bounds.most_states) else {
             tally.skipped += 1;
             return Ok(());
         };
-        let unlike = |expected: bool| first_unlike(&readings.run, answer, &met, expected);
+        let unlike = |expected: bool| asked.first_unlike(&readings.run, &met, expected);
         let missed = unlike(true);
         let raise = missed.is_some() && encounters < bounds.most_encounters;
-        if let Some((a, b)) = unlike(false).or(missed.filter(|_| !raise)) {
+        if let Some((a, b, finished)) = unlike(false).or(missed.filter(|_| !raise)) {
             return Err(Mismatch {
                 region: readings.region,
                 a,
                 b,
-                answer: answer(a, b),
+                finished,
+                answer: asked.answer(finished, a, b),
                 encounters,
             });
         }
         if !raise {
-            tally.add(&readings.run, answer);
+            tally.add(&readings.run, |a, b| asked.answer(true, a, b));
             tally.inner += usize::from(readings.region != OUTERMOST);
             break;
         }
@@ -99,18 +107,48 @@ fn compare_region(
     Ok(())
 }
 
-/// The first pair expected and not met, or the first one not expected and met.
-fn first_unlike(
-    chart: &Chart,
-    answer: impl Fn(usize, usize) -> u8,
-    met: &Met,
-    expected: bool,
-) -> Option<(usize, usize)> {
-    pairs(chart).find(|&(a, b)| {
-        let is_met = met[a] >> b & 1 == 1;
-        let due = answer(a, b) == Rules::CONCURRENT;
-        due == expected && is_met != due
-    })
+impl Asked {
+    fn of(readings: &Readings, bounds: &Bounds, fault: Option<Fault>) -> Asked {
+        let mut finished = Rules::of(readings.ruled.clone());
+        let mut teams = Team::of_numbers(&readings.run, bounds.threads, 0).teams();
+        if let Some(fault) = fault {
+            fault.plant(&mut finished);
+            teams = fault.asked(teams);
+        }
+        let mut all = finished.clone();
+        if fault != Some(Fault::EndAlwaysAsked) {
+            all.forget_ends();
+        }
+        Asked {
+            finished,
+            all,
+            teams,
+        }
+    }
+
+    fn answer(&self, finished: bool, a: usize, b: usize) -> u8 {
+        let rules = if finished { &self.finished } else { &self.all };
+        rules.answer_for(self.teams, a, b)
+    }
+
+    /// The first pair expected and not met, or the first one not expected and met, by finished runs or by all.
+    fn first_unlike(
+        &self,
+        chart: &Chart,
+        meetings: &Meetings,
+        expected: bool,
+    ) -> Option<(usize, usize, bool)> {
+        let unlike = |finished: bool, met: &Met| {
+            let mut pairs = pairs(chart);
+            let (a, b) = pairs.find(|&(a, b)| {
+                let is_met = met[a] >> b & 1 == 1;
+                let due = self.answer(finished, a, b) == Rules::CONCURRENT;
+                due == expected && is_met != due
+            })?;
+            Some((a, b, finished))
+        };
+        unlike(true, &meetings.finished).or_else(|| unlike(false, &meetings.all))
+    }
 }
 
 /// The pairs a ≤ b of non-barrier nodes.

@@ -51,11 +51,17 @@ pub enum Fault {
     LockOfConstruct,
     /// With locks: a critical does not count where it is not the innermost construct.
     LockInnermost,
+    /// A lock is dropped though another critical of its name may be shared with this one.
+    OwnPairsOnly,
+    /// A lock that finished runs alone do not need is taken for one that no run needs.
+    UnfinishedForgotten,
+    /// "No common end" excludes two nodes in runs that do not finish, too.
+    EndAlwaysAsked,
 }
 
 impl Fault {
     /// Those that change an answer or a pair met.
-    pub const COMPARED: [Fault; 13] = [
+    pub const COMPARED: [Fault; 14] = [
         Fault::SingleReturnDropped,
         Fault::OrderedReturnDropped,
         Fault::CommonEndsDropped,
@@ -69,6 +75,7 @@ impl Fault {
         Fault::AnyThreadEnters,
         Fault::DeeperConstructsCounted,
         Fault::InnerBarrierKept,
+        Fault::EndAlwaysAsked,
     ];
     /// Those that allow further runs, in which no further pair is met.
     pub const TRACED: [Fault; 4] = [
@@ -88,6 +95,9 @@ impl Fault {
         Fault::LockInnermost,
     ];
 
+    /// Those of what is said of locks that can be dropped.
+    pub const DROPPED: [Fault; 2] = [Fault::OwnPairsOnly, Fault::UnfinishedForgotten];
+
     /// The teams that the pair rules are asked about in place of others; faults of sizes alone change them.
     pub fn asked(self, teams: Teams) -> Teams {
         match (self, teams) {
@@ -102,11 +112,12 @@ impl Fault {
         match self {
             Fault::SingleReturnDropped => drop_returns(rules, Construct::SINGLE),
             Fault::OrderedReturnDropped => drop_returns(rules, Construct::DO),
-            Fault::CommonEndsDropped => rules.phases.ends.fill(u64::MAX),
+            Fault::CommonEndsDropped => rules.forget_ends(),
             Fault::SectionFrameLeftOut => leave_frames_out(rules),
             Fault::SectionReturnDropped => drop_returns(rules, Construct::SECTIONS),
             Fault::FilterIgnored => change_filters(rules, |_| 0),
             Fault::FilterLowByte => change_filters(rules, |filter| filter % 256),
+            Fault::OwnPairsOnly => part_names(rules),
             _ => {}
         }
     }
@@ -124,6 +135,13 @@ fn leave_frames_out(rules: &mut Rules) {
 fn change_filters(rules: &mut Rules, change: fn(u16) -> u16) {
     for construct in &mut rules.chart.constructs {
         construct.filter = change(construct.filter);
+    }
+}
+
+/// Lets the rules believe that no two criticals have one name.
+fn part_names(rules: &mut Rules) {
+    for (number, construct) in rules.chart.constructs.iter_mut().enumerate() {
+        construct.name = number as u16;
     }
 }
 

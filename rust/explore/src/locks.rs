@@ -1,31 +1,38 @@
-//! The team rules with locks added (02, Note 9), and the comparison of synchronization races with them. The
-//! answers are those for the rules without locks.
+//! The team rules with locks added (02, Note 9), of all criticals or of some, and the comparison of synchronization
+//! races with them. The answers are those for the rules without locks.
 
 use crate::compare::{pairs, Bounds, Mismatch};
 use crate::fault::Fault;
 use crate::search::met;
-use crate::team::{State, Team};
+use crate::team::{Constructs, State, Team};
 use reference::answers::Rules;
 use reference::chart::{Chart, Construct};
 use reference::races::{Access, SYNCHRONIZATION_RACE};
 
 impl<'a> Team<'a> {
     /// The same team under the rules with locks.
-    pub fn with_locks(mut self) -> Team<'a> {
-        self.locks = true;
+    pub fn with_locks(self) -> Team<'a> {
+        self.with_locks_of(Constructs::MAX)
+    }
+
+    /// The same team under the rules with the locks of some criticals alone. The others are left as if there were no
+    /// locks, and hold none.
+    pub fn with_locks_of(mut self, criticals: Constructs) -> Team<'a> {
+        self.locks = criticals;
         self
     }
 
     /// "A critical's begin is left only while no other thread is inside a critical of that name."
     pub(crate) fn is_free(&self, state: &State, thread: usize, critical: usize) -> bool {
-        if !self.locks || self.fault == Some(Fault::LockDropped) {
+        let locks = |c: usize| self.locks >> c & 1 == 1;
+        if !locks(critical) || self.fault == Some(Fault::LockDropped) {
             return true;
         }
         let same_only = self.fault == Some(Fault::LockOfConstruct);
         let own = self.chart.constructs[critical];
         let blocks = |&c: &usize| {
             let Construct { kind, name, .. } = self.chart.constructs[c];
-            kind == own.kind && name == own.name && (c == critical || !same_only)
+            kind == own.kind && name == own.name && locks(c) && (c == critical || !same_only)
         };
         let depth = match self.fault {
             Some(Fault::LockInnermost) => 1,
@@ -78,6 +85,7 @@ pub fn compare_locked(
                     region,
                     a,
                     b,
+                    finished: true,
                     answer: rules.answer(a, b),
                     encounters,
                 });

@@ -12,6 +12,9 @@ const NODE_BITS: usize = 6;
 const SET_BITS: usize = MOST_CONSTRUCTS;
 const COUNT_BITS: usize = 4;
 
+/// A set of constructs: bit c for construct c.
+pub type Constructs = u8;
+
 /// "The state is each thread's node and, per thread and construct, how often it has left that
 /// construct's begin" since the last release. Only the counts of singles, dos and sections are kept:
 /// no rule reads another, so leaving those out changes no step.
@@ -21,7 +24,7 @@ pub struct State {
     pub(crate) encounters: [[u8; MOST_CONSTRUCTS]; MOST_THREADS],
     /// 02: "per thread and sections construct, which sections the thread has taken in its latest
     /// meeting": bit s for section s, which is a section of one sections construct only.
-    pub(crate) taken: [u8; MOST_THREADS],
+    pub(crate) taken: [Constructs; MOST_THREADS],
 }
 
 impl State {
@@ -56,8 +59,8 @@ pub struct Team<'a> {
     /// By thread its number.
     pub(crate) numbers: Vec<u16>,
     most_encounters: u8,
-    /// Whether the rules are those with locks added.
-    pub(crate) locks: bool,
+    /// The criticals that lock; none by the rules without locks.
+    pub(crate) locks: Constructs,
     pub(crate) fault: Option<Fault>,
 }
 
@@ -89,7 +92,7 @@ impl<'a> Team<'a> {
             threads,
             numbers: numbers.to_vec(),
             most_encounters,
-            locks: false,
+            locks: 0,
             fault: None,
         }
     }
@@ -263,7 +266,7 @@ impl<'a> Team<'a> {
         Some(state)
     }
 
-    fn kind(&self, construct: usize) -> u8 {
+    pub(crate) fn kind(&self, construct: usize) -> u8 {
         self.chart.constructs[construct].kind
     }
 }

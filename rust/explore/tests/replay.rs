@@ -1,15 +1,16 @@
-//! The second implementation's replay against the exploration: finished runs out of it are replayed to their ends, and
-//! any other trace is judged as the steps of the team judge it.
+//! The second implementation's replay against the exploration: finished runs out of it are replayed to their ends and
+//! show the pairs that their states have, and any other trace is judged as the steps of the team judge it.
 
 use charts::random::Random;
 use charts::traces::changed;
 use explore::replay::{is_shown, judged, Entry, Runs};
-use explore::team::Team;
+use explore::team::{State, Team};
 use reference::answers::Rules;
 use reference::refusals::decode_checked;
 use reference::regions::Region;
 use reference::replay::{replay, Outcome, Replay};
 use reference::sizes::Teams;
+use reference::witnessed::witnessed;
 
 const CHARTS: u64 = 500;
 const RUNS: usize = 4;
@@ -49,13 +50,41 @@ impl Place {
         }
     }
 
-    fn replayed(&self, threads: usize, entries: &[Entry]) -> Replay {
+    /// The trace by the numbers of the whole chart.
+    fn trace(&self, entries: &[Entry]) -> Vec<u8> {
         let whole = entries.iter().map(|&[thread, node]| {
             let node = self.nodes.get(usize::from(node));
             [thread, node.map_or(255, |&x| x as u8)]
         });
-        let trace = whole.collect::<Vec<_>>().concat();
+        whole.collect::<Vec<_>>().concat()
+    }
+
+    fn replayed(&self, threads: usize, entries: &[Entry]) -> Replay {
+        let trace = self.trace(entries);
         replay(&self.bytes, self.number.into(), &trace, threads).expect("a replay")
+    }
+
+    /// A trace shows a pair of non-barriers exactly where one of these states has two threads there.
+    fn assert_shown(&self, threads: usize, entries: &[Entry], states: &[State]) {
+        let trace = self.trace(entries);
+        let has = |state: &State, a: usize, b: usize| {
+            let places = state.nodes[..threads].iter().map(|&x| usize::from(x));
+            let at = |node: usize| places.clone().filter(move |&x| x == node).count();
+            at(a) > 0 && at(b) > usize::from(a == b)
+        };
+        let open = || (0..self.nodes.len()).filter(|&x| !self.region.chart.is_barrier(x));
+        for (a, b) in open().flat_map(|a| open().map(move |b| (a, b))) {
+            let [one, other] = [a, b].map(|x| self.nodes[x] as u64);
+            let (number, size) = (self.number.into(), threads as u64);
+            let shown = witnessed(&self.bytes, number, size, &trace, one, other);
+            let met = states.iter().any(|state| has(state, a, b));
+            assert_eq!(
+                shown,
+                met.into(),
+                "{one} {other}, {trace:?}, {:02X?}",
+                self.bytes
+            );
+        }
     }
 
     /// The replay and the steps of the team say the same, and lead to the same state.
@@ -72,6 +101,17 @@ impl Place {
             assert!(shown, "{record:?}, {state:?}, {}", asked());
         }
         outcome
+    }
+
+    /// The same of a trace that was changed, which shows nothing where it is not finished. Gives the outcome's place.
+    fn agree_changed(&self, threads: usize, entries: &[Entry]) -> usize {
+        let place = match self.agree(threads, entries) {
+            Outcome::Finished => return 0,
+            Outcome::Unfinished => 1,
+            Outcome::Forbidden(_) => 2,
+        };
+        self.assert_shown(threads, entries, &[]);
+        place
     }
 
     /// "In a finished trace every marked pair of non-barriers is one that may meet."
@@ -113,8 +153,10 @@ fn finished_runs_and_changed_ones() {
             let Some(run) = finished.draw(&mut random, MOST_STEPS) else {
                 break;
             };
-            let entries: Vec<Entry> = run.into_iter().flat_map(|x| x.0).collect();
+            let (steps, states): (Vec<Vec<Entry>>, Vec<State>) = run.into_iter().unzip();
+            let entries = steps.concat();
             assert_eq!(place.agree(threads, &entries), Outcome::Finished);
+            place.assert_shown(threads, &entries, &states);
             let replay = place.replayed(threads, &entries);
             marked += place.assert_answered(threads, &replay);
             runs += 1;
@@ -122,11 +164,7 @@ fn finished_runs_and_changed_ones() {
                 let nodes = place.nodes.len();
                 let trace = changed(&mut random, entries.concat().as_slice(), threads, nodes);
                 let (entries, _) = trace.as_chunks::<2>();
-                outcomes[match place.agree(threads, entries) {
-                    Outcome::Finished => 0,
-                    Outcome::Unfinished => 1,
-                    Outcome::Forbidden(_) => 2,
-                }] += 1;
+                outcomes[place.agree_changed(threads, entries)] += 1;
             }
         }
     }

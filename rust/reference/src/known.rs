@@ -1,6 +1,6 @@
-//! The charts of 01's "Charts with known answers", one with sections, one of edition 2 and some with
-//! regions, as bytes: for the tests here, for the exploration and for the comparison with other
-//! implementations.
+//! The charts of 01's "Charts with known answers", one with sections, one of edition 2, some with regions
+//! and two with locks that can be dropped, as bytes: for the tests here, for the exploration and for the
+//! comparison with other implementations.
 
 use crate::builder::ChartBuilder;
 use crate::chart::Construct;
@@ -149,6 +149,29 @@ pub fn nested(constructs: &[(u8, u16)], filled: bool) -> ChartBuilder {
     chart
 }
 
+/// Chains of constructs (kind, name) in a row, each construct around the next of its chain and the innermost
+/// around one plain node; and these nodes.
+pub fn in_a_row(chains: &[&[(u8, u16)]]) -> (Vec<u8>, Vec<u8>) {
+    let mut chart = ChartBuilder::new();
+    let mut plain = Vec::new();
+    chart.barrier();
+    for chain in chains {
+        let mut open = vec![Construct::NONE];
+        for &(kind, name) in *chain {
+            let own = chart.construct(kind, open[open.len() - 1], name);
+            chart.begin(own);
+            open.push(own);
+        }
+        plain.push(chart.plain(open[open.len() - 1]) as u8);
+        open[1..].iter().rev().for_each(|&own| {
+            chart.end(own);
+        });
+    }
+    chart.barrier();
+    chart.row();
+    (chart.bytes(), plain)
+}
+
 /// A parallel from node 1 on around what `fill` adds to it; edges in a row.
 pub fn one_region(fill: impl Fn(&mut ChartBuilder, u8)) -> ChartBuilder {
     let mut chart = ChartBuilder::new();
@@ -210,6 +233,52 @@ pub fn chart_u() -> Vec<u8> {
     let mut chart = nested(&[(Construct::PARALLEL, 0), (Construct::SINGLE, 0)], true);
     chart.edge(5, 1);
     chart.bytes()
+}
+
+/// Chart L: a single around a critical around one plain node, a barrier, and a critical of the same name
+/// around another; edges in a row.
+pub fn chart_l() -> Vec<u8> {
+    let mut chart = ChartBuilder::new();
+    chart.barrier();
+    locked_single(&mut chart);
+    chart.barrier();
+    let critical = chart.construct(Construct::CRITICAL, Construct::NONE, LOCKED_NAME);
+    chart.begin(critical);
+    chart.plain(critical);
+    chart.end(critical);
+    chart.barrier();
+    chart.row();
+    chart.bytes()
+}
+
+/// Chart M: node 1 parts into two such singles, each with a barrier of its own behind it.
+pub fn chart_m() -> Vec<u8> {
+    let mut chart = ChartBuilder::new();
+    chart.barrier();
+    chart.plain(Construct::NONE);
+    for _ in 0..2 {
+        locked_single(&mut chart);
+        chart.barrier();
+    }
+    chart.barrier();
+    chart.row();
+    chart.edges.retain(|edge| (edge.from, edge.to) != (7, 8));
+    chart.edge(1, 8);
+    chart.edge(7, 14);
+    chart.bytes()
+}
+
+const LOCKED_NAME: u16 = 7;
+
+/// A single around a critical around one plain node.
+fn locked_single(chart: &mut ChartBuilder) {
+    let single = chart.construct(Construct::SINGLE, Construct::NONE, 0);
+    let critical = chart.construct(Construct::CRITICAL, single, LOCKED_NAME);
+    chart.begin(single);
+    chart.begin(critical);
+    chart.plain(critical);
+    chart.end(critical);
+    chart.end(single);
 }
 
 /// The longest chart, of edition 2: 192 nodes, 1,024 edges and 48 masked constructs, of filters 0 to 47.

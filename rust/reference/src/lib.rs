@@ -12,6 +12,7 @@ pub mod first_edges;
 pub mod known;
 pub mod known_listings;
 pub mod listing;
+pub mod locks;
 pub mod masked;
 pub mod phases;
 pub mod printing;
@@ -23,6 +24,7 @@ pub mod scopes;
 pub mod sections;
 pub mod sizes;
 pub mod two_lists;
+pub mod witnessed;
 
 /// What Admit tells of an admitted chart: counts of the outermost region.
 #[derive(Clone, Copy, Debug, PartialEq, Eq)]

@@ -59,7 +59,7 @@ impl Rules {
     }
 
     /// The names of the criticals that a node is inside, at any depth; 0 is the name of unnamed ones.
-    fn names(&self, node: usize) -> impl Iterator<Item = u16> + '_ {
+    pub(crate) fn names(&self, node: usize) -> impl Iterator<Item = u16> + '_ {
         self.around(node, Construct::CRITICAL)
             .map(|critical| self.chart.constructs[critical].name)
     }

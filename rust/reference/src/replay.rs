@@ -36,13 +36,17 @@ pub struct Replay {
     pub sheet: Vec<u8>,
 }
 
-/// 1 to 10, 23, then "22 odd trace length, or a team of none or over eight"; a sheet always has room here.
+/// 1 to 10, 23, then 22; a sheet always has room here.
 pub fn replay(chart: &[u8], region: u64, trace: &[u8], threads: usize) -> Result<Replay, u8> {
-    let region = read(chart, region)?;
+    replay_in(&read(chart, region)?, trace, threads)
+}
+
+/// The same over a chart as read: "22 odd trace length, or a team of none or over eight".
+pub fn replay_in(region: &Region, trace: &[u8], threads: usize) -> Result<Replay, u8> {
     if !trace.len().is_multiple_of(2) || !(1..=MOST_THREADS).contains(&threads) {
         return Err(22);
     }
-    let mut run = Run::of(&region, threads);
+    let mut run = Run::of(region, threads);
     let forbidden = trace.chunks(2).position(|entry| {
         let (thread, node) = (usize::from(entry[0]), usize::from(entry[1]));
         let place = region.place.get(node).copied().flatten();
@@ -56,8 +60,8 @@ pub fn replay(chart: &[u8], region: u64, trace: &[u8], threads: usize) -> Result
     };
     Ok(Replay {
         outcome,
-        records: run.records(&region),
-        sheet: run.sheet(&region),
+        records: run.records(region),
+        sheet: run.sheet(region),
     })
 }
 

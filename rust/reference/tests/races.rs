@@ -1,13 +1,11 @@
 //! Race verdicts (02, Note 9): each condition of the three verdicts, the order of a result's bytes, and
 //! refusal 20 in its place.
 
-use reference::builder::ChartBuilder;
 use reference::chart::Construct;
 use reference::known::*;
 use reference::races::write;
 use reference::regions::OUTERMOST;
 
-const NONE: u8 = Construct::NONE;
 const READ: u8 = 0;
 const WRITE: u8 = 1;
 const FILL: u8 = 0xAA;
@@ -35,29 +33,6 @@ fn races_in(chart: &[u8], region: u8, accesses: &[Access]) -> Vec<u8> {
 
 fn races(chart: &[u8], accesses: &[Access]) -> Vec<u8> {
     races_in(chart, OUTERMOST, accesses)
-}
-
-/// Constructs in a row, each of one kind and name around what is nested in it, innermost around one plain
-/// node.
-fn in_a_row(chains: &[&[(u8, u16)]]) -> (Vec<u8>, Vec<u8>) {
-    let mut chart = ChartBuilder::new();
-    let mut plain = Vec::new();
-    chart.barrier();
-    for chain in chains {
-        let mut open = vec![NONE];
-        for &(kind, name) in *chain {
-            let own = chart.construct(kind, open[open.len() - 1], name);
-            chart.begin(own);
-            open.push(own);
-        }
-        plain.push(chart.plain(open[open.len() - 1]) as u8);
-        open[1..].iter().rev().for_each(|&own| {
-            chart.end(own);
-        });
-    }
-    chart.barrier();
-    chart.row();
-    (chart.bytes(), plain)
 }
 
 #[test]
