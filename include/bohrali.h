@@ -7,14 +7,15 @@
  * only.
  *
  * A pointer may be null only where its length is 0; otherwise it points to so many bytes. `chart`,
- * `claims`, `accesses` and `text` are only read: they may overlap, and nobody may write them during
- * the call. `out` must overlap none of them, and nobody else may read or write it during the call,
- * nor `buffer`, in which a chart is changed. Calls share nothing, so any number of threads may make
- * them.
+ * `claims`, `accesses`, `trace` and `text` are only read: they may overlap, and nobody may write
+ * them during the call. `out` must overlap none of them, and nobody else may read or write it
+ * during the call, nor `buffer`, in which a chart is changed. Calls share nothing, so any number of
+ * threads may make them.
  *
  * The first word of a constant says what it is: LEAST and MOST are limits, BYTES sizes, TRAILER
  * fields of the trailer, NODE and CONSTRUCT kinds, REGION numbers of regions, ANSWER answers,
- * DISTANCE distances, ACCESS what is done to a variable, RACE races, REFUSED refusals.
+ * DISTANCE distances, ACCESS what is done to a variable, RACE races, LOCK whether a lock can be
+ * dropped, REFUSED refusals.
  */
 #ifndef BOHRALI_H
 #define BOHRALI_H
@@ -153,6 +154,9 @@ extern "C" {
 #define BOHRALI_LEAST_SIZE 1
 #define BOHRALI_MOST_SIZE 1024
 
+/* The most threads of the team of a trace. */
+#define BOHRALI_MOST_THREADS 8
+
 /* The most records of a list of accesses, and the most bytes that bohrali_races writes. */
 #define BOHRALI_MOST_ACCESSES 1024
 #define BOHRALI_MOST_RACES 524800
@@ -160,14 +164,15 @@ extern "C" {
 /* The length of the longest chart, which is one of edition 2. */
 #define BOHRALI_MOST_CHART_BYTES 3120
 
-/* Sizes of the records, CONSTRUCT_2 that of a construct in edition 2, of an access, and of what
- * bohrali_phases writes for each node. */
+/* Sizes of the records, CONSTRUCT_2 that of a construct in edition 2, of an access, of an entry of
+ * a trace, and of what bohrali_phases writes for each node. */
 #define BOHRALI_BYTES_NODE 4
 #define BOHRALI_BYTES_EDGE 2
 #define BOHRALI_BYTES_CONSTRUCT 4
 #define BOHRALI_BYTES_CONSTRUCT_2 6
 #define BOHRALI_BYTES_TRAILER 16
 #define BOHRALI_BYTES_ACCESS 4
+#define BOHRALI_BYTES_ENTRY 2
 #define BOHRALI_BYTES_PHASES 16
 
 /* Fields of the trailer. */
@@ -204,9 +209,7 @@ enum bohrali_construct_kind {
 /* Answers for two nodes of a region, which may be equal and are no barriers: can two threads of the
  * region's team be at them together, in a run that finishes? The team may have any size; the calls
  * that end in _sized are about teams of just the size that they name, as where the region carries
- * NUM_THREADS. A run finishes when all its threads are at the region's Finish in the end. Other
- * runs count for nothing: in one that hangs, because threads wait at different barriers, two
- * threads may have been at nodes for which the answer is never.
+ * NUM_THREADS. A run finishes when all its threads are at the region's Finish in the end.
  *
  * A path is one or more edges in a row; it is barrier-free if no node strictly between its two ends
  * is a barrier. The starts of a node that is no barrier are the barriers from which a barrier-free
@@ -214,7 +217,15 @@ enum bohrali_construct_kind {
  * barrier-free path leads from its end to its begin. A never has the number of the first rule that
  * gives it, in the order 6, 7, 1 to 5; criticals give none. Rules 6 and 7 are for a size that is
  * named. A never for teams of any size is a never for each size; the other way round it is not: 0
- * says that two threads can be there in a team of some size, perhaps of a larger one only. */
+ * says that two threads can be there in a team of some size, perhaps of a larger one only.
+ *
+ * Runs that do not finish. A run may hang, because its threads wait at different barriers. The
+ * answers 2 to 7 hold in every run, finished or not: none has two threads at the two nodes
+ * together. So does 1 where the starts of the two nodes, as bohrali_phases writes them, have no bit
+ * in common. Where they have one, it is the ends that have none, and 1 is about runs that finish:
+ * some other run has two threads there, unless one of the rules 2 to 5 excludes them too. In Figure
+ * 2(b) of the paper that the rules come from, threads can part at a branch to nodes 7 and 8, and
+ * then wait at two barriers for ever: the answer for 7 and 8 is 1. */
 enum bohrali_answer {
     BOHRALI_ANSWER_CONCURRENT = 0,      /* they can */
     BOHRALI_ANSWER_NO_COMMON_PHASE = 1, /* never: no common start, or no common end */
@@ -270,12 +281,52 @@ enum bohrali_race {
     BOHRALI_RACE_DATA = 2             /* a possible data race: all else */
 };
 
+/* Whether the lock of a critical can be dropped. What is asked is what runs without any locks do,
+ * in which a thread goes into a critical whenever it comes to its begin: does one have two threads
+ * together, one at a node inside this critical and the other at a node inside a critical of its
+ * name, which may be this one? A critical's own begin and end are not inside it; unnamed criticals
+ * have one name in common, 0.
+ *
+ * The locks of criticals with 1 or 2 can be dropped, all of them at once or any of them. Under the
+ * locks that are left, where a thread goes into a critical that locks only while no other is inside
+ * one of its name that locks, no run that finishes has two threads inside criticals of one name,
+ * whether these lock or not; and where all that were dropped have 2, no run at all has, finished or
+ * not.
+ *
+ * 0 says less than that the lock is needed: with other locks in place, as that of an outer critical
+ * of another name, the two threads may be kept apart without it.
+ *
+ * Names are the program's, and a chart holds one region: criticals of this name in other code, as
+ * in other regions, in routines or in tasks, count for nothing here. Nor do those of the chart that
+ * are inside deeper regions or around this one. With regions inside regions there may be several
+ * teams at once; the lock of a critical can then be dropped only if each pair of a node inside it
+ * and a node inside a critical of its name, of whatever region, is a never in every region around
+ * both nodes (bohrali_pair or bohrali_judge). Neither BOHRALI_LOCK_NO_CRITICAL nor
+ * BOHRALI_ANSWER_AT_BARRIER is a never. When edges are added, each lock that was dropped has to be
+ * asked for again; and what is said for a size holds for teams of just that size. */
+enum bohrali_lock {
+    BOHRALI_LOCK_NEEDED = 0,             /* some run that finishes has two threads so */
+    BOHRALI_LOCK_DROPPABLE_FINISHED = 1, /* no run that finishes has, but some other run */
+    BOHRALI_LOCK_DROPPABLE_ALWAYS = 2    /* no run has */
+};
+
+/* In place of these: the construct is no critical of the region, but one of another kind, outside
+ * the region, or inside a deeper one. */
+#define BOHRALI_LOCK_NO_CRITICAL 255
+
+/* A trace: a recorded run, BOHRALI_BYTES_ENTRY bytes an entry:
+ *     0  thread      the number of a thread of the team, from 0
+ *     1  node        the node that it steps to
+ * All threads begin at the region's Start. When all stand at one barrier it opens: that is an entry
+ * for each thread, in the order of their numbers, and takes effect with the last of these. Each
+ * other entry is one step of one thread. The program replay_trace tells of any trace what becomes
+ * of it, and which pairs of nodes it meets. */
+
 /* Refusals. A call returns the first that applies, negated, and then has written nothing. Each is
  * checked over the whole chart, or the whole list, before the next, in the order of their numbers
  * but for two: 23 comes straight after 10, and 20 straight after 23, so both before 11, 12, 13 and
  * 21. bohrali_insert_edge and bohrali_remove_edge check a length and two charts, and
- * bohrali_listing a text, in the order that is said there. 22 is not among them: it refuses a
- * recorded run, and C has no call that replays one; the program replay_trace does. */
+ * bohrali_listing a text, in the order that is said there. */
 enum bohrali_refusal {
     BOHRALI_REFUSED_SHORT = 1,     /* fewer than 16 bytes */
     BOHRALI_REFUSED_MARKS = 2,     /* edition neither 1 nor 2, or closing bytes differ */
@@ -306,6 +357,8 @@ enum bohrali_refusal {
     BOHRALI_REFUSED_ACCESSES = 20, /* a list not of whole records, or of over 1024 of them, a kind
                                       of access over 1, or a node number that 13 would refuse */
     BOHRALI_REFUSED_SIZE = 21,     /* a team size below 1 or over 1024 */
+    BOHRALI_REFUSED_TRACE = 22,    /* a trace of an odd number of bytes, or for a team of no thread
+                                      or of over 8 */
     BOHRALI_REFUSED_REGION = 23    /* a number that is not BOHRALI_REGION_OUTERMOST and names no
                                       parallel */
 };
@@ -385,6 +438,18 @@ int64_t bohrali_judge(const uint8_t *chart, size_t chart_len, size_t region, con
 int64_t bohrali_judge_sized(const uint8_t *chart, size_t chart_len, size_t region, size_t size,
                             const uint8_t *claims, size_t claims_len);
 
+/* Writes for each construct of the chart, by rising number, one byte: whether its lock can be
+ * dropped in a region, BOHRALI_LOCK_.., for teams of any size. Returns the number of bytes written,
+ * one for each construct of the whole chart, also for those that are not the region's and for other
+ * kinds, or a refusal 1 to 10, 23 or 11, negated. BOHRALI_MOST_CONSTRUCTS are room enough for any
+ * chart. Bytes past the result keep their values. */
+int64_t bohrali_locks(const uint8_t *chart, size_t chart_len, size_t region, uint8_t *out,
+                      size_t out_len);
+
+/* The same for teams of just `size` threads. Refusals are 1 to 10, 23, 11 and 21. */
+int64_t bohrali_locks_sized(const uint8_t *chart, size_t chart_len, size_t region, size_t size,
+                            uint8_t *out, size_t out_len);
+
 /* Writes for each node, by rising number, its starts and its ends in a region: two masks of 8 bytes
  * each, little-endian, with bit b for barrier b of the region. Barriers, and nodes outside the
  * region, have no starts and no ends: 16 bytes of 0. Returns the number of bytes written, 16 for
@@ -413,6 +478,16 @@ int64_t bohrali_sheet(const uint8_t *chart, size_t chart_len, size_t region, uin
  * BOHRALI_ANSWER_AT_BARRIER where bohrali_sheet has it. Refusals are 1 to 10, 23, 11 and 21. */
 int64_t bohrali_sheet_sized(const uint8_t *chart, size_t chart_len, size_t region, size_t size,
                             uint8_t *out, size_t out_len);
+
+/* Whether a trace shows that two threads can be at nodes a and b of a region together, in a run
+ * that finishes. Returns 1 where it is such a run of a team of `size` threads, 1 to
+ * BOHRALI_MOST_THREADS: every entry is a step of the region's team, all threads are at the region's
+ * Finish in the end, and before the first entry or after some entry two different threads stand at
+ * a and b. Returns 0 where it is not, or a refusal 1 to 10, 23, 13 or 22, negated. 1 shows that the
+ * answer for a and b is 0, for teams of any size and of this one; 0 shows nothing, since another
+ * trace may. Any numbers may be handed over; the order of the two nodes does not matter. */
+int64_t bohrali_witnessed(const uint8_t *chart, size_t chart_len, size_t region, size_t size,
+                          const uint8_t *trace, size_t trace_len, size_t a, size_t b);
 
 #ifdef __cplusplus
 }

@@ -43,6 +43,9 @@ int main(void)
            -BOHRALI_REFUSED_SHORT);
     expect("no room for the chart of an empty listing", bohrali_listing(NULL, 0, NULL, 0),
            -BOHRALI_REFUSED_ROOM);
+    expect("locks of nothing", bohrali_locks(NULL, 0, REGION, NULL, 0), -BOHRALI_REFUSED_SHORT);
+    expect("locks of nothing, sized", bohrali_locks_sized(NULL, 0, REGION, 2, NULL, 0),
+           -BOHRALI_REFUSED_SHORT);
     expect("pair of nothing", bohrali_pair(NULL, 0, REGION, 0, 0), -BOHRALI_REFUSED_SHORT);
     expect("pair of nothing, sized", bohrali_pair_sized(NULL, 0, REGION, 2, 0, 0),
            -BOHRALI_REFUSED_SHORT);
@@ -52,8 +55,17 @@ int main(void)
     expect("sheet of nothing", bohrali_sheet(NULL, 0, REGION, NULL, 0), -BOHRALI_REFUSED_SHORT);
     expect("sheet of nothing, sized", bohrali_sheet_sized(NULL, 0, REGION, 2, NULL, 0),
            -BOHRALI_REFUSED_SHORT);
+    expect("no run over nothing", bohrali_witnessed(NULL, 0, REGION, 2, NULL, 0, 0, 0),
+           -BOHRALI_REFUSED_SHORT);
     expect("no claims", bohrali_judge(chart, sizeof chart, REGION, NULL, 0), 0);
     expect("no claims, sized", bohrali_judge_sized(chart, sizeof chart, REGION, 1, NULL, 0), 0);
+    expect("no constructs", bohrali_locks(chart, sizeof chart, REGION, NULL, 0), 0);
+    expect("no constructs and no size",
+           bohrali_locks_sized(chart, sizeof chart, REGION, 0, NULL, 0), -BOHRALI_REFUSED_SIZE);
+    expect("no entries", bohrali_witnessed(chart, sizeof chart, REGION, 2, NULL, 0, 1, 3), 0);
+    expect("no entries and no threads",
+           bohrali_witnessed(chart, sizeof chart, REGION, 0, NULL, 0, 1, 3),
+           -BOHRALI_REFUSED_TRACE);
     expect("no accesses", bohrali_races(chart, sizeof chart, REGION, NULL, 0, NULL, 0), 0);
     expect("no room for races",
            bohrali_races(chart, sizeof chart, REGION, access_1, sizeof access_1, NULL, 0),

@@ -1,7 +1,8 @@
 //! The answers, by the numbers of include/bohrali.h.
 
 /// Whether two threads of one team can be at two nodes together, in a run that finishes, or else the
-/// first rule by which they never are, in the order 6, 7, 1 to 5.
+/// first rule by which they never are, in the order 6, 7, 1 to 5. Every never holds in runs that do not finish,
+/// too, but for one by "no common end".
 #[derive(Clone, Copy, Debug, PartialEq, Eq, Hash)]
 #[non_exhaustive]
 #[repr(u8)]

@@ -34,6 +34,21 @@ extern "C" {
         claims_len: usize,
     ) -> i64;
     pub fn bohrali_listing(text: *const u8, text_len: usize, out: *mut u8, out_len: usize) -> i64;
+    pub fn bohrali_locks(
+        chart: *const u8,
+        chart_len: usize,
+        region: usize,
+        out: *mut u8,
+        out_len: usize,
+    ) -> i64;
+    pub fn bohrali_locks_sized(
+        chart: *const u8,
+        chart_len: usize,
+        region: usize,
+        size: usize,
+        out: *mut u8,
+        out_len: usize,
+    ) -> i64;
     pub fn bohrali_pair(
         chart: *const u8,
         chart_len: usize,
@@ -86,5 +101,15 @@ extern "C" {
         size: usize,
         out: *mut u8,
         out_len: usize,
+    ) -> i64;
+    pub fn bohrali_witnessed(
+        chart: *const u8,
+        chart_len: usize,
+        region: usize,
+        size: usize,
+        trace: *const u8,
+        trace_len: usize,
+        a: usize,
+        b: usize,
     ) -> i64;
 }

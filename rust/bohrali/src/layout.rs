@@ -48,6 +48,9 @@ pub const BYTES_TRAILER: usize = 16;
 /// One of a list of accesses.
 pub const BYTES_ACCESS: usize = 4;
 
+/// One entry of a trace: a thread, and the node that it steps to.
+pub const BYTES_ENTRY: usize = 2;
+
 /// What `phases` writes for each node.
 pub const BYTES_PHASES: usize = 16;
 

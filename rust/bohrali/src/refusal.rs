@@ -55,13 +55,15 @@ pub enum Refusal {
     Accesses = 20,
     /// A team size below 1 or over 1,024.
     Size = 21,
+    /// A trace of an odd number of bytes, or one for a team of no thread or of over 8.
+    Trace = 22,
     /// A region's number that names no parallel construct.
     Region = 23,
 }
 
 impl Refusal {
     /// All refusals, in the order of their numbers.
-    pub const ALL: [Refusal; 22] = [
+    pub const ALL: [Refusal; 23] = [
         Refusal::Short,
         Refusal::Marks,
         Refusal::Counts,
@@ -83,6 +85,7 @@ impl Refusal {
         Refusal::NoEdge,
         Refusal::Accesses,
         Refusal::Size,
+        Refusal::Trace,
         Refusal::Region,
     ];
 
@@ -120,6 +123,7 @@ impl Refusal {
                 "the accesses are no whole records, too many, or one has a wrong kind or node"
             }
             Refusal::Size => "the team size is below 1 or over 1024",
+            Refusal::Trace => "the trace is an odd number of bytes, or its team is none or over 8",
             Refusal::Region => "the region's number names no parallel",
         }
     }

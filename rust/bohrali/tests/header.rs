@@ -2,11 +2,11 @@
 //! with the same numbers.
 
 use bohrali::layout::{self, ConstructKind, NodeKind};
-use bohrali::{limits, Access, AccessKind, Answer, Race, Refusal, Region};
+use bohrali::{limits, Access, AccessKind, Answer, Lock, Race, Refusal, Region};
 use std::collections::BTreeMap;
 use std::{fs, path::PathBuf};
 
-const LIMITS: [(&str, usize); 12] = [
+const LIMITS: [(&str, usize); 13] = [
     ("LEAST_NODES", limits::LEAST_NODES),
     ("MOST_NODES", limits::MOST_NODES),
     ("LEAST_EDGES", limits::LEAST_EDGES),
@@ -16,18 +16,20 @@ const LIMITS: [(&str, usize); 12] = [
     ("MOST_DEPTH", limits::MOST_DEPTH),
     ("LEAST_SIZE", limits::LEAST_SIZE),
     ("MOST_SIZE", limits::MOST_SIZE),
+    ("MOST_THREADS", limits::MOST_THREADS),
     ("MOST_ACCESSES", limits::MOST_ACCESSES),
     ("MOST_RACES", limits::MOST_RACES),
     ("MOST_CHART_BYTES", limits::MOST_CHART_BYTES),
 ];
 
-const LAYOUT: [(&str, usize); 26] = [
+const LAYOUT: [(&str, usize); 27] = [
     ("BYTES_NODE", layout::BYTES_NODE),
     ("BYTES_EDGE", layout::BYTES_EDGE),
     ("BYTES_CONSTRUCT", layout::BYTES_CONSTRUCT),
     ("BYTES_CONSTRUCT_2", layout::BYTES_CONSTRUCT_2),
     ("BYTES_TRAILER", layout::BYTES_TRAILER),
     ("BYTES_ACCESS", layout::BYTES_ACCESS),
+    ("BYTES_ENTRY", layout::BYTES_ENTRY),
     ("BYTES_PHASES", layout::BYTES_PHASES),
     ("DISTANCE_AT_BARRIER", layout::DISTANCE_AT_BARRIER as usize),
     ("TRAILER_EDITION", layout::TRAILER_EDITION as usize),
@@ -52,6 +54,7 @@ const LAYOUT: [(&str, usize); 26] = [
 
 const AT_BARRIER: (&str, usize) = ("ANSWER_AT_BARRIER", Answer::AT_BARRIER as usize);
 const OUTERMOST: (&str, usize) = ("REGION_OUTERMOST", Region::OUTERMOST);
+const NO_CRITICAL: (&str, usize) = ("LOCK_NO_CRITICAL", Lock::NO_CRITICAL as usize);
 
 /// A name such as `NoCommonPhase` as C spells it, `NO_COMMON_PHASE`.
 fn spelt(name: &str) -> String {
@@ -70,7 +73,7 @@ fn ours() -> BTreeMap<String, usize> {
     let named = LIMITS
         .iter()
         .chain(&LAYOUT)
-        .chain([&AT_BARRIER, &OUTERMOST]);
+        .chain([&AT_BARRIER, &OUTERMOST, &NO_CRITICAL]);
     let named = named.map(|&(name, number)| (name.to_string(), number));
     let answers = Answer::ALL
         .iter()
@@ -81,7 +84,11 @@ fn ours() -> BTreeMap<String, usize> {
     let races = Race::ALL
         .iter()
         .map(|&x| (format!("RACE_{}", spelt(&format!("{x:?}"))), x as usize));
-    named.chain(answers).chain(refusals).chain(races).collect()
+    let locks = Lock::ALL
+        .iter()
+        .map(|&x| (format!("LOCK_{}", spelt(&format!("{x:?}"))), x as usize));
+    let named = named.chain(answers).chain(refusals);
+    named.chain(races).chain(locks).collect()
 }
 
 /// The number of a C constant.
@@ -126,6 +133,11 @@ fn all_lists_are_in_the_order_of_the_numbers() {
     for (place, race) in Race::ALL.into_iter().enumerate() {
         assert_eq!(race as usize, place);
     }
+    for (place, lock) in Lock::ALL.into_iter().enumerate() {
+        assert_eq!(lock as usize, place);
+        assert_eq!(Lock::of(place as u8), Some(lock));
+    }
+    assert!((3..=255).all(|byte| Lock::of(byte).is_none()));
     let refusals = Refusal::ALL.map(|refusal| refusal.number());
     assert!(refusals.is_sorted_by(|one, next| one < next));
 }

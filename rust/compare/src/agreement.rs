@@ -2,7 +2,9 @@
 
 use crate::regions::regions_of;
 use crate::Archive;
-use reference::{calls, distances};
+use bohrali::limits::MOST_CONSTRUCTS;
+use reference::sizes::Teams;
+use reference::{calls, distances, locks};
 
 /// So many regions of a chart are asked for: the plain implementation takes its time over large ones.
 const REGIONS: usize = 3;
@@ -14,8 +16,9 @@ const FILL: u8 = 0xA5;
 type Writer = fn(&[u8], u64, &mut [u8]) -> i64;
 
 impl Archive {
-    /// Admits a chart and writes the phases, the distances and the sheet of the outermost region and of some
-    /// inner ones into buffers that are somewhat longer: all numbers and bytes agree. Gives the number of Admit.
+    /// Admits a chart and writes the phases, the distances, the locks and the sheet of the outermost region and
+    /// of some inner ones into buffers that are somewhat longer: all numbers and bytes agree. Gives the number of
+    /// Admit.
     pub fn agree(&mut self, chart: &[u8]) -> i64 {
         let number = self.admit(chart);
         assert_eq!(number, calls::admit(chart), "admit, {chart:02X?}");
@@ -36,6 +39,10 @@ impl Archive {
         let mut ours = vec![FILL; nodes + 3];
         let written = self.distances(chart, region, &mut ours);
         assert_written(distances::write, chart, region, written, &ours);
+        let mut ours = vec![FILL; MOST_CONSTRUCTS + 3];
+        let written = self.locks(chart, region, &mut ours);
+        let plain: Writer = |chart, region, out| locks::write(chart, region, Teams::OfAnySize, out);
+        assert_written(plain, chart, region, written, &ours);
     }
 }
 

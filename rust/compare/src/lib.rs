@@ -8,6 +8,7 @@ mod guarded;
 pub mod programs;
 pub mod regions;
 pub mod sizes;
+pub mod traces;
 
 use bohrali::{Counts, Refusal, Region, Size, Verdict};
 use guarded::Guarded;
@@ -15,7 +16,7 @@ use guarded::Guarded;
 /// Longer than any chart, list or result of the tests.
 const ROOM: usize = 600_000;
 
-/// The calls, with the bytes to be lent to them; `claims` for lists of either kind.
+/// The calls, with the bytes to be lent to them; `claims` for lists of either kind and for traces.
 pub struct Archive {
     chart: Guarded,
     claims: Guarded,
@@ -94,6 +95,18 @@ impl Archive {
         })
     }
 
+    /// Locks, in the same way.
+    pub fn locks(&mut self, chart: &[u8], region: usize, out: &mut [u8]) -> i64 {
+        self.write(chart, region, out, bohrali::locks)
+    }
+
+    /// Locks for teams of a size, in the same way.
+    pub fn locks_sized(&mut self, chart: &[u8], region: usize, size: usize, out: &mut [u8]) -> i64 {
+        self.write(chart, region, out, |chart, region, out| {
+            bohrali::locks_sized(chart, region, Size(size), out)
+        })
+    }
+
     pub fn pair(&mut self, chart: &[u8], region: usize, a: usize, b: usize) -> i64 {
         self.chart.with(chart, |lent| {
             let answer = bohrali::pair(lent, region.into(), a, b);
@@ -147,6 +160,23 @@ impl Archive {
     pub fn sheet_sized(&mut self, chart: &[u8], region: usize, size: usize, out: &mut [u8]) -> i64 {
         self.write(chart, region, out, |chart, region, out| {
             bohrali::sheet_sized(chart, region, Size(size), out)
+        })
+    }
+
+    pub fn witnessed(
+        &mut self,
+        chart: &[u8],
+        region: usize,
+        size: usize,
+        trace: &[u8],
+        [a, b]: [usize; 2],
+    ) -> i64 {
+        let traces = &mut self.claims;
+        self.chart.with(chart, |chart| {
+            traces.with(trace, |trace| {
+                let shown = bohrali::witnessed(chart, region.into(), Size(size), trace, a, b);
+                number(shown, usize::from)
+            })
         })
     }
 

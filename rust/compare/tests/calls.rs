@@ -2,16 +2,21 @@
 //! valid, damaged and random charts, for any region and size, with buffers longer and shorter than the
 //! result.
 
+use bohrali::limits::MOST_CONSTRUCTS;
 use charts::races::{accesses, wrong_accesses};
 use charts::random::Random;
 use compare::regions::{any_region, OUTERMOST};
 use compare::sizes::any_size;
 use compare::Archive;
-use reference::{calls, distances, races, sizes};
+use reference::refusals::decode_checked;
+use reference::replay::MOST_THREADS;
+use reference::sizes::Teams;
+use reference::witnessed::witnessed;
+use reference::{calls, distances, locks, races, sizes};
 use std::io::Write;
 
 const CHARTS: usize = 100_000;
-/// A sheet is asked for of every so many charts: the plain implementation takes its time over one.
+/// Sheet and locks are asked for of every so many charts: the plain implementation takes its time over them.
 const SHEETS: usize = 8;
 const SEED: u64 = 2_026_111_501;
 
@@ -84,6 +89,20 @@ impl Comparison {
         self.written("sheet of a size", chart, plain, number, &ours);
     }
 
+    fn locks(&mut self, chart: &[u8], room: usize) {
+        let (region, size) = (self.region, self.size);
+        let plain = |teams: Teams| {
+            move |chart: &[u8], region: u64, out: &mut [u8]| locks::write(chart, region, teams, out)
+        };
+        let mut ours = vec![FILL; room];
+        let number = self.archive.locks(chart, region, &mut ours);
+        self.written("locks", chart, plain(Teams::OfAnySize), number, &ours);
+        let mut ours = vec![FILL; room];
+        let number = self.archive.locks_sized(chart, region, size, &mut ours);
+        let plain = plain(Teams::Of(size as u64));
+        self.written("locks of a size", chart, plain, number, &ours);
+    }
+
     fn races(&mut self, chart: &[u8], list: &[u8], room: usize) {
         let mut ours = vec![FILL; room];
         let number = self.archive.races(chart, self.region, list, &mut ours);
@@ -116,6 +135,15 @@ impl Comparison {
         self.agree(&format!("sized pair {a} {b}"), chart, number, theirs);
     }
 
+    fn witnessed(&mut self, chart: &[u8], trace: &[u8], team: usize, [a, b]: [usize; 2]) {
+        let region = self.region;
+        let number = self.archive.witnessed(chart, region, team, trace, [a, b]);
+        let (region, team) = (region as u64, team as u64);
+        let theirs = witnessed(chart, region, team, trace, a as u64, b as u64);
+        let call = format!("witnessed {trace:?} of {team}: {a} {b}");
+        self.agree(&call, chart, number, theirs);
+    }
+
     fn judge(&mut self, chart: &[u8], claims: &[u8]) {
         let number = self.archive.judge(chart, self.region, claims);
         let theirs = calls::judge(chart, self.region as u64, claims);
@@ -124,6 +152,19 @@ impl Comparison {
         let number = self.archive.judge_sized(chart, region, size, claims);
         let theirs = sizes::judge(chart, region as u64, size as u64, claims);
         self.agree(&format!("sized judge {claims:?}"), chart, number, theirs);
+    }
+
+    /// The calls that take a list or a trace.
+    fn ask_with_lists(&mut self, random: &mut Random, chart: &[u8], nodes: usize) {
+        self.judge(chart, &claims(random, nodes));
+        let list = any_accesses(random, nodes);
+        let count = list.len() / races::ACCESS_BYTES;
+        let room = random.pick(&rooms(count * (count + 1) / 2));
+        self.races(chart, &list, room);
+        let trace = any_trace(random, nodes);
+        let team = random.below(MOST_THREADS + 2);
+        let pair = [0; 2].map(|_| random.below(nodes));
+        self.witnessed(chart, &trace, team, pair);
     }
 }
 
@@ -151,6 +192,17 @@ fn any_accesses(random: &mut Random, nodes: usize) -> Vec<u8> {
     }
 }
 
+/// A few entries, most of them of threads and nodes that there are; one in ten traces ends within an entry.
+fn any_trace(random: &mut Random, nodes: usize) -> Vec<u8> {
+    let entry = |random: &mut Random| [random.below(3) as u8, random.below(nodes + 1) as u8];
+    let entries: Vec<[u8; 2]> = (0..random.below(6)).map(|_| entry(random)).collect();
+    let mut trace = entries.concat();
+    if random.percent(10) {
+        trace.push(random.byte());
+    }
+    trace
+}
+
 #[test]
 fn all_calls_agree() {
     let mut random = Random::new(SEED);
@@ -167,22 +219,22 @@ fn all_calls_agree() {
             comparison.distances(&chart, room);
         }
         comparison.pair(&chart, random.below(nodes), random.below(nodes));
-        comparison.judge(&chart, &claims(&mut random, nodes));
-        let list = any_accesses(&mut random, nodes);
-        let count = list.len() / races::ACCESS_BYTES;
-        let room = random.pick(&rooms(count * (count + 1) / 2));
-        comparison.races(&chart, &list, room);
+        comparison.ask_with_lists(&mut random, &chart, nodes);
         if index % SHEETS == 0 {
             for room in rooms(nodes * nodes) {
                 comparison.sheet(&chart, room);
                 comparison.sheet_sized(&chart, room);
+            }
+            let constructs = decode_checked(&chart).map_or(3, |x| x.constructs.len());
+            for room in rooms(constructs) {
+                comparison.locks(&chart, room);
             }
         }
     }
     let outcomes = comparison.outcomes;
     let line = format!("{CHARTS} charts from seed {SEED}; outcomes 0 to 23: {outcomes:?}");
     writeln!(std::io::stderr(), "{line}").expect("standard error is open");
-    let mut rows = (0..=13).chain([20, 21, 23]);
+    let mut rows = (0..=13).chain(20..=23);
     assert!(rows.all(|row| outcomes[row] > 500), "{line}");
 }
 
@@ -195,5 +247,6 @@ fn benchmark_charts_agree() {
         comparison.distances(&chart, nodes);
         comparison.sheet(&chart, nodes * nodes);
         comparison.sheet_sized(&chart, nodes * nodes);
+        comparison.locks(&chart, MOST_CONSTRUCTS);
     }
 }

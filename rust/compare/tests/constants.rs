@@ -1,11 +1,11 @@
 //! The constants of the wrapper, which are those of the header, are the second implementation's.
 
 use bohrali::layout::{self, ConstructKind, NodeKind};
-use bohrali::{limits, AccessKind, Answer, Race, Region};
+use bohrali::{limits, AccessKind, Answer, Lock, Race, Region};
 use reference::answers::Rules;
 use reference::calls::PHASE_BYTES;
 use reference::chart::{Chart, Construct, Edge, Node, Trailer};
-use reference::{distances, listing, masked, printing, races, regions, sizes};
+use reference::{distances, listing, locks, masked, printing, races, regions, replay, sizes};
 
 #[test]
 fn limits_of_a_chart() {
@@ -21,6 +21,7 @@ fn limits_of_a_chart() {
     assert_eq!(limits::MOST_CHART_BYTES, longest);
     let sizes = limits::LEAST_SIZE as u64..=limits::MOST_SIZE as u64;
     assert_eq!(sizes, sizes::SIZES);
+    assert_eq!(limits::MOST_THREADS, replay::MOST_THREADS);
     assert_eq!(limits::MOST_ACCESSES, races::MOST_ACCESSES);
     assert_eq!(limits::MOST_CHART_BYTES, printing::MOST_BYTES);
 }
@@ -62,4 +63,8 @@ fn kinds() {
     assert_eq!(Race::None as u8, races::NO_RACE);
     assert_eq!(Race::Synchronization as u8, races::SYNCHRONIZATION_RACE);
     assert_eq!(Race::Data as u8, races::DATA_RACE);
+    assert_eq!(Lock::Needed as u8, locks::NEEDED);
+    assert_eq!(Lock::DroppableFinished as u8, locks::DROPPABLE_FINISHED);
+    assert_eq!(Lock::DroppableAlways as u8, locks::DROPPABLE_ALWAYS);
+    assert_eq!(Lock::NO_CRITICAL, locks::NO_CRITICAL);
 }

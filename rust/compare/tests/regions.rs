@@ -41,6 +41,7 @@ fn assert_refused(archive: &mut Archive, chart: &[u8], region: usize) {
         assert_eq!(archive.phases(chart, region, &mut out), -23, "{region}");
         assert_eq!(archive.distances(chart, region, &mut out), -23, "{region}");
         assert_eq!(archive.sheet(chart, region, &mut out), -23, "{region}");
+        assert_eq!(archive.locks(chart, region, &mut out), -23, "{region}");
         assert_eq!(out, vec![FILL; room], "{region}");
     }
 }

@@ -1,15 +1,13 @@
 //! Replay of recorded runs (02, Note 11), by the program `replay_trace`: its text against the second implementation,
-//! and the marked pairs of finished traces against the archive's Pair.
+//! and the pairs that it marks against what the archive answers for them and says that the trace shows.
 
 use charts::random::Random;
-use charts::traces::{changed, legal};
 use compare::programs::printed;
-use compare::regions::any_region;
+use compare::traces::Recorded;
 use compare::Archive;
 use reference::chart::Construct;
 use reference::known::*;
-use reference::regions::read;
-use reference::replay::{input, text, MOST_INPUT, MOST_THREADS, MOST_TRACE};
+use reference::replay::{input, text, MOST_INPUT, MOST_TRACE};
 
 const TRACES: usize = 3_000;
 const SEED: u64 = 2_026_111_611;
@@ -88,6 +86,29 @@ fn known_traces() {
     agree(OUTERMOST, 1, &[0, 1, 0, 2, 0, 3, 0, 4], &chart_k());
 }
 
+/// What the archive says of pairs that a replayed trace meets, or does not: they may meet, and the trace shows it where it
+/// is finished.
+fn assert_shown(archive: &mut Archive, recorded: &Recorded, region: u8, text: &str) {
+    let Recorded {
+        chart, team, trace, ..
+    } = recorded;
+    let finished = text.starts_with("finished");
+    let marked = met(text);
+    let others = (0..12).flat_map(|a| (a..12).map(move |b| [a, b]));
+    for [a, b] in others.chain(marked.clone()) {
+        let is_marked = finished && marked.contains(&[a, b]);
+        // 13 where one of them is no node of the region, or a barrier
+        let answer = archive.pair(chart, region.into(), a, b);
+        let shown = archive.witnessed(chart, region.into(), *team, trace, [a, b]);
+        let expected = if answer == -13 { -13 } else { is_marked.into() };
+        assert_eq!(shown, expected, "{a} {b}, {recorded:02X?}");
+        assert!(
+            !is_marked || answer <= 0,
+            "{a} {b}: {answer}, {recorded:02X?}"
+        );
+    }
+}
+
 /// Runs as far as they go, most of them with an entry changed; some charts large, some refused, any region and team.
 #[test]
 fn drawn_traces() {
@@ -95,28 +116,9 @@ fn drawn_traces() {
     let mut random = Random::new(SEED);
     let mut outcomes = [0usize; 4];
     for turn in 0..TRACES {
-        let chart = match turn % 8 {
-            0 => charts::draw(&mut random).1,
-            1 => charts::large(&mut random),
-            _ => charts::small(&mut random),
-        };
-        let number = u8::try_from(any_region(&mut random, &chart)).unwrap_or(OUTERMOST);
-        let team = random.between(1, MOST_THREADS);
-        let most = random.pick(&[10, 40, 200]);
-        let mut trace = match read(&chart, number.into()) {
-            Ok(region) => legal(&mut random, &region, team, most),
-            Err(_) => vec![0, 1],
-        };
-        if random.percent(60) {
-            let nodes = chart.len() / 6;
-            trace = changed(&mut random, &trace, team, nodes);
-        }
-        let team = if random.percent(3) {
-            random.below(11)
-        } else {
-            team
-        };
-        let text = agree(number, team, &trace, &chart);
+        let recorded = Recorded::draw(&mut random, turn, 60);
+        let region = u8::try_from(recorded.region).unwrap_or(OUTERMOST);
+        let text = agree(region, recorded.team, &recorded.trace, &recorded.chart);
         let outcome = match text.split([' ', '\n']).next() {
             Some("finished") => 0,
             Some("unfinished") => 1,
@@ -124,15 +126,8 @@ fn drawn_traces() {
             _ => 3,
         };
         outcomes[outcome] += 1;
-        if outcome == 0 {
-            for [a, b] in met(&text) {
-                // 13 where one of them is a barrier
-                let answer = archive.pair(&chart, number.into(), a, b);
-                assert!(
-                    [0, -13].contains(&answer),
-                    "{a} {b}: {answer}, {chart:02X?}"
-                );
-            }
+        if outcome != 3 {
+            assert_shown(&mut archive, &recorded, region, &text);
         }
     }
     assert!(

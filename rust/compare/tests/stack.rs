@@ -1,6 +1,6 @@
 //! Every call, on the costliest charts, in a thread with a stack of 64 KiB.
 
-use bohrali::limits::{MOST_ACCESSES, MOST_RACES};
+use bohrali::limits::{MOST_ACCESSES, MOST_RACES, MOST_THREADS};
 use bohrali::Region::{self, Outermost};
 use bohrali::{Access, Size};
 use compare::edits::{right_receipt, without_spare_edge};
@@ -43,6 +43,11 @@ fn calls_fit_a_small_stack() {
             bohrali::judge_sized(&chart, region, size, &[node as u8; 2]).expect(name);
             bohrali::pair_sized(&chart, region, size, node, node).expect(name);
             bohrali::sheet_sized(&chart, region, size, &mut out).expect(name);
+            bohrali::locks(&chart, region, &mut out).expect(name);
+            bohrali::locks_sized(&chart, region, size, &mut out).expect(name);
+            for team in [Size(1), size, Size(MOST_THREADS)] {
+                bohrali::witnessed(&chart, region, team, &[0, 1], node, node).expect(name);
+            }
             let list = vec![Access::write(node as u8, 0); MOST_ACCESSES];
             bohrali::races(&chart, region, Access::bytes(&list), &mut out).expect(name);
         };
