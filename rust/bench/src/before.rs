@@ -82,4 +82,6 @@ pub const BEFORE: Calls = Calls {
         )
     },
     races: None,
+    locks: None,
+    witnessed: None,
 };

@@ -2,21 +2,32 @@
 //! by C's one number.
 
 use bohrali::Region::Outermost;
-use bohrali::{Counts, Refusal, Verdict};
+use bohrali::{Counts, Refusal, Size, Verdict};
+
+/// A call that writes.
+type Writer = fn(&[u8], &mut [u8]) -> i64;
+
+/// One that is handed a list, too.
+type ListWriter = fn(&[u8], &[u8], &mut [u8]) -> i64;
+
+/// One that is handed a trace, the size of its team and two nodes.
+type Replayer = fn(&[u8], &[u8], usize, [usize; 2]) -> i64;
 
 /// The calls by one implementation. Pointers, so that none of them is merged with the loop that
 /// measures it.
 #[derive(Clone, Copy)]
 pub struct Calls {
     pub admit: fn(&[u8]) -> i64,
-    pub phases: fn(&[u8], &mut [u8]) -> i64,
+    pub phases: Writer,
     /// Where the implementation has it.
-    pub distances: Option<fn(&[u8], &mut [u8]) -> i64>,
+    pub distances: Option<Writer>,
     pub pair: fn(&[u8], usize, usize) -> i64,
-    pub sheet: fn(&[u8], &mut [u8]) -> i64,
+    pub sheet: Writer,
     pub judge: fn(&[u8], &[u8]) -> i64,
-    /// Where the implementation has it.
-    pub races: Option<fn(&[u8], &[u8], &mut [u8]) -> i64>,
+    /// Where the implementation has it, as the next two.
+    pub races: Option<ListWriter>,
+    pub locks: Option<Writer>,
+    pub witnessed: Option<Replayer>,
 }
 
 /// The archive of this tree.
@@ -47,6 +58,11 @@ pub const LIBRARY: Calls = Calls {
             bytes
         })
     }),
+    locks: Some(|chart, out| number(bohrali::locks(chart, Outermost, out), |bytes| bytes)),
+    witnessed: Some(|chart, trace, team, [a, b]| {
+        let shown = bohrali::witnessed(chart, Outermost, Size(team), trace, a, b);
+        number(shown, usize::from)
+    }),
 };
 
 fn number<T>(result: Result<T, Refusal>, value: impl Fn(T) -> usize) -> i64 {
@@ -71,5 +87,12 @@ const fn tuned<const LEVELS: bool>() -> Calls {
         sheet: tuned::sheet::<LEVELS>,
         judge: tuned::judge::<LEVELS>,
         races: Some(tuned::races::<LEVELS>),
+        locks: Some(tuned::locks::<LEVELS>),
+        witnessed: if LEVELS { None } else { Some(witnessed) },
     }
+}
+
+/// A replay has no use for levels.
+fn witnessed(chart: &[u8], trace: &[u8], team: usize, [a, b]: [usize; 2]) -> i64 {
+    tuned::replay::witnessed(chart, trace, team, a, b)
 }

@@ -2,18 +2,21 @@
 
 use crate::calls::Calls;
 use crate::timing::least;
-use bohrali::layout::{BYTES_ACCESS, BYTES_PHASES};
-use bohrali::limits::MOST_ACCESSES;
+use bohrali::layout::{BYTES_ACCESS, BYTES_ENTRY, BYTES_PHASES};
+use bohrali::limits::{MOST_ACCESSES, MOST_CONSTRUCTS};
 use charts::races::accesses;
 use charts::random::Random;
+use charts::traces::legal;
 use reference::answers::Rules;
-use reference::regions::read_outermost;
+use reference::regions::{read, OUTERMOST};
 use std::hint::black_box;
 
 const CLAIMS: usize = 1_024;
 /// Accesses to each of the charts in turn, and the variables of all lists.
 const FEW_ACCESSES: usize = 64;
 const VARIABLES: usize = 32;
+/// The threads of traces.
+const TEAM: usize = 2;
 
 /// One of the calls.
 #[derive(Clone, Copy)]
@@ -25,6 +28,8 @@ pub enum Call {
     Sheet,
     Judge,
     Races,
+    Locks,
+    Witnessed,
 }
 
 impl Call {
@@ -33,11 +38,13 @@ impl Call {
         match self {
             Call::Distances => calls.distances.is_some(),
             Call::Races => calls.races.is_some(),
+            Call::Locks => calls.locks.is_some(),
+            Call::Witnessed => calls.witnessed.is_some(),
             _ => true,
         }
     }
 
-    pub const ALL: [Call; 7] = [
+    pub const ALL: [Call; 9] = [
         Call::Admit,
         Call::Phases,
         Call::Distances,
@@ -45,6 +52,8 @@ impl Call {
         Call::Sheet,
         Call::Judge,
         Call::Races,
+        Call::Locks,
+        Call::Witnessed,
     ];
 }
 
@@ -57,6 +66,8 @@ struct Asked {
     /// Claims that all hold; none where no pair of the chart is excluded.
     claims: Vec<u8>,
     accesses: Vec<u8>,
+    /// A run of a team as far as it goes.
+    trace: Vec<u8>,
 }
 
 /// What a chart that is refused is asked with; nothing is written for it.
@@ -67,15 +78,18 @@ fn refused(chart: Vec<u8>) -> Asked {
         node: 1,
         claims: Vec::new(),
         accesses: Vec::new(),
+        trace: Vec::new(),
     }
 }
 
 impl Asked {
+    /// A chart with so many accesses, and as many entries at most.
     fn new(chart: Vec<u8>, count: usize) -> Asked {
-        let Ok(outermost) = read_outermost(&chart) else {
+        let Ok(region) = read(&chart, OUTERMOST.into()) else {
             return refused(chart);
         };
-        let rules = Rules::of(outermost);
+        let trace = legal(&mut Random::new(9), &region, TEAM, count);
+        let rules = Rules::of(region.chart);
         let nodes = rules.chart.nodes.len();
         let open: Vec<usize> = (0..nodes).filter(|&x| !rules.chart.is_barrier(x)).collect();
         let pairs = open.iter().flat_map(|&a| open.iter().map(move |&b| (a, b)));
@@ -88,6 +102,7 @@ impl Asked {
             node: open[open.len() / 2],
             claims: held.into_iter().cycle().take(2 * CLAIMS).collect(),
             accesses: accesses(&mut Random::new(9), &named, count, VARIABLES),
+            trace,
         }
     }
 
@@ -106,6 +121,12 @@ impl Asked {
             Call::Races => by.races.map_or(0, |races| {
                 races(chart, &self.accesses, &mut out[..self.pairs()])
             }),
+            Call::Locks => by
+                .locks
+                .map_or(0, |locks| locks(chart, &mut out[..MOST_CONSTRUCTS])),
+            Call::Witnessed => by.witnessed.map_or(0, |witnessed| {
+                witnessed(chart, &self.trace, TEAM, [self.node; 2])
+            }),
         }
     }
 
@@ -120,7 +141,7 @@ impl Asked {
 pub struct Subject {
     pub name: &'static str,
     charts: Vec<Asked>,
-    /// The longest result of a chart, Phases', Sheet's or Races'.
+    /// The longest result of a chart, Phases', Sheet's or Races', or Locks' of any.
     room: usize,
 }
 
@@ -130,7 +151,7 @@ impl Subject {
         let charts = charts.into_iter().map(|chart| Asked::new(chart, count));
         let charts: Vec<Asked> = charts.collect();
         let result = |x: &Asked| (x.nodes * x.nodes.max(BYTES_PHASES)).max(x.pairs());
-        let room = charts.iter().map(result).max().unwrap_or(0);
+        let room = charts.iter().map(result).fold(MOST_CONSTRUCTS, usize::max);
         Subject { name, charts, room }
     }
 
@@ -175,6 +196,9 @@ impl Subject {
             (Call::Judge, _) => "judge".into(),
             (Call::Races, [one]) => format!("races {}", one.accesses.len() / BYTES_ACCESS),
             (Call::Races, _) => "races".into(),
+            (Call::Locks, _) => "locks".into(),
+            (Call::Witnessed, [one]) => format!("witnessed {}", one.trace.len() / BYTES_ENTRY),
+            (Call::Witnessed, _) => "witnessed".into(),
         }
     }
 }

@@ -47,7 +47,7 @@ fn print_table<'s, const N: usize>(
     let columns = by[1..].iter().map(|(name, _)| format!(" of {name} |"));
     let columns: Vec<String> = columns.collect();
     println!(
-        "| {:<34} | Call       | {:>8} us |{}",
+        "| {:<34} | Call           | {:>8} us |{}",
         "Chart",
         by[0].0,
         columns.concat()
@@ -58,7 +58,7 @@ fn print_table<'s, const N: usize>(
         for (call, times) in Call::ALL.into_iter().zip(times) {
             let name = subject.name_of(call);
             print!(
-                "| {:<34} | {name:<10} | {:11.2} |",
+                "| {:<34} | {name:<14} | {:11.2} |",
                 subject.name,
                 times[0] / 1e3
             );

@@ -1,5 +1,5 @@
 //! The charts of the benchmark, all fixed: six to be asked again and again, which are the costliest ones
-//! for each part of the work and a typical one, 64 to be asked in turn, and four for long traces.
+//! for each part of the work and a typical one, 64 to be asked in turn, two for locks, and four for long traces.
 
 mod code;
 mod rings;
@@ -26,6 +26,34 @@ pub fn all() -> [(&'static str, Vec<u8>); 6] {
         ("typical, 62 barriers", typical(61).bytes()),
         ("48 constructs that return", returning().bytes()),
         ("zigzag of 189, 1024 edges", zigzag::chart()),
+    ]
+}
+
+/// The charts with the most criticals: the locks of all are needed, and those of all can be dropped.
+pub fn criticals() -> [(&'static str, Vec<u8>); 2] {
+    let locked = |apart: bool, count: usize| {
+        let mut chart = ChartBuilder::new();
+        chart.barrier();
+        for place in 0..count {
+            let single = apart.then(|| chart.construct(Construct::SINGLE, NONE, 0));
+            let parent = single.unwrap_or(NONE);
+            let critical = chart.construct(Construct::CRITICAL, parent, place as u16 % 8);
+            single.map(|single| chart.begin(single));
+            chart.begin(critical);
+            chart.plain(critical);
+            chart.end(critical);
+            single.map(|single| chart.end(single));
+            if apart {
+                chart.barrier();
+            }
+        }
+        chart.barrier();
+        chart.row();
+        chart.bytes()
+    };
+    [
+        ("48 criticals in a row", locked(false, 48)),
+        ("24 criticals in singles, apart", locked(true, 24)),
     ]
 }
 

@@ -241,7 +241,8 @@ fn all_calls_agree() {
 #[test]
 fn benchmark_charts_agree() {
     let mut comparison = Comparison::new();
-    for (_, chart) in charts::benchmark::all() {
+    let each = charts::benchmark::all().into_iter();
+    for (_, chart) in each.chain(charts::benchmark::criticals()) {
         let nodes = comparison.admit(&chart);
         comparison.phases(&chart, calls::PHASE_BYTES * nodes);
         comparison.distances(&chart, nodes);

@@ -23,12 +23,14 @@ fn inner() -> Vec<u8> {
 
 #[test]
 fn calls_fit_a_small_stack() {
-    let outermost = charts::benchmark::all().map(|(name, chart)| (name, chart, Outermost));
+    let each = charts::benchmark::all().into_iter();
+    let each = each.chain(charts::benchmark::criticals());
+    let outermost = each.map(|(name, chart)| (name, chart, Outermost));
     let others = [
         ("the longest chart", longest(), Outermost),
         ("an inner region", inner(), Region::Parallel(0)),
     ];
-    for (name, chart, region) in outermost.into_iter().chain(others) {
+    for (name, chart, region) in outermost.chain(others) {
         let mut out = vec![0; MOST_RACES];
         let calls = move || {
             bohrali::admit(&chart).expect(name);

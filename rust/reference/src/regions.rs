@@ -208,7 +208,8 @@ fn numbered(count: usize, kept: impl Fn(usize) -> bool) -> Vec<Option<usize>> {
 /// The calls for the outermost region.
 pub mod outermost {
     use super::OUTERMOST;
-    use crate::{calls, distances};
+    use crate::sizes::Teams;
+    use crate::{calls, distances, locks};
 
     const REGION: u64 = OUTERMOST as u64;
 
@@ -230,5 +231,9 @@ pub mod outermost {
 
     pub fn distances(chart: &[u8], out: &mut [u8]) -> i64 {
         distances::write(chart, REGION, out)
+    }
+
+    pub fn locks(chart: &[u8], out: &mut [u8]) -> i64 {
+        locks::write(chart, REGION, Teams::OfAnySize, out)
     }
 }

@@ -83,11 +83,18 @@ impl Marked<'_> {
         }
     }
 
+    /// Whether row 13 lets two numbers pass.
+    #[inline(always)]
+    pub fn are_open(&self, a: usize, b: usize) -> bool {
+        let nodes = 0..self.size().min(256);
+        let starts = &self.marks.starts;
+        nodes.contains(&a) && nodes.contains(&b) && starts[a] != 0 && starts[b] != 0
+    }
+
     #[inline(always)]
     pub fn pair(&self, a: usize, b: usize) -> Result<i64, u8> {
         let Marks { starts, ends, .. } = self.marks;
-        let nodes = 0..self.size().min(256);
-        if !nodes.contains(&a) || !nodes.contains(&b) || starts[a] == 0 || starts[b] == 0 {
+        if !self.are_open(a, b) {
             return Err(13);
         }
         if starts[a] & starts[b] == 0 || ends[a] & ends[b] == 0 {

@@ -18,9 +18,11 @@ mod answers;
 mod bits;
 mod by_node;
 mod constructs;
+mod criticals;
 mod edges;
 pub mod first_edges;
 mod levels;
+mod locks;
 mod loops;
 mod marks;
 mod nodes;
@@ -77,6 +79,12 @@ pub fn distances(chart: &[u8], out: &mut [u8]) -> i64 {
 #[inline(never)]
 pub fn races<const LEVELS: bool>(chart: &[u8], accesses: &[u8], out: &mut [u8]) -> i64 {
     with_marks::<true, LEVELS>(chart, |marked| marked.write_races(accesses, out))
+}
+
+/// Locks: a byte for each construct.
+#[inline(never)]
+pub fn locks<const LEVELS: bool>(chart: &[u8], out: &mut [u8]) -> i64 {
+    with_marks::<true, LEVELS>(chart, |marked| marked.write_locks(out))
 }
 
 /// Rows 1 to 10, then what is to be done with the marks; C's number.

@@ -3,9 +3,8 @@
 //! writes among them. What two nodes make is one look-up.
 
 use crate::answers::Marked;
-use crate::bits::{members, Masks, Nodes};
-use crate::constructs::{at, CRITICAL, PARALLEL};
-use crate::tables::{MOST_CONSTRUCTS, MOST_NODES};
+use crate::bits::{members, Nodes};
+use crate::tables::MOST_NODES;
 use std::mem::take;
 
 const MOST: usize = 1024;
@@ -88,7 +87,7 @@ impl Marked<'_> {
         let n = self.size();
         let mut sheet = [0; MOST_NODES * MOST_NODES];
         self.write_sheet(&mut sheet[..n * n])?;
-        let names = self.names();
+        let names = self.lying(&self.criticals().names);
         for node in members(nodes) {
             let line = &mut sheet[node * n..(node + 1) * n];
             for entry in &mut *line {
@@ -103,34 +102,6 @@ impl Marked<'_> {
             }
         }
         Ok(sheet)
-    }
-
-    /// The names of the criticals around each node, by the first construct that has the name. Constructs of
-    /// inner regions count for nothing: what lies there has the names of the parallel around it.
-    #[inline(always)]
-    fn names(&self) -> Masks {
-        let (table, constructs) = (&self.read.tables.constructs, self.read.constructs);
-        let mut records = [[0; 4]; MOST_CONSTRUCTS];
-        let (mut around, mut inner) = ([0u64; 64], 0u64);
-        for number in 0..constructs.count.min(MOST_CONSTRUCTS) {
-            let record = table.record(number).unwrap_or_default();
-            records[number] = record;
-            let [kind, parent, name @ ..] = record;
-            let deeper = kind == PARALLEL || inner >> at(parent) & 1 == 1;
-            inner |= u64::from(deeper) << number;
-            let same = |x: &[u8; 4]| x[0] == CRITICAL && x[2..] == name;
-            let own = match kind {
-                CRITICAL if !deeper => records.iter().position(same).map_or(0, |x| 1 << x),
-                _ => 0,
-            };
-            around[number] = around[at(parent)] | own;
-        }
-        let mut names = [0; 256];
-        let lying = self.read.nodes.lying(0..self.size(), constructs);
-        for (entry, construct) in names.iter_mut().zip(lying) {
-            *entry = around[at(construct)];
-        }
-        names
     }
 }
 

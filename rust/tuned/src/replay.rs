@@ -3,10 +3,10 @@
 mod steps;
 mod team;
 
-use crate::admitted;
 use crate::bits::{bits, packed};
 use crate::marks::Read;
 use crate::tables::MOST_CONSTRUCTS;
+use crate::{admitted, with_marks};
 use steps::Steps;
 use team::{Met, Team};
 
@@ -49,25 +49,52 @@ pub fn replay(
     out: &mut [u8],
 ) -> Result<Replayed, u8> {
     admitted::<false, false, _>(chart, |marked| {
-        let (entries, odd) = trace.as_chunks::<2>();
-        if !odd.is_empty() {
-            return Err(22);
-        }
-        let play = match threads {
-            1 => play::<1>,
-            2 => play::<2>,
-            3 => play::<3>,
-            4 => play::<4>,
-            5 => play::<5>,
-            6 => play::<6>,
-            7 => play::<7>,
-            8 => play::<8>,
-            _ => return Err(22),
-        };
+        let (play, entries) = checked(trace, threads)?;
         let n = marked.size();
         let sheet = out.get_mut(..n * n).ok_or(11u8)?;
-        Ok(play(marked.read, entries, records, sheet))
+        let mut met = [[0; 256]; 256];
+        let said = play(marked.read, entries, records, &mut met);
+        write_sheet(&met, n, sheet);
+        Ok(said)
     })
+}
+
+/// Witnessed: rows 1 to 10, 13 and 22, then whether the trace is finished and two nodes were met.
+#[inline(never)]
+pub fn witnessed(chart: &[u8], trace: &[u8], threads: usize, a: usize, b: usize) -> i64 {
+    with_marks::<false, false>(chart, |marked| {
+        if !marked.are_open(a, b) {
+            return Err(13);
+        }
+        let (play, entries) = checked(trace, threads)?;
+        let mut records = [Record::BLANK; MOST_THREADS];
+        let mut met = [[0; 256]; 256];
+        let said = play(marked.read, entries, &mut records, &mut met);
+        let shown = said == Replayed::Finished && (met[a][b] | met[b][a]) == 1;
+        Ok(shown.into())
+    })
+}
+
+/// The replay by a team of some size.
+type Play = fn(&Read, &[[u8; 2]], &mut [Record; MOST_THREADS], &mut Met) -> Replayed;
+
+/// Row 22, or the replay and the entries.
+#[inline(always)]
+fn checked(trace: &[u8], threads: usize) -> Result<(Play, &[[u8; 2]]), u8> {
+    let (entries, odd) = trace.as_chunks::<2>();
+    let play: Play = match threads {
+        _ if !odd.is_empty() => return Err(22),
+        1 => play::<1>,
+        2 => play::<2>,
+        3 => play::<3>,
+        4 => play::<4>,
+        5 => play::<5>,
+        6 => play::<6>,
+        7 => play::<7>,
+        8 => play::<8>,
+        _ => return Err(22),
+    };
+    Ok((play, entries))
 }
 
 /// The replay by a team of M. Its loops over the team have a fixed length.
@@ -76,11 +103,10 @@ fn play<const M: usize>(
     read: &Read,
     entries: &[[u8; 2]],
     records: &mut [Record; MOST_THREADS],
-    sheet: &mut [u8],
+    met: &mut Met,
 ) -> Replayed {
     let steps = Steps::of(read);
-    let mut met = [[0; 256]; 256];
-    let mut team = Team::<M>::at_start(&mut met);
+    let mut team = Team::<M>::at_start(met);
     let mut each = entries.iter();
     let forbidden = each.position(|&[t, to]| !team.take(&steps, t.into(), to));
     let said = match forbidden {
@@ -91,7 +117,6 @@ fn play<const M: usize>(
     for (t, record) in records.iter_mut().take(M).enumerate() {
         *record = team.record(t);
     }
-    write_sheet(&met, read.tables.nodes.len(), sheet);
     said
 }
 

@@ -6,7 +6,7 @@ use crate::bits::{bits, join_at, Masks, Nodes, ONES, SPREAD};
 use crate::tables::MOST_NODES;
 
 /// By bit of a mask the nodes that have it.
-type Having = [[u64; 64]; 3];
+pub type Having = [[u64; 64]; 3];
 
 type Row = [u8; MOST_NODES];
 
@@ -132,7 +132,7 @@ fn write_set(row: &mut Row, set: Nodes, closed: &[u64; MOST_NODES / 8]) {
 /// By bit the nodes whose masks have it. Neighbours with one mask go together; without `ALL` a node with
 /// mask 0 goes with those before it.
 #[inline(always)]
-fn having<const ALL: bool>(masks: &Masks, n: usize) -> Having {
+pub fn having<const ALL: bool>(masks: &Masks, n: usize) -> Having {
     let mut having = [[0u64; 64]; 3];
     for (word, having) in having.iter_mut().enumerate() {
         if 64 * word >= n {
@@ -163,7 +163,7 @@ fn ones_below(bit: usize) -> u64 {
 
 /// The nodes whose masks share a bit with this one.
 #[inline(always)]
-fn sharing(mask: u64, having: &Having) -> Nodes {
+pub fn sharing(mask: u64, having: &Having) -> Nodes {
     let mut nodes = [0; 3];
     for bit in bits(mask) {
         for word in 0..3 {

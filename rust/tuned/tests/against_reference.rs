@@ -6,6 +6,7 @@ use charts::races::{accesses, wrong_accesses};
 use charts::random::Random;
 use charts::{benchmark, draw};
 use reference::known::*;
+use reference::refusals::decode_checked;
 use reference::regions::{outermost, read_outermost};
 use reference::{calls, races};
 
@@ -50,13 +51,15 @@ fn open_claims(random: &mut Random, chart: &[u8]) -> Vec<u8> {
 
 /// The calls that write, with results of all lengths around their own.
 fn assert_written<const LEVELS: bool>(chart: &[u8], nodes: usize, seed: u64) {
-    let writers: [(usize, Writer, Writer); 3] = [
+    let constructs = decode_checked(chart).map_or(2, |chart| chart.constructs.len());
+    let writers: [(usize, Writer, Writer); 4] = [
         (16 * nodes, tuned::phases::<LEVELS>, outermost::phases),
         (nodes * nodes, tuned::sheet::<LEVELS>, outermost::sheet),
         (nodes, tuned::distances, outermost::distances),
+        (constructs, tuned::locks::<LEVELS>, outermost::locks),
     ];
     for (result, tuned, reference) in writers {
-        for length in [0, result - 1, result, result + 9] {
+        for length in [0, result.saturating_sub(1), result, result + 9] {
             assert_writes_alike(chart, length, tuned, reference, seed);
         }
     }
@@ -158,7 +161,8 @@ fn large_charts() {
 
 #[test]
 fn benchmark_charts() {
-    let each = benchmark::all().into_iter().map(|(_, chart)| chart);
+    let each = benchmark::all().into_iter().chain(benchmark::criticals());
+    let each = each.map(|(_, chart)| chart);
     for (seed, chart) in each.chain(benchmark::in_turn()).enumerate() {
         assert_alike::<true>(&chart, seed as u64);
         assert_alike::<false>(&chart, seed as u64);
@@ -182,8 +186,17 @@ fn masked_charts() {
 fn charts_with_criticals() {
     for seed in 0..1_500 {
         let mut random = Random::new(seed);
-        let shape = charts::valid::Shape::locked(&mut random);
-        let chart = charts::valid::valid(&mut random, &shape).bytes();
+        let chart = match seed % 3 {
+            0 => {
+                let branches = random.between(1, 24);
+                charts::locks::branching(&mut random, branches)
+            }
+            _ => {
+                let shape = charts::valid::Shape::locked(&mut random);
+                charts::valid::valid(&mut random, &shape)
+            }
+        };
+        let chart = chart.bytes();
         assert_alike::<true>(&chart, seed);
         assert_alike::<false>(&chart, seed);
     }

@@ -1,4 +1,5 @@
-//! The tuned replay against the second implementation: what it says, the records of the threads and the sheet.
+//! The tuned replay against the second implementation: what it says, the records of the threads, the sheet, and whether
+//! a trace shows two nodes.
 
 use charts::benchmark::rings;
 use charts::random::Random;
@@ -8,6 +9,7 @@ use reference::chart::Construct;
 use reference::known::*;
 use reference::regions::{read, OUTERMOST};
 use reference::replay::{self, Outcome, MOST_THREADS};
+use reference::witnessed::witnessed;
 use tuned::replay::{Record, Replayed};
 
 /// Stands where nothing may be written.
@@ -66,13 +68,25 @@ fn assert_alike(chart: &[u8], trace: &[u8], team: usize, room: usize) -> Result<
     said
 }
 
+/// Holds what is said of two numbers to the second implementation.
+fn assert_shown(chart: &[u8], trace: &[u8], team: usize, [a, b]: [usize; 2]) -> i64 {
+    let shown = tuned::replay::witnessed(chart, trace, team, a, b);
+    let [one, other] = [a, b].map(|x| x as u64);
+    let expected = witnessed(chart, OUTERMOST.into(), team as u64, trace, one, other);
+    assert_eq!(
+        shown, expected,
+        "{a} {b}, team {team}, {trace:?}, {chart:02X?}"
+    );
+    shown
+}
+
 /// Runs as far as they go, most of them with an entry changed, on charts of all sizes and some that are refused;
 /// now and then a wrong team, or no room.
 #[test]
 fn drawn_traces() {
     const TRACES: usize = 30_000;
     let mut random = Random::new(2_026_111_612);
-    let mut outcomes = [0usize; 5];
+    let (mut outcomes, mut shown) = ([0usize; 5], 0);
     for turn in 0..TRACES {
         let chart = match turn % 16 {
             0 => charts::draw(&mut random).1,
@@ -102,8 +116,11 @@ fn drawn_traces() {
             Err(_) => 4,
         };
         outcomes[outcome] += 1;
+        let pair = [0; 2].map(|_| random.below(nodes + 1));
+        shown += usize::from(assert_shown(&chart, &trace, team, pair) == 1);
     }
     assert!(outcomes.iter().all(|&x| x > TRACES / 60), "{outcomes:?}");
+    assert!(shown > TRACES / 60, "{shown}");
 }
 
 /// A trace, and its every start with another last entry, of a team's thread or none and to a node or none.
