@@ -15,8 +15,9 @@ const CLAIMS: usize = 1_024;
 /// Accesses to each of the charts in turn, and the variables of all lists.
 const FEW_ACCESSES: usize = 64;
 const VARIABLES: usize = 32;
-/// The threads of traces.
+/// The threads of traces, of which the longest of so many is taken: some runs soon hang.
 const TEAM: usize = 2;
+const DRAWN: u64 = 16;
 
 /// One of the calls.
 #[derive(Clone, Copy)]
@@ -88,7 +89,8 @@ impl Asked {
         let Ok(region) = read(&chart, OUTERMOST.into()) else {
             return refused(chart);
         };
-        let trace = legal(&mut Random::new(9), &region, TEAM, count);
+        let drawn = (0..DRAWN).map(|seed| legal(&mut Random::new(seed), &region, TEAM, count));
+        let trace = drawn.max_by_key(Vec::len).unwrap_or_default();
         let rules = Rules::of(region.chart);
         let nodes = rules.chart.nodes.len();
         let open: Vec<usize> = (0..nodes).filter(|&x| !rules.chart.is_barrier(x)).collect();

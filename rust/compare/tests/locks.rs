@@ -152,13 +152,29 @@ fn damaged_charts() {
 }
 
 /// What Sheet and Phases say of the nodes inside criticals.
-struct Told<'a> {
-    region: &'a Region,
+struct Told {
+    region: Region,
     sheet: Vec<u8>,
     phases: Vec<u8>,
 }
 
-impl Told<'_> {
+impl Told {
+    fn by(archive: &mut Archive, chart: &[u8], number: usize, teams: Teams) -> Told {
+        let region = read(chart, number as u64).expect("a region");
+        let nodes = region.place.len();
+        let (mut sheet, mut phases) = (vec![0; nodes * nodes], vec![0; BYTES_PHASES * nodes]);
+        match teams {
+            Teams::OfAnySize => archive.sheet(chart, number, &mut sheet),
+            Teams::Of(size) => archive.sheet_sized(chart, number, size as usize, &mut sheet),
+        };
+        archive.phases(chart, number, &mut phases);
+        Told {
+            region,
+            sheet,
+            phases,
+        }
+    }
+
     /// The nodes inside criticals that pass a test, by their numbers in the whole chart.
     fn inside(&self, wanted: impl Fn(usize) -> bool) -> Vec<usize> {
         let chart = &self.region.chart;
@@ -178,61 +194,58 @@ impl Told<'_> {
         u64::from_le_bytes(record[..8].try_into().expect("eight bytes"))
     }
 
-    /// Whether an answer 0 is among the pairs of a critical, and whether a 1 is that starts in common leave to runs that
-    /// finish.
+    /// Whether an answer 0 is among the pairs of a critical, and whether a 1 is that is about runs that finish.
     fn pairs(&self, critical: usize) -> (bool, bool) {
         let name = |c: usize| self.region.chart.constructs[c].name;
         let inside = self.inside(|c| c == critical);
         let named = self.inside(|c| name(c) == name(critical));
         let (mut met, mut unfinished) = (false, false);
-        for (&x, &y) in inside
-            .iter()
-            .flat_map(|x| named.iter().map(move |y| (x, y)))
-        {
-            let answer = self.sheet[x * self.region.place.len() + y];
-            met |= answer == 0;
-            unfinished |= answer == 1 && self.starts(x) & self.starts(y) != 0;
+        for &x in &inside {
+            for &y in &named {
+                let answer = self.sheet[x * self.region.place.len() + y];
+                met |= answer == 0;
+                unfinished |= answer == 1 && self.starts(x) & self.starts(y) != 0;
+            }
         }
         (met, unfinished)
     }
+
+    /// A lock is needed exactly where the sheet has a 0. Otherwise it can be dropped always, but where a never is about runs
+    /// that finish; and there too, where another rule excludes each such pair as well.
+    fn fits(&self, construct: usize, byte: u8) -> bool {
+        let is_critical = |&c: &usize| self.region.chart.constructs[c].kind == Construct::CRITICAL;
+        let critical = self.region.constructs[construct].filter(is_critical);
+        match critical.map(|c| self.pairs(c)) {
+            None => byte == Lock::NO_CRITICAL,
+            Some((true, _)) => Lock::of(byte) == Some(Lock::Needed),
+            Some((false, false)) => Lock::of(byte) == Some(Lock::DroppableAlways),
+            Some((false, true)) => Lock::of(byte).is_some_and(|lock| lock != Lock::Needed),
+        }
+    }
 }
 
-/// A lock is needed exactly where the sheet has a 0. Otherwise it can be dropped always, but where a never is one of runs
-/// that finish; and there too, where another rule excludes each such pair as well.
 #[test]
 fn bytes_are_told_by_sheet_and_phases() {
     let mut archive = Archive::new();
     let mut random = Random::new(16);
-    let mut compared = 0;
     for turn in 0..CHARTS {
         let chart = drawn(&mut random, turn).bytes();
         let number = random.pick(&regions_of(&chart));
-        let region = read(&chart, number as u64).expect("a region");
-        let nodes = region.place.len();
-        let mut out = vec![FILL; region.constructs.len()];
-        archive.locks(&chart, number, &mut out);
-        let (mut sheet, mut phases) = (vec![0; nodes * nodes], vec![0; BYTES_PHASES * nodes]);
-        archive.sheet(&chart, number, &mut sheet);
-        archive.phases(&chart, number, &mut phases);
-        let told = Told {
-            region: &region,
-            sheet,
-            phases,
+        let teams = match random.below(6) {
+            0 => Teams::Of(random.between(1, 4) as u64),
+            _ => Teams::OfAnySize,
         };
-        for (&byte, own) in out.iter().zip(&region.constructs) {
-            let Some((lock, own)) = Lock::of(byte).zip(*own) else {
-                continue;
-            };
-            let fits = match (told.pairs(own), lock) {
-                ((true, _), lock) => lock == Lock::Needed,
-                ((false, false), lock) => lock == Lock::DroppableAlways,
-                ((false, true), lock) => lock != Lock::Needed,
-            };
-            assert!(fits, "{number}, {own}: {lock:?}, {chart:02X?}");
-            compared += 1;
+        let told = Told::by(&mut archive, &chart, number, teams);
+        let mut out = vec![FILL; told.region.constructs.len()];
+        write(&mut archive, &chart, number, teams, &mut out);
+        for (construct, &byte) in out.iter().enumerate() {
+            let fits = told.fits(construct, byte);
+            assert!(
+                fits,
+                "{number}, {teams:?}, {construct}: {byte}, {chart:02X?}"
+            );
         }
     }
-    assert!(compared > CHARTS, "{compared}");
 }
 
 /// A lock that can be dropped with more edges can be without them, and for teams of any size for each size.

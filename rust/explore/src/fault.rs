@@ -51,7 +51,7 @@ pub enum Fault {
     LockOfConstruct,
     /// With locks: a critical does not count where it is not the innermost construct.
     LockInnermost,
-    /// A lock is dropped though another critical of its name may be shared with this one.
+    /// Whether a lock can be dropped is asked of the critical's own nodes alone, not of all criticals of its name.
     OwnPairsOnly,
     /// A lock that finished runs alone do not need is taken for one that no run needs.
     UnfinishedForgotten,

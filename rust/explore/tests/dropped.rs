@@ -98,11 +98,11 @@ fn drawn(seed: u64) -> (Chart, Vec<u16>) {
     (chart, numbers)
 }
 
-#[test]
-fn drawn_charts() {
-    let (start, time) = (Instant::now(), Duration::from_secs(5));
+/// Compares the charts of rising seeds until the time is over.
+fn compare_drawn(first_seed: u64, time: Duration) -> Dropped {
+    let start = Instant::now();
     let mut tally = Dropped::default();
-    for seed in 14_000_000.. {
+    for seed in first_seed.. {
         if start.elapsed() > time {
             break;
         }
@@ -112,8 +112,20 @@ fn drawn_charts() {
         }
     }
     writeln!(std::io::stderr(), "dropped: {tally:?}").expect("standard error is open");
+    tally
+}
+
+#[test]
+fn drawn_charts() {
+    let tally = compare_drawn(14_000_000, Duration::from_secs(5));
     assert!(tally.bytes.iter().all(|&times| times > 100), "{tally:?}");
     assert!(tally.sets > 1_000 && tally.skipped * 10 < tally.charts);
+}
+
+#[test]
+#[ignore = "five minutes"]
+fn drawn_charts_for_long() {
+    compare_drawn(140_000_000, Duration::from_secs(300));
 }
 
 #[test]
