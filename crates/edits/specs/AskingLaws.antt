@@ -1,4 +1,4 @@
--- Asking and commit: commit goes through exactly with the receipt that asking gives now, where there is room.
+-- Asking is correct, and so is commit by its receipt: it goes through exactly with the receipt that asking gives now, where there is room.
 -- Assumes nothing.
 use mathlib.Core.Path.{_≡_, refl, ap, sym}
 use mathlib.Core.List.{List, [], _∷_}
@@ -13,7 +13,8 @@ use Rattle.chart.proofs.Rows.{none-applies, both-pass, second-decides}
 use Rattle.output.specs.Output.{written, writtenBy}
 use Rattle.output.specs.declared.Written.the-variants.{Bytes}
 use Rattle.output.proofs.Outputs.{bytes-none}
-use Rattle.edits.specs.Edits.{askRows, receiptFor, answer, asked, receiptRow, spaceRow, commitRows, insertWritten}
+use Rattle.edits.specs.Edits.{askRows, receiptFor, answer, asked, numberOf, receiptOf, receiptRow, spaceRow, commitRows, insertWritten}
+use Rattle.edits.specs.AskCorrect.{AskCorrect}
 use Rattle.edits.specs.declared.Receipt.{Receipt}
 use Rattle.edits.specs.declared.Asked.the-variants.{Admitted}
 
@@ -22,6 +23,11 @@ pub granted : (o : Option ℕ) {r q : Receipt} → answer o r ≡ Admitted q →
 unfolding answer
 granted none h = (refl, cc)
 granted (some number) h = absurd (bad (cc))
+
+-- What 02 asks of asking.
+pub ask-correct : (buffer : List ℕ) (len x y : ℕ) → AskCorrect buffer len x y (numberOf (asked buffer len x y)) (receiptOf (asked buffer len x y))
+unfolding asked answer numberOf receiptOf
+ask-correct buffer len x y = record { refuses = λ row h. rw h (refl, refl); admits = λ h. rw h (refl, refl) }
 
 same-receipt : {a b c d : ℕ} → a ≡ c → b ≡ d → _≡_ {A = Receipt} (record { length = a; place = b }) (record { length = c; place = d })
 same-receipt p q = λ i. record { length = p i; place = q i }

@@ -23,7 +23,8 @@ use Rattle.edits.specs.declared.Asked.the-variants.{Admitted, Refused}
 unfoldable pub lengthRow : ℕ → ℕ → Row
 lengthRow room len = record { number = 4; applies = ltb room len }
 
--- Then rows 1 to 10 on the present chart, then on the longer one.
+-- Then rows 1 to 10 on the present chart, then on the longer one. The edge's numbers are any: one that no node has, though it fit no byte, gives row 9 of
+-- the longer chart, or row 3 before it where there are 1,024 edges already (specs/NoNode.antt).
 unfoldable pub askRows : List ℕ → ℕ → ℕ → ℕ → List Row
 askRows buffer len from to =
     let s = take len buffer in
@@ -70,7 +71,7 @@ insertWritten buffer len receipt from to = writtenBy (commitRows buffer len rece
 unfoldable pub insertLeft : List ℕ → ℕ → Receipt → ℕ → ℕ → List ℕ
 insertLeft buffer len receipt from to = leftBy (commitRows buffer len receipt from to) (inserted (take len buffer) from to) buffer
 
--- Row 19: no such edge.
+-- Row 19: no such edge, so none with a number that no node has.
 unfoldable pub noEdgeRow : List ℕ → ℕ → ℕ → Row
 noEdgeRow s from to = record { number = 19; applies = not (edgeIn (decode s .edges) from to) }
 

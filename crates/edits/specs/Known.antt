@@ -94,10 +94,13 @@ asks =
     ∷ ask S 48 2 1 (refused 9)
     ∷ ask S 48 1 4 (refused 9)
     ∷ ask S 48 5 1 (refused 9)
+    ∷ ask S 48 259 1 (refused 9)
+    ∷ ask S 48 3 257 (refused 9)
     ∷ ask S 48 1 2 (refused 9)
     ∷ ask S 49 3 1 (refused 4)
     ∷ ask S 15 3 1 (refused 1)
     ∷ ask S 47 3 1 (refused 2)
+    ∷ ask S 47 259 1 (refused 2)
     ∷ ask Y 50 3 1 (accepted 50 3)
     ∷ ask chartZ 70 6 1 (accepted 70 6)
     ∷ []
@@ -119,6 +122,7 @@ commits =
     ∷ commit 48 2 (stopped (S ++ (7 ∷ [])) 48 3 1 17)
     ∷ commit 47 3 (stopped (S ++ (7 ∷ [])) 48 3 1 17)
     ∷ commit 48 2 (stopped S 48 2 1 9)
+    ∷ commit 48 3 (stopped (S ++ (7 ∷ 8 ∷ [])) 48 259 1 9)
     ∷ commit 48 3 (stopped S 49 3 1 4)
     ∷ []
 
@@ -128,6 +132,8 @@ removals =
     ∷ call longY 52 3 1 (Bytes 50) (Y ++ (0 ∷ 0 ∷ []))
     ∷ stopped S 48 4 0 19
     ∷ stopped S 48 255 255 19
+    ∷ stopped longS 50 259 1 19
+    ∷ stopped longS 50 3 257 19
     ∷ stopped S 48 1 2 10
     ∷ stopped pair 26 0 1 3
     ∷ stopped S 49 1 2 4

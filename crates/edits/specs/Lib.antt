@@ -3,7 +3,9 @@ pub mod Edits
 pub mod Cut
 pub mod PlaceLaws
 pub mod SpliceLaws
+pub mod AskCorrect
 pub mod AskingLaws
 pub mod Loosening
 pub mod EditLaws
+pub mod NoNode
 pub mod Known

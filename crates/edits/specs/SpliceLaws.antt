@@ -157,6 +157,11 @@ module _ (s : List ℕ) (ok : Laid s (countsOf s)) (x y : ℕ) where
       ap length inserted-is
       ∙ omega (arith, whole-length d (trailerBytes (longer t)) (trailer-back (longer t)) refl, ok .whole)
 
+  pub inserted-trailer : decode (inserted s x y) .trailer ≡ longer t
+  inserted-trailer =
+      ap (λ (l : List ℕ). decode l .trailer) inserted-is
+      ∙ ap (λ (D : Decoded). D .trailer) (decode-cut d (trailerBytes (longer t)) (trailer-back (longer t)) refl)
+
   pub inserted-decoded : WithEdge (decode s) (decode (inserted s x y)) x y
   inserted-decoded =
       let a = longer-alike t in
