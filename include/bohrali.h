@@ -388,10 +388,12 @@ int64_t bohrali_listing(const uint8_t *text, size_t text_len, uint8_t *out, size
  *
  * Returns the longer chart's length, chart_len + 2, or the first of these refusals that applies,
  * negated: 4 if chart_len is beyond buffer_len, whatever the bytes are; 1 to 10 of the present
- * chart; 1 to 10 of the chart with the edge, so 9 for an edge that is there already and 3 where
- * there are 1024; 17; 18. Bytes past the longer chart keep their values. */
+ * chart; 1 to 10 of the chart with the edge; 17; 18. Of the chart with the edge that is 3 where
+ * there are 1024 already, else 9 for an edge that is there already or is not allowed. Any numbers
+ * may be handed over: one that no node has, also one over 255, is no edge's, so 9 in that place.
+ * Bytes past the longer chart keep their values. */
 int64_t bohrali_insert_edge(uint8_t *buffer, size_t buffer_len, size_t chart_len,
-                            size_t receipt_length, size_t receipt_place, uint8_t from, uint8_t to);
+                            size_t receipt_length, size_t receipt_place, size_t from, size_t to);
 
 /* Takes the edge (from, to) out of the chart that the first chart_len bytes of a buffer are, where
  * the chart without that edge is admitted too: closes the gap, rewrites the trailer, and sets the
@@ -402,9 +404,10 @@ int64_t bohrali_insert_edge(uint8_t *buffer, size_t buffer_len, size_t chart_len
  * Returns the shorter chart's length, chart_len - 2, or the first of these refusals that applies,
  * negated: 4 if chart_len is beyond buffer_len, whatever the bytes are; 1 to 10 of the present
  * chart; 19; 1 to 10 of the chart without the edge, so 3 for its only edge and 10 for one without
- * which some node is not reached from Start, or does not reach Finish. */
-int64_t bohrali_remove_edge(uint8_t *buffer, size_t buffer_len, size_t chart_len, uint8_t from,
-                            uint8_t to);
+ * which some node is not reached from Start, or does not reach Finish. Any numbers may be handed
+ * over: one that no node has, also one over 255, is no edge's, so 19. */
+int64_t bohrali_remove_edge(uint8_t *buffer, size_t buffer_len, size_t chart_len, size_t from,
+                            size_t to);
 
 /* The answer for nodes a and b of a region: 0 to 5, or a refusal 1 to 10, 23 or 13, negated. Any
  * numbers may be handed over; the order of the two nodes does not matter. */

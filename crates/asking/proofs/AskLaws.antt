@@ -1,22 +1,24 @@
--- Asking: the rows of the present chart decide, or leave it to those of the longer one.
+-- Asking: the rows of the present chart decide, or leave it to those of the longer one, to which all numbers that fit no byte are alike.
 -- Assumes nothing.
 use mathlib.Core.Path.{_≡_, ap}
-use mathlib.Core.List.{List, []}
+use mathlib.Core.Logic.{_⊎_, inl, inr}
+use mathlib.Core.List.{List}
 use mathlib.Core.Option.{Option, none, some}
-use Prim.Native.Nat.{ℕ, _≤_, _<_}
-use lib.ListN.{length, take}
+use Prim.Native.Nat.{ℕ, min}
+use lib.ListN.{take}
 use lib.Seq.{length-take-le}
-use borrow.Author.Tests.{lt-ltb, le-ltb}
 use Rattle.lists.specs.Truth.{bad}
-use Rattle.chart.specs.Refusal.{Row, firstOf}
+use Rattle.chart.specs.Refusal.{firstOf}
 use Rattle.chart.specs.declared.format.Refusal.{Refusal}
 use Rattle.chart.proofs.Rows.{first-decides, second-decides}
-use Rattle.paths.specs.Admission.{admitRows}
+use Rattle.paths.specs.Admission.{admitRows, Admitted}
 use Rattle.edits.specs.Splice.{inserted}
-use Rattle.edits.specs.Edits.{lengthRow, askRows, receiptFor, answer, asked}
+use Rattle.edits.specs.Edits.{askRows, receiptFor, answer, asked}
+use Rattle.edits.specs.NoNode.{noNodeRow, no-node-refused, Unchanged, as-bytes}
 use Rattle.edits.specs.declared.Receipt.{Receipt}
-use Rattle.edits.specs.declared.Asked.the-variants.{Admitted, Refused}
-use Rattle.asking.specs.Asking.{receiptOn, askedOn}
+use Rattle.edits.specs.declared.Asked.the-variants.{Admitted as Granted, Refused}
+use Rattle.asking.specs.Asking.{frontRows, receiptOn, askedOn}
+use Rattle.asking.proofs.CheckLaws.{front-admitted}
 
 -- an answer read backwards
 pub refused-some : (o : Option ℕ) (receipt : Receipt) {refusal : Refusal} → answer o receipt ≡ Refused refusal → o ≡ some (refusal .number)
@@ -27,33 +29,39 @@ refused-some (some number) receipt {refusal} h = ap some (ap (λ (r : Refusal). 
     same : record { number = number } ≡ refusal
     same = cc
 
-pub apart : {refusal : Refusal} {receipt : Receipt} → Refused refusal ≡ Admitted receipt → ⊥
+pub apart : {refusal : Refusal} {receipt : Receipt} → Refused refusal ≡ Granted receipt → ⊥
 apart h = bad (cc)
 
 -- by the rows of the longer chart
 module _ (s : List ℕ) (x y : ℕ) where
-  pub longer-refused : (number : ℕ) → firstOf (admitRows (inserted s x y)) ≡ some number → Refused (record { number = number }) ≡ askedOn [] s x y
+  pub longer-refused : (number : ℕ) → firstOf (admitRows (inserted s x y)) ≡ some number → Refused (record { number = number }) ≡ askedOn s x y
   unfolding answer
   longer-refused number h = rw h
 
-  pub longer-admitted : firstOf (admitRows (inserted s x y)) ≡ none → Admitted (receiptOn s x y) ≡ askedOn [] s x y
+  pub longer-admitted : firstOf (admitRows (inserted s x y)) ≡ none → Granted (receiptOn s x y) ≡ askedOn s x y
   unfolding answer
   longer-admitted h = rw h
 
-  -- and of some before them
-  pub early-refused : (before : List Row) (number : ℕ) → firstOf before ≡ some number → Refused (record { number = number }) ≡ askedOn before s x y
-  unfolding answer
-  early-refused before number h = rw (first-decides before (admitRows (inserted s x y)) number h)
-
-  pub early-passed : (before : List Row) → firstOf before ≡ none → askedOn [] s x y ≡ askedOn before s x y
-  early-passed before h = rw (second-decides before (admitRows (inserted s x y)) h)
-
--- row 4 for the length
+-- after the rows of the present chart
 module _ (buffer : List ℕ) (len x y : ℕ) where
-  pub beyond : length buffer < len → Refused (record { number = 4 }) ≡ asked buffer len x y
-  unfolding asked askRows lengthRow firstOf answer
-  beyond l = rw (lt-ltb _ _ l)
+  pub front-refused : (number : ℕ) → firstOf (frontRows buffer len) ≡ some number → Refused (record { number = number }) ≡ asked buffer len x y
+  unfolding asked askRows answer
+  front-refused number h = rw (first-decides (frontRows buffer len) (admitRows (inserted (take len buffer) x y)) number h)
 
-  pub within : len ≤ length buffer → askedOn (admitRows (take len buffer)) (take len buffer) x y ≡ asked buffer len x y
-  unfolding asked askRows lengthRow firstOf receiptFor
-  within l = rw (le-ltb _ _ l, length-take-le len buffer l)
+  pub front-passed : firstOf (frontRows buffer len) ≡ none → askedOn (take len buffer) x y ≡ asked buffer len x y
+  unfolding asked askRows receiptFor
+  front-passed h =
+      rw (second-decides (frontRows buffer len) (admitRows (inserted (take len buffer) x y)) h, length-take-le len buffer (front-admitted buffer len h .0))
+
+-- of an edge whose numbers are read as bytes
+module _ (s : List ℕ) (admits : Admitted s) (x y : ℕ) where
+  read : Unchanged x y ⊎ ((firstOf (admitRows (inserted s (min x 255) (min y 255))) ≡ some (noNodeRow s)) × (firstOf (admitRows (inserted s x y)) ≡ some (noNodeRow s)))
+  read = as-bytes s admits (λ u v. firstOf (admitRows (inserted s u v)) ≡ some (noNodeRow s)) (no-node-refused s admits) x y
+
+  pub asked-as-bytes : askedOn s (min x 255) (min y 255) ≡ askedOn s x y
+  unfolding answer
+  asked-as-bytes = elim read [ inl (p, q) ↦ rw (p, q) | inr (h, k) ↦ rw (h, k) ]
+
+  pub inserted-as-bytes : {receipt : Receipt} → askedOn s x y ≡ Granted receipt → inserted s (min x 255) (min y 255) ≡ inserted s x y
+  unfolding answer
+  inserted-as-bytes h = elim read [ inl (p, q) ↦ rw (p, q) | inr (f, k) ↦ absurd (apart (rw k at h)) ]

@@ -1,14 +1,17 @@
 // Rows 1 to 10 of the refusals over any bytes, and the counts of the trailer where none of them applies.
 ghost use mathlib.Core.Path.{_≡_};
+ghost use lib.ListN.{take};
 ghost use Rattle.chart.specs.Refusal.{firstOf};
 ghost use Rattle.chart.specs.Checked.{countsOf, answer};
 ghost use Rattle.paths.specs.Admission.{admitRows};
+ghost use Rattle.asking.specs.Asking.{frontRows};
 use chart::format::Chart;
 use chart::format::Checked;
+use chart::format::Refusal;
 use entrance::enter;
 use outermost::Entered;
 
-pub fn check_all(s: &[u8]) -> Checked
+fn check_all(s: &[u8]) -> Checked
     ensures { λ r. ⌜ r ≡ answer (firstOf (admitRows (now (s .entry)))) (countsOf (now (s .entry))) ⌝ }
 {
     let mut starts = [0u64; Chart::NODES];
@@ -18,4 +21,14 @@ pub fn check_all(s: &[u8]) -> Checked
         Entered::Refused(refusal) => Checked::Refused(refusal),
         Entered::Marked(chart, _) => Checked::Passed(chart),
     }
+}
+
+// The chart that the first `len` bytes of a buffer are: row 4 for a length beyond the buffer, whatever the bytes are, then rows 1 to 10.
+pub fn check_front(buffer: &[u8], len: usize) -> Checked
+    ensures { λ r. ⌜ r ≡ answer (firstOf (frontRows (now (buffer .entry)) len)) (countsOf (take len (now (buffer .entry)))) ⌝ }
+{
+    if buffer.len() < len {
+        return Checked::Refused(Refusal::LENGTHS);
+    }
+    check_all(&buffer[..len])
 }

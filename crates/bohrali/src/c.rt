@@ -182,8 +182,8 @@ pub extern "C" fn bohrali_insert_edge(
     chart_len: usize,
     receipt_length: usize,
     receipt_place: usize,
-    from: u8,
-    to: u8,
+    from: usize,
+    to: usize,
 ) -> i64
     ensures { λ r.
         let receipt : Receipt = record { length = «receipt_length»; place = «receipt_place» } in
@@ -204,7 +204,12 @@ pub extern "C" fn bohrali_insert_edge(
 
 // The chart is the first `chart_len` bytes of the buffer.
 #[no_mangle]
-pub extern "C" fn bohrali_remove_edge(buffer: &mut [u8], chart_len: usize, from: u8, to: u8) -> i64
+pub extern "C" fn bohrali_remove_edge(
+    buffer: &mut [u8],
+    chart_len: usize,
+    from: usize,
+    to: usize,
+) -> i64
     ensures { λ r. ⌜ r ≡ Output·numberOf (removeWritten (now (buffer .entry)) «chart_len» from to) ⌝ }
     ensures { λ _. ⌜ now (buffer .exit) ≡ removeLeft (now (buffer .entry)) «chart_len» from to ⌝ }
     ensures { λ r. ⌜ RemoveCorrect (now (buffer .entry)) «chart_len» from to r (now (buffer .exit)) ⌝ }

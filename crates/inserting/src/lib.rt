@@ -35,12 +35,18 @@ fn commit(buffer: &mut [u8], receipt: Receipt, present: Receipt, longer: &[u8]) 
 }
 
 // The first row that applies, or the length of the chart with the edge (from, to), which then stands in the buffer.
-pub fn insert_edge(buffer: &mut [u8], len: usize, receipt: Receipt, from: u8, to: u8) -> Written
+pub fn insert_edge(
+    buffer: &mut [u8],
+    len: usize,
+    receipt: Receipt,
+    from: usize,
+    to: usize,
+) -> Written
     ensures { λ r. ⌜ r ≡ insertWritten (now (buffer .entry)) len receipt from to ⌝ }
     ensures { λ _. ⌜ now (buffer .exit) ≡ insertLeft (now (buffer .entry)) len receipt from to ⌝ }
 {
     let mut longer = [0u8; Chart::SCRATCH_BYTES];
-    match ask_into(&buffer[..], len, Edge { from, to }, &mut longer) {
+    match ask_into(&buffer[..], len, from, to, &mut longer) {
         Asked::Refused(refusal) => Written::Refused(refusal),
         Asked::Admitted(present) => commit(buffer, receipt, present, &longer),
     }

@@ -1,6 +1,6 @@
 -- Taking an edge out of a chart that is all of its bytes.
 -- Assumes nothing.
-use mathlib.Core.List.{List, _∷_}
+use mathlib.Core.List.{List, [], _∷_, _++_}
 use Prim.Native.Nat.{ℕ}
 use Rattle.chart.specs.Refusal.{Row}
 use Rattle.paths.specs.Admission.{admitRows}
@@ -10,3 +10,7 @@ use Rattle.edits.specs.Edits.{noEdgeRow}
 -- Row 19, then those of the shorter chart.
 abbrev pub shortRows : List ℕ → ℕ → ℕ → List Row
 shortRows s from to = noEdgeRow s from to ∷ admitRows (removed s from to)
+
+-- That chart, and 0 for each of the two bytes that it frees.
+abbrev pub shortLeft : List ℕ → ℕ → ℕ → List ℕ
+shortLeft s from to = removed s from to ++ (0 ∷ 0 ∷ [])

@@ -23,6 +23,8 @@ use scratch::put_byte;
 use scratch::put_part;
 use scratch::put_trailer;
 
+pub mod numbers;
+
 // 1 where edge i of a chart stands below this one, 0 elsewhere.
 fn below(s: &[u8], chart: Chart, i: usize, edge: Edge) -> usize
     requires { ⌜ Laid (now s) chart × (i < chart .edges) ⌝ }

@@ -33,7 +33,7 @@ fn print(input: &[u8]) {
     }
     let cursor = Cursor { at: 2 };
     let len = cursor.field(input, 0);
-    match ask(&input[FRONT..], len, input[0], input[1]) {
+    match ask(&input[FRONT..], len, wide(input[0]), wide(input[1])) {
         Asked::Admitted(receipt) => print_receipt(receipt),
         Asked::Refused(refusal) => print_refusal(refusal),
     }

@@ -15,8 +15,8 @@ extern "C" {
         chart_len: usize,
         receipt_length: usize,
         receipt_place: usize,
-        from: u8,
-        to: u8,
+        from: usize,
+        to: usize,
     ) -> i64;
     pub fn bohrali_judge(
         chart: *const u8,
@@ -84,8 +84,8 @@ extern "C" {
         buffer: *mut u8,
         buffer_len: usize,
         chart_len: usize,
-        from: u8,
-        to: u8,
+        from: usize,
+        to: usize,
     ) -> i64;
     pub fn bohrali_sheet(
         chart: *const u8,

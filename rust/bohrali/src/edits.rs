@@ -14,13 +14,13 @@ pub struct Receipt {
 
 /// Puts the edge (from, to) into the chart that the first `chart_len` bytes of a buffer are, where the longer
 /// chart is admitted and the receipt still agrees, and gives the longer chart's length. Bytes past it keep
-/// their values.
+/// their values. A number that no node has, however large, is refused as any edge that is not allowed.
 pub fn insert_edge(
     buffer: &mut [u8],
     chart_len: usize,
     receipt: Receipt,
-    from: u8,
-    to: u8,
+    from: usize,
+    to: usize,
 ) -> Result<usize, Refusal> {
     // SAFETY: pointer and length are those of a slice that is lent for the call alone; the rest are numbers.
     accepted(unsafe {
@@ -38,12 +38,12 @@ pub fn insert_edge(
 
 /// Takes the edge (from, to) out of the chart that the first `chart_len` bytes of a buffer are, where the
 /// shorter chart is admitted, and gives its length. The two bytes that are freed become 0; bytes past them
-/// keep their values.
+/// keep their values. No edge has a number that no node has, however large.
 pub fn remove_edge(
     buffer: &mut [u8],
     chart_len: usize,
-    from: u8,
-    to: u8,
+    from: usize,
+    to: usize,
 ) -> Result<usize, Refusal> {
     // SAFETY: as above.
     accepted(unsafe {

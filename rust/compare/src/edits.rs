@@ -4,7 +4,7 @@ use crate::{number, Archive};
 use charts::random::Random;
 use reference::builder::ChartBuilder;
 use reference::chart::{Chart, Edge, Node};
-use reference::edits::{self, Receipt};
+use reference::edits::{self, Numbers, Receipt};
 use reference::known::*;
 use reference::refusals::decode_checked;
 
@@ -18,14 +18,15 @@ impl Archive {
         buffer: &mut [u8],
         length: usize,
         receipt: Receipt,
-        edge: Edge,
+        edge: impl Into<Numbers>,
     ) -> i64 {
         let receipt = bohrali::Receipt {
             length: receipt.length,
             place: receipt.place,
         };
+        let Numbers { from, to } = edge.into();
         self.out.with_mut(buffer, |lent| {
-            let inserted = bohrali::insert_edge(lent, length, receipt, edge.from, edge.to);
+            let inserted = bohrali::insert_edge(lent, length, receipt, from, to);
             number(inserted, |length| length)
         })
     }
@@ -36,8 +37,9 @@ impl Archive {
         buffer: &mut [u8],
         length: usize,
         receipt: Receipt,
-        edge: Edge,
+        edge: impl Into<Numbers>,
     ) -> i64 {
+        let edge = edge.into();
         let before = buffer.to_vec();
         let mut theirs = before.clone();
         let number = self.insert_edge(buffer, length, receipt, edge);
@@ -49,15 +51,27 @@ impl Archive {
     }
 
     /// Takes an edge out of the chart in a buffer, in the same way.
-    pub fn remove_edge(&mut self, buffer: &mut [u8], length: usize, edge: Edge) -> i64 {
+    pub fn remove_edge(
+        &mut self,
+        buffer: &mut [u8],
+        length: usize,
+        edge: impl Into<Numbers>,
+    ) -> i64 {
+        let Numbers { from, to } = edge.into();
         self.out.with_mut(buffer, |lent| {
-            let removed = bohrali::remove_edge(lent, length, edge.from, edge.to);
+            let removed = bohrali::remove_edge(lent, length, from, to);
             number(removed, |length| length)
         })
     }
 
     /// The same: number and every byte of the buffer agree with the second implementation.
-    pub fn agree_removed(&mut self, buffer: &mut [u8], length: usize, edge: Edge) -> i64 {
+    pub fn agree_removed(
+        &mut self,
+        buffer: &mut [u8],
+        length: usize,
+        edge: impl Into<Numbers>,
+    ) -> i64 {
+        let edge = edge.into();
         let before = buffer.to_vec();
         let mut theirs = before.clone();
         let number = self.remove_edge(buffer, length, edge);
@@ -124,6 +138,26 @@ pub fn any_edge(random: &mut Random, chart: &[u8]) -> Edge {
 fn anywhere(random: &mut Random, bound: usize) -> Edge {
     let [from, to] = [0; 2].map(|_| random.below(bound) as u8);
     Edge { from, to }
+}
+
+/// Pairs of numbers that fit no byte and, cut to bytes, are this edge; and the largest there are.
+pub fn cut_to(edge: Edge) -> Vec<Numbers> {
+    let Numbers { from, to } = edge.into();
+    let over = [256, 512, 1 << 16, 1 << 32, usize::MAX - 255];
+    let largest = [
+        (usize::MAX, to),
+        (from, usize::MAX),
+        (usize::MAX, usize::MAX),
+    ];
+    let pairs = over.into_iter().flat_map(|over| {
+        [
+            (from + over, to),
+            (from, to + over),
+            (from + over, to + over),
+        ]
+    });
+    let numbers = pairs.chain(largest);
+    numbers.map(|(from, to)| Numbers { from, to }).collect()
 }
 
 /// An edge whose two sides are equal, in all likelihood.

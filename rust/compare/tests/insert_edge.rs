@@ -80,6 +80,40 @@ fn every_edge_of_known_charts() {
     assert!(inserted > 500, "{inserted}");
 }
 
+/// Numbers that fit no byte, though cut to bytes they were an edge that goes in: 9, in the place of row 9 of
+/// the longer chart, and nothing is written.
+#[test]
+fn numbers_over_a_byte() {
+    let mut archive = Archive::new();
+    for chart in known() {
+        let (fewer, spare) = without_spare_edge(&chart);
+        for edge in [spare, edge(0, 1), edge(3, 1)] {
+            let right = right_receipt(&fewer, edge);
+            for numbers in cut_to(edge) {
+                for (room, length, receipt, row) in [
+                    (2, fewer.len(), right, 9),
+                    (0, fewer.len(), right, 9),
+                    (2, fewer.len(), receipt(0, 0), 9),
+                    (2, fewer.len() + 3, right, 4),
+                    (2, fewer.len() + 1, right, 2),
+                    (2, 15, right, 1),
+                ] {
+                    let mut bytes = buffer(&fewer, room);
+                    let number = archive.agree_inserted(&mut bytes, length, receipt, numbers);
+                    assert_eq!(number, -row, "{numbers:?} {length} {receipt:?}");
+                    assert_eq!(bytes, buffer(&fewer, room));
+                }
+            }
+        }
+    }
+    let full = longest();
+    for numbers in cut_to(edge(100, 50)) {
+        let mut bytes = buffer(&full, 2);
+        let number = archive.agree_inserted(&mut bytes, full.len(), receipt(0, 0), numbers);
+        assert_eq!(number, -3, "{numbers:?}");
+    }
+}
+
 /// Every length, from nothing to beyond the buffer: 4 there, whatever the bytes are.
 #[test]
 fn every_length() {
@@ -129,6 +163,24 @@ fn drawn_charts() {
     }
     let mut rows = (0..=10).chain([17, 18]);
     assert!(rows.all(|row| outcomes[row] > 25), "{outcomes:?}");
+}
+
+/// On any chart, numbers that fit no byte give what the numbers of no node give that do.
+#[test]
+fn drawn_numbers_over_a_byte() {
+    let mut archive = Archive::new();
+    let mut random = Random::new(SEED + 3);
+    for _ in 0..CHARTS / 4 {
+        let chart = drawn(&mut random);
+        let wide = cut_to(any_edge(&mut random, &chart));
+        let numbers = random.pick(&wide);
+        let right = right_receipt(&chart, edge(255, 255));
+        let mut bytes = buffer(&chart, 2);
+        let number = archive.agree_inserted(&mut bytes, chart.len(), right, numbers);
+        let other = archive.insert_edge(&mut bytes, chart.len(), right, edge(255, 255));
+        assert_eq!(number, other, "{numbers:?}");
+        assert_eq!(bytes, buffer(&chart, 2));
+    }
 }
 
 /// The longest chart without one of its edges, for every edge that it can spare: put back, it is the longest

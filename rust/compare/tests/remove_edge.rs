@@ -70,6 +70,28 @@ fn every_edge_of_known_charts() {
     assert!(spared > 10 && bridges > 200, "{spared} {bridges}");
 }
 
+/// Numbers that fit no byte, though cut to bytes they were an edge that can be spared: 19, in its place, and
+/// nothing is written.
+#[test]
+fn numbers_over_a_byte() {
+    let mut archive = Archive::new();
+    for chart in known().into_iter().chain([longest(), row(2, 2)]) {
+        for numbers in edges(&chart).into_iter().take(20).flat_map(cut_to) {
+            for (length, row) in [
+                (chart.len(), 19),
+                (chart.len() + 3, 4),
+                (chart.len() + 1, 2),
+                (15, 1),
+            ] {
+                let mut bytes = buffer(&chart, 2);
+                let number = archive.agree_removed(&mut bytes, length, numbers);
+                assert_eq!(number, -row, "{numbers:?} {length}");
+                assert_eq!(bytes, buffer(&chart, 2));
+            }
+        }
+    }
+}
+
 /// Every length, from nothing to beyond the buffer: 4 there, whatever the bytes are.
 #[test]
 fn every_length() {

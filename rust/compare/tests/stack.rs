@@ -100,11 +100,12 @@ fn edits_fit_a_small_stack() {
         let length = buffer.len();
         let place = right_receipt(&buffer, edge).place;
         buffer.resize(length + 2, 0);
+        let (from, to) = (edge.from.into(), edge.to.into());
         let calls = move || {
             let receipt = bohrali::Receipt { length, place };
-            let longer = bohrali::insert_edge(&mut buffer, length, receipt, edge.from, edge.to);
+            let longer = bohrali::insert_edge(&mut buffer, length, receipt, from, to);
             assert_eq!(longer, Ok(length + 2), "{name}");
-            let shorter = bohrali::remove_edge(&mut buffer, length + 2, edge.from, edge.to);
+            let shorter = bohrali::remove_edge(&mut buffer, length + 2, from, to);
             assert_eq!(shorter, Ok(length), "{name}");
         };
         let thread = thread::Builder::new().stack_size(STACK).spawn(calls);

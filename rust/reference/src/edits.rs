@@ -12,20 +12,51 @@ pub struct Receipt {
     pub place: usize,
 }
 
+/// The two numbers of an edge that is asked about: any, also such as stand in no record.
+#[derive(Clone, Copy, Debug, PartialEq, Eq)]
+pub struct Numbers {
+    pub from: usize,
+    pub to: usize,
+}
+
+impl Numbers {
+    /// The record with these numbers, if there can be one.
+    fn record(self) -> Option<Edge> {
+        Some(Edge {
+            from: self.from.try_into().ok()?,
+            to: self.to.try_into().ok()?,
+        })
+    }
+}
+
+impl From<Edge> for Numbers {
+    fn from(edge: Edge) -> Numbers {
+        Numbers {
+            from: edge.from.into(),
+            to: edge.to.into(),
+        }
+    }
+}
+
 /// Asking: "whether the chart with that edge would be admitted, by 01's numbers".
-pub fn ask(buffer: &[u8], length: usize, edge: Edge) -> Result<Receipt, u8> {
-    tried(buffer, length, edge).map(|(receipt, _)| receipt)
+pub fn ask(buffer: &[u8], length: usize, edge: impl Into<Numbers>) -> Result<Receipt, u8> {
+    tried(buffer, length, edge.into()).map(|(receipt, _)| receipt)
 }
 
 /// Committing: "asks again, inserts the record, rewrites the trailer and returns the longer length".
-pub fn insert(buffer: &mut [u8], length: usize, receipt: Receipt, edge: Edge) -> i64 {
-    number(try_insert(buffer, length, receipt, edge))
+pub fn insert(buffer: &mut [u8], length: usize, receipt: Receipt, edge: impl Into<Numbers>) -> i64 {
+    number(try_insert(buffer, length, receipt, edge.into()))
 }
 
 /// "17 at commit, when length or place no longer agrees; 18 at commit, when the buffer lacks two bytes past
 /// the chart, last."
-fn try_insert(buffer: &mut [u8], length: usize, receipt: Receipt, edge: Edge) -> Result<usize, u8> {
-    let (agreed, longer) = tried(buffer, length, edge)?;
+fn try_insert(
+    buffer: &mut [u8],
+    length: usize,
+    receipt: Receipt,
+    numbers: Numbers,
+) -> Result<usize, u8> {
+    let (agreed, longer) = tried(buffer, length, numbers)?;
     if receipt != agreed {
         return Err(17);
     }
@@ -34,10 +65,15 @@ fn try_insert(buffer: &mut [u8], length: usize, receipt: Receipt, edge: Edge) ->
     Ok(longer.len())
 }
 
-/// The receipt and the longer chart; or "1 to 10 on the present chart, then on the longer one".
-fn tried(buffer: &[u8], length: usize, edge: Edge) -> Result<(Receipt, Vec<u8>), u8> {
+/// The receipt and the longer chart; or "1 to 10 on the present chart, then on the longer one", of which a
+/// number that fits no record leaves 3 for a full table, then 9.
+fn tried(buffer: &[u8], length: usize, numbers: Numbers) -> Result<(Receipt, Vec<u8>), u8> {
     let bytes = present(buffer, length)?;
     let chart = decode_checked(bytes)?;
+    let Some(edge) = numbers.record() else {
+        let room = Chart::EDGE_LIMITS.contains(&(chart.edges.len() + 1));
+        return Err(if room { 9 } else { 3 });
+    };
     let mut edges = chart.edges.clone();
     edges.push(edge);
     edges.sort_unstable();
@@ -49,15 +85,16 @@ fn tried(buffer: &[u8], length: usize, edge: Edge) -> Result<(Receipt, Vec<u8>),
 
 /// Removal: "closes the gap, rewrites the trailer, sets the two freed bytes to 0 and returns the shorter
 /// length".
-pub fn remove(buffer: &mut [u8], length: usize, edge: Edge) -> i64 {
-    number(try_remove(buffer, length, edge))
+pub fn remove(buffer: &mut [u8], length: usize, edge: impl Into<Numbers>) -> i64 {
+    number(try_remove(buffer, length, edge.into()))
 }
 
 /// "19 no such edge, after 1 to 10 on the present chart and before 1 to 10 on the shorter one."
-fn try_remove(buffer: &mut [u8], length: usize, edge: Edge) -> Result<usize, u8> {
+fn try_remove(buffer: &mut [u8], length: usize, numbers: Numbers) -> Result<usize, u8> {
     let bytes = present(buffer, length)?;
     let chart = decode_checked(bytes)?;
-    let others: Vec<Edge> = chart.edges.iter().copied().filter(|&x| x != edge).collect();
+    let mut others = chart.edges.clone();
+    others.retain(|&x| Numbers::from(x) != numbers);
     if others.len() == chart.edges.len() {
         return Err(19);
     }

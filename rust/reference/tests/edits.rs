@@ -3,7 +3,7 @@
 
 use reference::builder::ChartBuilder;
 use reference::chart::{Chart, Construct, Edge};
-use reference::edits::{ask, input, insert, remove, text, Receipt, MOST_BUFFER};
+use reference::edits::{ask, input, insert, remove, text, Numbers, Receipt, MOST_BUFFER};
 use reference::known::*;
 use reference::refusals::decode_checked;
 
@@ -61,6 +61,33 @@ fn places_and_refusals() {
     assert_eq!(asked(&chart_x(&[]), (4, 5)), Err(9));
     assert_eq!(asked(&chart_z(&[]), (6, 1)), Ok(6));
     assert_eq!(asked(&chart_k(), (4, 0)), Err(9));
+}
+
+/// Numbers that fit no byte name no node, whatever byte they would be cut to: 9, or 3 before it, and 19.
+#[test]
+fn numbers_over_a_byte() {
+    let chart = single();
+    let longer = chart_s(Construct::SINGLE, &[(3, 1)]);
+    for (from, to) in [
+        (259, 1),
+        (3, 257),
+        (256, 256),
+        (3 + (1 << 32), 1),
+        (usize::MAX, 1),
+        (3, usize::MAX),
+    ] {
+        let numbers = Numbers { from, to };
+        assert_eq!(ask(&chart, 48, numbers), Err(9), "{numbers:?}");
+        assert_eq!(ask(&chart, 47, numbers), Err(2), "{numbers:?}");
+        assert_eq!(ask(&chart, 49, numbers), Err(4), "{numbers:?}");
+        assert_eq!(ask(&longest(), 3_120, numbers), Err(3), "{numbers:?}");
+        let mut bytes = buffer(&chart, 2);
+        assert_eq!(insert(&mut bytes, 48, receipt(48, 3), numbers), -9);
+        assert_eq!(bytes, buffer(&chart, 2));
+        let mut bytes = longer.clone();
+        assert_eq!(remove(&mut bytes, 50, numbers), -19);
+        assert_eq!(bytes, longer);
+    }
 }
 
 /// A length beyond the buffer is 4, whatever the bytes are; a length within it is that of a chart or is not.

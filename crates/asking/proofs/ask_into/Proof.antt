@@ -1,26 +1,55 @@
 -- `asking::ask_into` meets its contract.
 -- Assumes nothing.
-use mathlib.Core.Path.{sym, _∙_}
+use mathlib.Core.Path.{_≡_, sym, _∙_}
+use mathlib.Core.Option.{none}
+use Prim.Native.Nat.{_≤_}
 use native.Mathlib.Omega.{arith}
+use lib.ListN.{length, take}
 use lib.Seq.{length-take-le}
 use borrow.Author.Needs.{needs}
-use Rattle.asking.proofs.AskLaws.{apart, beyond, within}
+use Rattle.chart.specs.Refusal.{firstOf}
+use Rattle.paths.specs.Admission.{Admitted}
+use Rattle.asking.specs.Asking.{frontRows}
+use Rattle.asking.proofs.CheckLaws.{passed-none, refused-some, chart-most, front-admitted}
+use Rattle.asking.proofs.AskLaws.{apart, front-refused, front-passed, asked-as-bytes, inserted-as-bytes}
 use Rattle.asking.proofs.ask_into.Statement.{statement}
 use Rattle.asking.proofs.ask_into.Tie as tie
 
+check-front-requires : tie.Need-check-front-requires
+check-front-requires c κs = search needs
+
+enum-known-own : tie.Need-enum-known-own
+enum-known-own c = search needs
+
+enum-known-chart : tie.Need-enum-known-chart
+enum-known-chart c = search needs
+
+-- no row of the present chart applies
+passes : (m : tie.After-chart) → let e = m .before .before .before .before .before in firstOf (frontRows (e .args .buffer .now) (e .args .len)) ≡ none
+passes m = passed-none _ _ (sym (m .before .before .check-front .ensures) ∙ m .chart .given .1) .0
+
+present : (m : tie.After-chart) → let e = m .before .before .before .before .before in
+    (e .args .len ≤ length (e .args .buffer .now)) × Admitted (take (e .args .len) (e .args .buffer .now))
+present m = let e = m .before .before .before .before .before in front-admitted (e .args .buffer .now) (e .args .len) (passes m)
+
+slice-aggregate-ask-longer : tie.Need-slice-aggregate-ask-longer
+slice-aggregate-ask-longer c = sym (length-take-le _ _ (present (c .before .before) .0))
+
+edge-between-requires : tie.Need-edge-between-requires
+edge-between-requires c κs = search needs
+
+ask-longer-requires : tie.Need-ask-longer-requires
+ask-longer-requires c κs =
+    let m = c .before .before .before .before in
+    let k = m .before .before in
+    (present m .1, passed-none _ _ (sym (k .check-front .ensures) ∙ m .chart .given .1) .1, k .before .before .before .pre)
+
 returns : tie.Need-returns
 returns c =
-    let e = c .before .before .before in
-    (beyond (e .args .buffer .now) (e .args .len) (e .args .edge .from) (e .args .edge .to) (c .if1 .taken), λ receipt q. absurd (apart q))
-
-slice-aggregate-ask-chart : tie.Need-slice-aggregate-ask-chart
-slice-aggregate-ask-chart c =
-    let left = c .before in
-    let e = left .before .before .before in
-    sym (length-take-le (e .args .len) (e .args .buffer .now) (omega arith))
-
-ask-chart-requires : tie.Need-ask-chart-requires
-ask-chart-requires c κs = search needs
+    let k = c .before .before .before in
+    let e = k .before .before .before in
+    let h = refused-some _ _ (sym (k .check-front .ensures) ∙ c .before .own .given .1) in
+    (front-refused (e .args .buffer .now) (e .args .len) (e .args .from) (e .args .to) _ h, λ receipt q. absurd (apart q))
 
 same-length : tie.Need-same-length
 same-length c = search needs
@@ -28,15 +57,33 @@ same-length c = search needs
 returns-2 : tie.Need-returns-2
 returns-2 c =
     let a = c .before .before in
-    let left = a .before .before .before in
-    let e = left .before .before .before in
+    let edge = a .before .before .edge-between .ensures in
+    let m = a .before .before .before .before .before in
+    let e = m .before .before .before .before .before in
     let buffer = e .args .buffer .now in
     let len = e .args .len in
-    let long = length-take-le len buffer (left .if1 .left) in (
-      a .ask-chart .ensures .0 ∙ within buffer len (e .args .edge .from) (e .args .edge .to) (left .if1 .left),
-      λ receipt q. rw long at (a .ask-chart .ensures .1 receipt q),
+    let x = e .args .from in
+    let y = e .args .to in
+    let (l, admits) = present m in
+    let long = length-take-le len buffer l in
+    let is = rw (edge .0, edge .1) at (a .ask-longer .ensures .0) ∙ asked-as-bytes (take len buffer) admits x y in (
+      is ∙ front-passed buffer len x y (passes m),
+      λ receipt q. (
+        omega (arith, chart-most (take len buffer) admits, long),
+        rw (edge .0, edge .1, long) at (a .ask-longer .ensures .1) ∙ inserted-as-bytes (take len buffer) admits x y (sym is ∙ q),
+      ),
     )
 
 pub ask-into-spec : {M : Type 1} → statement M
 ask-into-spec =
-    tie.close (tie.spec returns slice-aggregate-ask-chart ask-chart-requires same-length returns-2)
+    tie.close
+    (tie.spec
+    check-front-requires
+    enum-known-own
+    enum-known-chart
+    slice-aggregate-ask-longer
+    edge-between-requires
+    ask-longer-requires
+    returns
+    same-length
+    returns-2)

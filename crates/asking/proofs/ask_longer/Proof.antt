@@ -2,10 +2,11 @@
 -- Assumes nothing.
 use mathlib.Core.Path.{sym, _∙_}
 use native.Mathlib.Omega.{arith}
-use lib.Seq.{length-take-le}
 use borrow.Author.Needs.{needs}
 use Rattle.chart.proofs.Accepted.{laid}
-use Rattle.asking.proofs.CheckLaws.{passed-none, refused-some, trailer-passes, chart-most}
+use Rattle.edits.specs.SpliceLaws.{inserted-length}
+use Rattle.edits.specs.EditLaws.{admitted-laid}
+use Rattle.asking.proofs.CheckLaws.{passed-none, refused-some, trailer-passes, chart-most, within}
 use Rattle.asking.proofs.AskLaws.{longer-refused, longer-admitted}
 use Rattle.asking.proofs.ask_longer.Statement.{statement}
 use Rattle.asking.proofs.ask_longer.Tie as tie
@@ -20,23 +21,11 @@ put-longer-requires c κs =
     let (admits, counts, long) = e .pre in
     (trailer-passes _ admits, counts, placed .place-of .ensures .0, omega (arith, chart-most _ admits))
 
-add-check-all : tie.Need-add-check-all
-add-check-all c = search needs
+add-check-front : tie.Need-add-check-front
+add-check-front c = search needs
 
-slice-reshare-prefix-check-all : tie.Need-slice-reshare-prefix-check-all
-slice-reshare-prefix-check-all c =
-    let e = c .before .before .before .before .before .before .before in
-    let most = chart-most _ (e .pre .0) in
-    omega arith
-
-slice-aggregate-check-all : tie.Need-slice-aggregate-check-all
-slice-aggregate-check-all c =
-    let e = c .before .before .before .before .before .before .before .before in
-    let most = chart-most _ (e .pre .0) in
-    sym (length-take-le _ _ (omega arith))
-
-check-all-requires : tie.Need-check-all-requires
-check-all-requires c κs = search needs
+check-front-requires : tie.Need-check-front-requires
+check-front-requires c κs = search needs
 
 enum-known-refusal : tie.Need-enum-known-refusal
 enum-known-refusal c = search needs
@@ -53,8 +42,9 @@ returns c =
     let put = k .before .before .before .before in
     let e = put .before .before .before .before .before in
     let is = put .put-longer .ensures in
-    let h = refused-some _ _ (sym (k .check-all .ensures) ∙ c .before .refusal .given .1) in
-    (longer-refused (e .args .s .now) (e .args .edge .from) (e .args .edge .to) _ (rw is at h), is)
+    let long = inserted-length _ (admitted-laid _ (e .pre .0)) (e .args .edge .from) (e .args .edge .to) in
+    let h = refused-some _ _ (sym (k .check-front .ensures) ∙ c .before .refusal .given .1) in
+    (longer-refused (e .args .s .now) (e .args .edge .from) (e .args .edge .to) _ (sym (within _ _ is long) ∙ h), is)
 
 same-length-2 : tie.Need-same-length-2
 same-length-2 c = search needs
@@ -66,8 +56,9 @@ returns-2 c =
     let placed = put .before .before in
     let e = placed .before .before .before in
     let is = put .put-longer .ensures in
-    let h = passed-none _ _ (sym (k .check-all .ensures) ∙ c .enum-told .given .1) .0 in
-    (rw (placed .place-of .ensures .0) (longer-admitted (e .args .s .now) (e .args .edge .from) (e .args .edge .to) (rw is at h)), is)
+    let long = inserted-length _ (admitted-laid _ (e .pre .0)) (e .args .edge .from) (e .args .edge .to) in
+    let h = passed-none _ _ (sym (k .check-front .ensures) ∙ c .enum-told .given .1) .0 in
+    (rw (placed .place-of .ensures .0) (longer-admitted (e .args .s .now) (e .args .edge .from) (e .args .edge .to) (sym (within _ _ is long) ∙ h)), is)
 
 pub ask-longer-spec : {M : Type 1} → statement M
 ask-longer-spec =
@@ -75,10 +66,8 @@ ask-longer-spec =
     (tie.spec
     place-of-requires
     put-longer-requires
-    add-check-all
-    slice-reshare-prefix-check-all
-    slice-aggregate-check-all
-    check-all-requires
+    add-check-front
+    check-front-requires
     enum-known-refusal
     enum-told
     same-length

@@ -1,133 +1,106 @@
 -- `removing::remove_from` meets its contract.
 -- Assumes nothing.
-use mathlib.Core.Path.{_≡_, refl, sym, _∙_}
-use mathlib.Core.Bool.{false, not}
-use mathlib.Core.List.{[]}
+use mathlib.Core.Path.{_≡_, ap, sym, _∙_}
+use mathlib.Core.List.{List}
+use Prim.Native.Nat.{ℕ, _-_, _≤_}
 use native.Mathlib.Omega.{arith}
+use lib.ListN.{length, take}
 use lib.Seq.{length-take-le}
 use borrow.Author.Needs.{needs}
-use borrow.Author.Tests.{not-false}
-use Rattle.chart.specs.Format.{decode}
-use Rattle.chart.specs.Reading.{edgeIn}
-use Rattle.chart.specs.Checked.{Laid}
-use Rattle.chart.proofs.Accepted.{laid}
-use Rattle.chart.proofs.Records.{edges-length}
-use Rattle.output.proofs.Outputs.{refused, passed}
-use Rattle.edits.specs.PlaceLaws.{at-place}
-use Rattle.edits.specs.EditLaws.{admitted-rising}
-use Rattle.asking.proofs.CheckLaws.{passed-none, refused-some, trailer-passes, chart-least, chart-most}
-use Rattle.removing.proofs.RemoveLaws.{apart, no-edge, edge-there, short-front}
+use Rattle.output.specs.Output.{writtenBy}
+use Rattle.output.proofs.Outputs.{bytes-none, refused-some, refused, passed}
+use Rattle.scratch.proofs.Putting.{front, part-room}
+use Rattle.asking.proofs.CheckLaws.{chart-most}
+use Rattle.removing.specs.Removing.{shortRows, shortLeft}
 use Rattle.removing.proofs.remove_from.Statement.{statement}
 use Rattle.removing.proofs.remove_from.Tie as tie
 
-place-of-requires : tie.Need-place-of-requires
-place-of-requires c κs = let (admits, counts, long) = c .before .before .pre in rw counts (laid _ (trailer-passes _ admits))
+-- the chart, as long as it was said to be
+long : (e : tie.Start) → length (take (e .args .len) (e .args .buffer .now)) ≡ e .args .len
+long e = length-take-le (e .args .len) (e .args .buffer .now) (e .pre .0)
 
-lacks-edge-requires : tie.Need-lacks-edge-requires
-lacks-edge-requires c κs =
-    let (admits, counts, long) = c .before .before .before .pre in
-    (rw counts (laid _ (trailer-passes _ admits)), admitted-rising _ admits, c .place-of .ensures .0)
+slice-reshare-prefix-ask-shorter : tie.Need-slice-reshare-prefix-ask-shorter
+slice-reshare-prefix-ask-shorter c = search needs
 
--- where the edge is there
-there : (c : tie.Else1) → let e = c .before .before .before .before .before in
-    not (edgeIn (decode (e .args .s .now) .edges) (e .args .edge .from) (e .args .edge .to)) ≡ false
-there c = sym (c .before .lacks-edge .ensures) ∙ c .if1 .left
+slice-aggregate-ask-shorter : tie.Need-slice-aggregate-ask-shorter
+slice-aggregate-ask-shorter c = sym (long (c .before .before))
 
-returns : tie.Need-returns
-returns c =
-    let asked = c .before in
-    let e = asked .before .before .before .before in
-    let none-such = no-edge (e .args .s .now) (e .args .edge .from) (e .args .edge .to) (sym (asked .lacks-edge .ensures) ∙ c .if1 .taken) in
-    (refused _ _ [] [] none-such .0, λ count q. absurd (apart q))
+slice-aggregate-ask-shorter-2 : tie.Need-slice-aggregate-ask-shorter-2
+slice-aggregate-ask-shorter-2 c = search needs
 
-sub-size : tie.Need-sub-size
-sub-size c = let least = chart-least _ (c .before .before .before .before .before .pre .0) in omega arith
-
-put-shorter-requires : tie.Need-put-shorter-requires
-put-shorter-requires c κs =
-    let has = c .before in
-    let placed = has .before .before in
-    let e = placed .before .before .before in
-    let (admits, counts, long) = e .pre in
-    let edges = decode (e .args .s .now) .edges in
-    let L : Laid (e .args .s .now) (e .args .chart) = rw counts (laid _ (trailer-passes _ admits)) in
-    let below = at-place edges (admitted-rising _ admits) (e .args .edge .from) (e .args .edge .to) (not-false _ (there has)) .0 in (
-      trailer-passes _ admits,
-      counts,
-      omega (arith, below, placed .place-of .ensures .0, edges-length (e .args .s .now) (e .args .chart) L),
-      omega (arith, chart-most _ admits),
-    )
-
-slice-reshare-prefix-check-all : tie.Need-slice-reshare-prefix-check-all
-slice-reshare-prefix-check-all c =
-    let e = c .before .before .before .before .before .before .before .before .before in
-    let most = chart-most _ (e .pre .0) in
-    omega arith
-
-slice-aggregate-check-all : tie.Need-slice-aggregate-check-all
-slice-aggregate-check-all c =
-    let e = c .before .before .before .before .before .before .before .before .before .before in
-    let most = chart-most _ (e .pre .0) in
-    sym (length-take-le _ _ (omega arith))
-
-check-all-requires : tie.Need-check-all-requires
-check-all-requires c κs = search needs
+ask-shorter-requires : tie.Need-ask-shorter-requires
+ask-shorter-requires c κs = search needs
 
 enum-known-refusal : tie.Need-enum-known-refusal
 enum-known-refusal c = search needs
 
-enum-told : tie.Need-enum-told
-enum-told c = search needs
+enum-known-size : tie.Need-enum-known-size
+enum-known-size c = search needs
+
+-- the scratch memory, which has room for the chart
+abbrev scratch : tie.After-size → List ℕ
+scratch m = m .before .before .before .ask-shorter .last .1 .1 .1 .0
+
+fits : (m : tie.After-size) → m .before .before .before .before .before .before .before .args .len ≤ length (scratch m)
+fits m =
+    let e = m .before .before .before .before .before .before .before in
+    let full : length (scratch m) ≡ 3122 = search needs in
+    omega (arith, chart-most _ (e .pre .1), long e)
+
+array-share-prefix-shorter : tie.Need-array-share-prefix-shorter
+array-share-prefix-shorter c = fits (c .before .before)
+
+slice-aggregate-put-part : tie.Need-slice-aggregate-put-part
+slice-aggregate-put-part c = sym (length-take-le _ _ (fits (c .before .before .before)))
+
+put-part-requires : tie.Need-put-part-requires
+put-part-requires c κs =
+    let m = c .before .before .before in
+    let e = m .before .before .before .before .before .before .before in
+    part-room (scratch m) (e .args .len) _ (fits m) (e .pre .0)
 
 same-length : tie.Need-same-length
 same-length c = search needs
 
-returns-2 : tie.Need-returns-2
-returns-2 c =
-    let k = c .before .before .before in
-    let put = k .before .before .before .before in
-    let has = put .before .before in
-    let placed = has .before .before in
-    let e = placed .before .before .before in
-    let s = e .args .s .now in
-    let x = e .args .edge .from in
-    let y = e .args .edge .to in
-    let is = put .put-shorter .ensures x y (placed .place-of .ensures .0) in
-    let h = refused-some _ _ (sym (k .check-all .ensures) ∙ c .before .refusal .given .1) in
-    (refused _ _ [] [] (edge-there s x y (there has) ∙ rw (short-front s x y (there has) (e .pre .0) _ is) at h) .0, λ count q. absurd (apart q))
+returns : tie.Need-returns
+unfolding writtenBy
+returns c =
+    let k = c .before .before .before .before in
+    refused _ _ _ _ (refused-some _ _ (sym (k .ask-shorter .ensures .0) ∙ c .before .refusal .given .1))
 
 same-length-2 : tie.Need-same-length-2
 same-length-2 c = search needs
 
-returns-3 : tie.Need-returns-3
-returns-3 c =
-    let k = c .before .before in
-    let put = k .before .before .before .before in
-    let has = put .before .before in
-    let placed = has .before .before in
-    let e = placed .before .before .before in
-    let s = e .args .s .now in
-    let x = e .args .edge .from in
-    let y = e .args .edge .to in
-    let is = put .put-shorter .ensures x y (placed .place-of .ensures .0) in
-    let h = passed-none _ _ (sym (k .check-all .ensures) ∙ c .enum-told .given .1) .0 in
-    (passed _ _ [] [] refl (edge-there s x y (there has) ∙ rw (short-front s x y (there has) (e .pre .0) _ is) at h) .0, λ count q. is)
+returns-2 : tie.Need-returns-2
+unfolding writtenBy
+returns-2 c =
+    let put = c .before .before in
+    let m = put .before .before .before .before in
+    let k = m .before .before .before in
+    let e = k .before .before .before .before in
+    let buffer = e .args .buffer .now in
+    let s = take (e .args .len) buffer in
+    let edge = e .args .edge in
+    let (passes, size) = bytes-none _ (sym (k .ask-shorter .ensures .0) ∙ m .size .given .1) in
+    let (count, left) = passed (shortRows s (edge .from) (edge .to)) (e .args .len - 2) (shortLeft s (edge .from) (edge .to)) buffer
+    (ap (λ (n : ℕ). n - 2) (sym (long e)) ∙ size) passes in
+    let is = rw (long e) at (k .ask-shorter .ensures .1 _ (m .size .given .1)) in
+    (count, rw is at (front (take (e .args .len) (scratch m)) buffer _ (put .put-part .ensures .0) (put .put-part .ensures .1)) ∙ left)
 
 pub remove-from-spec : {M : Type 1} → statement M
 remove-from-spec =
     tie.close
     (tie.spec
-    place-of-requires
-    lacks-edge-requires
-    returns
-    sub-size
-    put-shorter-requires
-    slice-reshare-prefix-check-all
-    slice-aggregate-check-all
-    check-all-requires
+    slice-reshare-prefix-ask-shorter
+    slice-aggregate-ask-shorter
+    slice-aggregate-ask-shorter-2
+    ask-shorter-requires
     enum-known-refusal
-    enum-told
+    enum-known-size
+    array-share-prefix-shorter
+    slice-aggregate-put-part
+    put-part-requires
     same-length
-    returns-2
+    returns
     same-length-2
-    returns-3)
+    returns-2)
