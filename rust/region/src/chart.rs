@@ -144,6 +144,23 @@ impl Chart {
         }
     }
 
+    /// The construct in which an edge leaves a node: of a begin the one that it opens.
+    pub fn leaving(&self, node: u8) -> Option<u8> {
+        self.facing(node, NodeKind::Begin)
+    }
+
+    /// The construct in which an edge arrives at a node: of an end the one that it closes.
+    pub fn arriving(&self, node: u8) -> Option<u8> {
+        self.facing(node, NodeKind::End)
+    }
+
+    fn facing(&self, node: u8, kind: NodeKind) -> Option<u8> {
+        match self.node(node) {
+            Some(own) if own.kind == kind => own.construct,
+            _ => self.scope(node),
+        }
+    }
+
     /// The constructs around one, from its parent upward.
     pub fn enclosing(&self, construct: u8) -> impl Iterator<Item = u8> + '_ {
         self.upward(self.construct(construct).and_then(|x| x.parent))
@@ -189,6 +206,25 @@ impl Chart {
     pub fn regions(&self) -> impl Iterator<Item = Region> + '_ {
         let inner = self.constructs_of(ConstructKind::Parallel);
         iter::once(Region::Outermost).chain(inner.map(|x| Region::Parallel(x.into())))
+    }
+
+    /// The barriers of a region by rising number, its Start and Finish among them: bit b of a mask of the
+    /// library's is for the one at place b.
+    pub fn barriers(&self, region: Region) -> Vec<u8> {
+        let parallel = match region {
+            Region::Outermost => None,
+            Region::Parallel(number) => u8::try_from(number).ok(),
+        };
+        let closes = |x: &Node| match x.kind {
+            NodeKind::Barrier => x.construct == parallel,
+            NodeKind::Begin | NodeKind::End => parallel.is_some() && x.construct == parallel,
+            NodeKind::Plain => false,
+        };
+        let numbered = (0u8..=u8::MAX).zip(&self.nodes);
+        numbered
+            .filter(|(_, x)| closes(x))
+            .map(|(node, _)| node)
+            .collect()
     }
 }
 
