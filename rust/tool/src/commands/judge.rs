@@ -1,0 +1,115 @@
+//! `bohrali judge`: whether claims hold.
+
+use super::Command;
+use crate::arguments::{Arguments, JSON, REGION, SIZE};
+use crate::json::Json;
+use crate::lines::{self, Line};
+use crate::places::{self, Places};
+use crate::report::{Failure, Report, Terminal, FOUND, GOOD};
+use crate::subject::{self, Subject, Team};
+use crate::words::{self, count};
+use region::load::MOST_BYTES;
+use region::quoted;
+
+pub const COMMAND: Command = Command {
+    name: "judge",
+    operands: "FILE CLAIMS",
+    count: (2, 2),
+    summary: "whether all claims of a list hold, or the first that does not",
+    details: &[
+        "CLAIMS is a text with a line for each claim, 'never PLACE PLACE': no run that finishes has two
+threads at the two places together. '#' begins a comment. A place that has no node is an error.",
+        places::HELP,
+    ],
+    options: &[REGION, SIZE, JSON],
+    run,
+};
+
+/// A claim with the pairs of nodes that it is about.
+struct Claim<'a> {
+    line: usize,
+    text: &'a str,
+    pairs: Vec<(u8, u8)>,
+}
+
+/// One pair of a claim.
+type Asked<'a> = (&'a Claim<'a>, (u8, u8));
+
+fn run(arguments: &Arguments, _: &Terminal) -> Result<Report, Failure> {
+    let team = Team::named(arguments)?;
+    let subject = Subject::read(&arguments.operands[0])?;
+    let places = Places::of(&subject, team.region)?;
+    let file = arguments.operands[1].to_string_lossy();
+    let bytes = subject::read(&arguments.operands[1], MOST_BYTES);
+    let bytes = bytes.map_err(|x| Failure::about(&file, x))?;
+    let lines = lines::of(&file, &bytes)?;
+    let claims = lines::each(&file, &lines, |line| claim(&places, line))?;
+    let asked: Vec<Asked> = claims
+        .iter()
+        .flat_map(|claim| claim.pairs.iter().map(move |&pair| (claim, pair)))
+        .collect();
+    let pairs: Vec<(u8, u8)> = asked.iter().map(|x| x.1).collect();
+    let failed = subject
+        .judge(team, &pairs)?
+        .and_then(|index| asked.get(index));
+    let text = match (arguments.has(&JSON), failed) {
+        (true, _) => document(&subject, failed),
+        (false, Some(failed)) => fails(&subject, &file, failed),
+        (false, None) => held(&subject.file, claims.len(), pairs.len()),
+    };
+    Ok(Report::of(text).with_status(match failed {
+        Some(_) => FOUND,
+        None => GOOD,
+    }))
+}
+
+fn claim<'a>(places: &Places, line: &Line<'a>) -> Result<Claim<'a>, String> {
+    let words: Vec<&str> = line.text.split_whitespace().collect();
+    let [word, one, other] = words[..] else {
+        return Err(format!(
+            "{} found, 'never PLACE PLACE' expected",
+            quoted(line.text)
+        ));
+    };
+    if word != "never" {
+        return Err(format!("{} found, 'never' expected", quoted(word)));
+    }
+    Ok(Claim {
+        line: line.number,
+        text: line.text,
+        pairs: places::pairs(&places.nodes(one)?, &places.nodes(other)?),
+    })
+}
+
+fn held(file: &str, claims: usize, pairs: usize) -> String {
+    let about = count(pairs, "pair");
+    match claims {
+        0 => format!("{file}: there are no claims\n"),
+        1 => format!("{file}: the claim holds, about {about} of nodes\n"),
+        _ => format!("{file}: all {claims} claims hold, about {about} of nodes\n"),
+    }
+}
+
+fn fails(subject: &Subject, file: &str, (claim, (a, b)): &Asked) -> String {
+    format!(
+        "{file}: line {}: '{}' does not hold\n{}: {}, in a run that finishes\n",
+        claim.line,
+        claim.text,
+        subject.file,
+        words::together(subject.table(), *a, *b)
+    )
+}
+
+fn document(subject: &Subject, failed: Option<&Asked>) -> String {
+    let mut fields = vec![
+        ("file", Json::text(&subject.file)),
+        ("holds", Json::Bool(failed.is_none())),
+    ];
+    if let Some((claim, (a, b))) = failed {
+        fields.push(("line", Json::Number(claim.line)));
+        fields.push(("claim", Json::text(claim.text)));
+        fields.push(("a", Json::number(*a)));
+        fields.push(("b", Json::number(*b)));
+    }
+    Json::Object(fields).document()
+}

@@ -1,0 +1,156 @@
+//! `bohrali replay`: a recorded run against a region, by the proved program.
+
+use super::Command;
+use crate::arguments::{Arguments, Opt, JSON, REGION, SIZE};
+use crate::json::Json;
+use crate::program::{self, Replayed, Verdict};
+use crate::report::{Colour, Failure, Report, Terminal, FOUND, GOOD};
+use crate::subject::{self, Subject, Team};
+use crate::trace::Trace;
+use crate::words::{self, count};
+use bohrali::Size;
+
+const STRICT: Opt = Opt {
+    name: "--strict",
+    value: None,
+    help: "status 1 where the run does not finish by the rules",
+};
+
+pub const COMMAND: Command = Command {
+    name: "replay",
+    operands: "FILE TRACE",
+    count: (2, 2),
+    summary: "a recorded run: finished, unfinished or forbidden, and where",
+    details: &[
+        "TRACE has an entry for each step of a thread: two bytes, thread and node, one entry behind the other;
+or text, a line 'THREAD NODE' for each, where '#' begins a comment. When a barrier opens there is one
+entry for each thread, in thread order. The team has one thread more than the highest number in it, or as
+many as --size says, at most 8.",
+        "A finished run shows that two threads can be at the nodes that it met, barriers aside; it shows no
+never. A forbidden entry says that the region is not the one that ran, or that the record is not in
+order.",
+        "The verdict is that of the proved program replay_trace. It is looked for where BOHRALI_REPLAY says,
+beside this command, in ../libexec/bohrali from there, and where it was built.",
+    ],
+    options: &[REGION, SIZE, STRICT, JSON],
+    run,
+};
+
+/// A trace with what the program says of it.
+struct Told<'a> {
+    subject: &'a Subject,
+    team: Team,
+    trace: Trace,
+    replayed: Replayed,
+}
+
+fn run(arguments: &Arguments, terminal: &Terminal) -> Result<Report, Failure> {
+    let team = Team::named(arguments)?;
+    let subject = Subject::read(&arguments.operands[0])?;
+    // An error of the region is the library's to tell.
+    subject.distances(team.region)?;
+    let file = arguments.operands[1].to_string_lossy();
+    let bytes = subject::read(&arguments.operands[1], Trace::MOST_FILE);
+    let trace = Trace::read(&file, &bytes.map_err(|x| Failure::about(&file, x))?)?;
+    let size = team.size.unwrap_or(Size(trace.threads()));
+    let told = Told {
+        replayed: program::replay(&subject, team.region, size.0, &trace)?,
+        subject: &subject,
+        team: Team {
+            size: Some(size),
+            ..team
+        },
+        trace,
+    };
+    let text = match arguments.has(&JSON) {
+        true => told.document(),
+        false => told.text(&file, terminal),
+    };
+    let is_finished = told.replayed.verdict == Verdict::Finished;
+    Ok(
+        Report::of(text).with_status(match arguments.has(&STRICT) && !is_finished {
+            true => FOUND,
+            false => GOOD,
+        }),
+    )
+}
+
+impl Told<'_> {
+    fn text(&self, file: &str, terminal: &Terminal) -> String {
+        let table = self.subject.table();
+        let entries = count(self.trace.entries(), "entry");
+        let (word, colour) = match self.replayed.verdict {
+            Verdict::Finished => ("finished", Colour::Good),
+            Verdict::Unfinished => ("unfinished", Colour::Strong),
+            Verdict::Forbidden(_) => ("forbidden", Colour::Warm),
+        };
+        let region = words::region(table, self.team.region);
+        let threads = count(self.team.size.map_or(0, |x| x.0), "thread");
+        let word = terminal.paint(colour, word);
+        let mut text = format!("{file}: {word}: {entries}, a team of {threads} in {region}\n");
+        if let Some((index, thread, from, to)) = self.forbidden() {
+            let from = from.map_or("nowhere".into(), |x| words::node(table, x));
+            let to = words::node(table, to);
+            text += &format!("entry {index}, counted from 0: no step by the rules leads thread {thread} from {from} to {to}\n");
+        } else if self.replayed.verdict == Verdict::Unfinished {
+            for (thread, &node) in self.replayed.at.iter().enumerate() {
+                text += &format!("thread {thread} is at {}\n", words::node(table, node));
+            }
+        }
+        text + &self.met()
+    }
+
+    /// Entry, thread, and nodes of the step that is not allowed.
+    fn forbidden(&self) -> Option<(usize, u8, Option<u8>, u8)> {
+        let Verdict::Forbidden(index) = self.replayed.verdict else {
+            return None;
+        };
+        let (thread, to) = self.trace.entry(index)?;
+        let from = self.replayed.at.get(usize::from(thread)).copied();
+        Some((index, thread, from, to))
+    }
+
+    /// The pairs met, so many on a line.
+    fn met(&self) -> String {
+        let pairs: Vec<String> = self
+            .replayed
+            .met
+            .iter()
+            .map(|x| format!("{}-{}", x.0, x.1))
+            .collect();
+        let lines: Vec<String> = pairs.chunks(12).map(|x| x.join(" ")).collect();
+        match lines.is_empty() {
+            true => "no two threads were together\n".into(),
+            false => format!(
+                "nodes at which two threads were together: {}\n",
+                lines.join("\n    ")
+            ),
+        }
+    }
+
+    fn document(&self) -> String {
+        let word = match self.replayed.verdict {
+            Verdict::Finished => "finished",
+            Verdict::Unfinished => "unfinished",
+            Verdict::Forbidden(_) => "forbidden",
+        };
+        let forbidden = self.forbidden();
+        let mut fields = self.subject.asked(self.team);
+        fields.extend([
+            ("verdict", Json::text(word)),
+            ("entry", Json::option(forbidden, |x| Json::Number(x.0))),
+            ("thread", Json::option(forbidden, |x| Json::number(x.1))),
+            (
+                "from",
+                Json::option(forbidden.and_then(|x| x.2), Json::number),
+            ),
+            ("to", Json::option(forbidden, |x| Json::number(x.3))),
+            ("at", Json::list(&self.replayed.at, |&x| Json::number(x))),
+            (
+                "met",
+                Json::list(&self.replayed.met, |x| Json::list([x.0, x.1], Json::number)),
+            ),
+        ]);
+        Json::Object(fields).document()
+    }
+}
