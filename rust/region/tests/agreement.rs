@@ -144,8 +144,8 @@ fn mutated_charts(seed: u64, count: usize) -> (usize, usize) {
 
 #[test]
 fn reader_and_library_agree_on_changed_charts() {
-    let (said, admitted) = mutated_charts(1, 6000);
-    assert!(said > 3000 && admitted > 1000, "{said} {admitted}");
+    let (said, admitted) = mutated_charts(1, 20_000);
+    assert!(said > 10_000 && admitted > 5000, "{said} {admitted}");
 }
 
 /// The long form: `cargo test --release -p region --test agreement -- --ignored --nocapture`.

@@ -24,9 +24,11 @@ pub struct Critical<'a> {
 }
 
 pub enum Lock {
-    /// Whether that holds in runs that do not finish too.
     CanGo {
+        /// Whether that holds in runs that do not finish too.
         in_every_run: bool,
+        /// A file that has a critical which may be of the same name.
+        also_in: Option<String>,
     },
     Needed(Reason),
 }
@@ -168,7 +170,10 @@ impl Asking<'_> {
                 Asked::Always => {}
             }
         }
-        Ok(Lock::CanGo { in_every_run })
+        Ok(Lock::CanGo {
+            in_every_run,
+            also_in: None,
+        })
     }
 }
 

@@ -45,8 +45,13 @@ impl Team {
     }
 }
 
+/// The bytes of a file that is no region.
+pub fn bytes(file: &OsStr, most: u64) -> Result<Vec<u8>, Failure> {
+    read(file, most).map_err(|x| Failure::about(&file.to_string_lossy(), x))
+}
+
 /// The bytes of a file, or of standard input where the name is `-`.
-pub fn read(file: &OsStr, most: u64) -> Result<Vec<u8>, String> {
+fn read(file: &OsStr, most: u64) -> Result<Vec<u8>, String> {
     match file == "-" {
         true => load::bounded(io::stdin().lock(), most),
         false => load::bytes(Path::new(file), most),
@@ -93,7 +98,7 @@ impl Subject {
     }
 
     /// What a document says first of what was asked.
-    pub fn asked(&self, team: Team) -> Vec<(&'static str, Json)> {
+    pub fn asked(&self, team: Team) -> Vec<(&'static str, Json<'_>)> {
         vec![
             ("file", Json::text(&self.file)),
             ("region", Json::Number(team.region.number())),

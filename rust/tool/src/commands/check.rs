@@ -89,7 +89,7 @@ fn refused(file: &str, wrong: &Wrong) -> String {
         .join("\n")
 }
 
-fn document(file: &str, loaded: Result<&Subject, &Wrong>) -> Json {
+fn document<'a>(file: &'a str, loaded: Result<&Subject, &'a Wrong>) -> Json<'a> {
     let mut fields = vec![
         ("file", Json::text(file)),
         ("admitted", Json::Bool(loaded.is_ok())),
@@ -110,7 +110,7 @@ fn document(file: &str, loaded: Result<&Subject, &Wrong>) -> Json {
     Json::Object(fields)
 }
 
-fn error(problem: &Problem) -> Json {
+fn error(problem: &Problem) -> Json<'_> {
     Json::Object(vec![
         ("row", Json::option(problem.row, Json::Number)),
         (

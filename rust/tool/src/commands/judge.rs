@@ -40,8 +40,7 @@ fn run(arguments: &Arguments, _: &Terminal) -> Result<Report, Failure> {
     let subject = Subject::read(&arguments.operands[0])?;
     let places = Places::of(&subject, team.region)?;
     let file = arguments.operands[1].to_string_lossy();
-    let bytes = subject::read(&arguments.operands[1], MOST_BYTES);
-    let bytes = bytes.map_err(|x| Failure::about(&file, x))?;
+    let bytes = subject::bytes(&arguments.operands[1], MOST_BYTES)?;
     let lines = lines::of(&file, &bytes)?;
     let claims = lines::each(&file, &lines, |line| claim(&places, line))?;
     let asked: Vec<Asked> = claims

@@ -54,9 +54,7 @@ fn run(arguments: &Arguments, terminal: &Terminal) -> Result<Report, Failure> {
         subject.distances(team.region)?;
         locks.extend(critical::locks(subject, team)?);
     }
-    if !arguments.has(&ONE_TEAM) {
-        keep_shared(&mut locks);
-    }
+    share(&mut locks, arguments.has(&ONE_TEAM));
     let text = match arguments.has(&JSON) {
         true => document(&locks),
         false => text(&subjects, &locks, team, terminal),
@@ -72,18 +70,21 @@ fn run(arguments: &Arguments, terminal: &Terminal) -> Result<Report, Failure> {
 
 /// Criticals of one name in two files share their lock. Whether teams of two regions work at the same time,
 /// because one is reached from inside the other or several host threads come to them, no file says: the locks
-/// stay.
-fn keep_shared(locks: &mut [(Critical, Lock)]) {
-    let shared = |own: &Critical| {
+/// stay, unless it is said here that they do not.
+fn share(locks: &mut [(Critical, Lock)], one_team: bool) {
+    let other_file = |own: &Critical| {
         let elsewhere =
             |x: &&(Critical, Lock)| !std::ptr::eq(x.0.subject, own.subject) && x.0.may_share(own);
         let other = locks.iter().find(elsewhere)?;
         Some(other.0.subject.file.clone())
     };
-    let files: Vec<Option<String>> = locks.iter().map(|x| shared(&x.0)).collect();
+    let files: Vec<Option<String>> = locks.iter().map(|x| other_file(&x.0)).collect();
     for ((_, lock), file) in locks.iter_mut().zip(files) {
-        if let (Lock::CanGo { .. }, Some(file)) = (&lock, file) {
-            *lock = Lock::Needed(Reason::OtherFile(file));
+        if let (Lock::CanGo { also_in, .. }, Some(file)) = (&mut *lock, file) {
+            match one_team {
+                true => *also_in = Some(file),
+                false => *lock = Lock::Needed(Reason::OtherFile(file)),
+            }
         }
     }
 }
@@ -118,13 +119,22 @@ fn text(
 /// A critical with its verdict, and on a second line why its lock is needed.
 fn verdict(critical: &Critical, lock: &Lock, terminal: &Terminal) -> String {
     let what = critical.words();
-    let Lock::Needed(reason) = lock else {
-        let runs = match lock {
-            Lock::CanGo { in_every_run: true } => "in every run",
-            _ => "in runs that finish",
-        };
-        let word = terminal.paint(Colour::Good, "can go");
-        return format!("    {word}  {what}, {runs}\n");
+    let reason = match lock {
+        Lock::CanGo {
+            in_every_run,
+            also_in,
+        } => {
+            let word = terminal.paint(Colour::Good, "can go");
+            let runs = match in_every_run {
+                true => "in every run",
+                false => "in runs that finish",
+            };
+            let also = also_in.as_ref().map_or(String::new(), |file| {
+                format!("{:12}where no team of {file} works at the same time\n", "")
+            });
+            return format!("    {word}  {what}, {runs}\n{also}");
+        }
+        Lock::Needed(reason) => reason,
     };
     let why = match reason {
         Reason::Pair(a, b, region) => {
@@ -152,7 +162,8 @@ fn beside(locks: &[(Critical, Lock)], team: Team) -> String {
         matches!(
             x.1,
             Lock::CanGo {
-                in_every_run: false
+                in_every_run: false,
+                ..
             }
         )
     };
@@ -170,26 +181,27 @@ fn beside(locks: &[(Critical, Lock)], team: Team) -> String {
 }
 
 fn document(locks: &[(Critical, Lock)]) -> String {
-    let lock = |(own, lock): &(Critical, Lock)| {
-        let (pair, region) = match lock {
-            Lock::Needed(Reason::Pair(a, b, region)) => (Some([*a, *b]), Some(region.number())),
-            _ => (None, None),
-        };
-        let word = match lock {
-            Lock::CanGo { .. } => "can go",
-            Lock::Needed(_) => "needed",
-        };
-        Json::Object(vec![
-            ("file", Json::text(&own.subject.file)),
-            ("construct", Json::number(own.construct)),
-            ("name", Json::text(words::name(&own.name))),
-            ("begin", Json::number(own.begin)),
-            ("end", Json::number(own.end)),
-            ("where", Json::text(own.subject.table().place(own.begin))),
-            ("lock", Json::text(word)),
-            ("pair", Json::option(pair, |x| Json::list(x, Json::number))),
-            ("region", Json::option(region, Json::Number)),
-        ])
+    Json::Object(vec![("criticals", Json::list(locks, critical_fields))]).document()
+}
+
+fn critical_fields<'a>((own, lock): &'a (Critical<'a>, Lock)) -> Json<'a> {
+    let (pair, region) = match lock {
+        Lock::Needed(Reason::Pair(a, b, region)) => (Some([*a, *b]), Some(region.number())),
+        _ => (None, None),
     };
-    Json::Object(vec![("criticals", Json::list(locks, lock))]).document()
+    let word = match lock {
+        Lock::CanGo { .. } => "can go",
+        Lock::Needed(_) => "needed",
+    };
+    Json::Object(vec![
+        ("file", Json::text(&own.subject.file)),
+        ("construct", Json::number(own.construct)),
+        ("name", Json::text(words::name(&own.name))),
+        ("begin", Json::number(own.begin)),
+        ("end", Json::number(own.end)),
+        ("where", Json::text(own.subject.table().place(own.begin))),
+        ("lock", Json::text(word)),
+        ("pair", Json::option(pair, |x| Json::list(x, Json::number))),
+        ("region", Json::option(region, Json::Number)),
+    ])
 }

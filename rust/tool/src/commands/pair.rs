@@ -62,7 +62,7 @@ fn line(subject: &Subject, terminal: &Terminal, (a, b, answer): (u8, u8, u8)) ->
     )
 }
 
-fn document(subject: &Subject, team: Team, (a, b, answer): (u8, u8, u8)) -> Json {
+fn document(subject: &Subject, team: Team, (a, b, answer): (u8, u8, u8)) -> Json<'_> {
     let mut fields = subject.asked(team);
     fields.extend([("a", a), ("b", b), ("answer", answer)].map(|(key, x)| (key, Json::number(x))));
     Json::Object(fields)

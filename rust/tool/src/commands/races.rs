@@ -13,6 +13,7 @@ use bohrali::{Access, AccessKind, Race};
 use region::load::MOST_BYTES;
 use region::quoted;
 use std::collections::HashMap;
+use std::fmt::Write;
 
 const STRICT: Opt = Opt {
     name: "--strict",
@@ -43,6 +44,8 @@ struct Made<'a> {
     node: u8,
     kind: AccessKind,
     variable: &'a str,
+    /// All this as text.
+    text: String,
 }
 
 /// Two accesses that race.
@@ -56,10 +59,9 @@ fn run(arguments: &Arguments, terminal: &Terminal) -> Result<Report, Failure> {
     let subject = Subject::read(&arguments.operands[0])?;
     let places = Places::of(&subject, region)?;
     let file = arguments.operands[1].to_string_lossy();
-    let bytes = subject::read(&arguments.operands[1], MOST_BYTES);
-    let bytes = bytes.map_err(|x| Failure::about(&file, x))?;
+    let bytes = subject::bytes(&arguments.operands[1], MOST_BYTES)?;
     let lines = lines::of(&file, &bytes)?;
-    let made = lines::each(&file, &lines, |line| accesses(&places, line))?;
+    let made = lines::each(&file, &lines, |line| accesses(&subject, &places, line))?;
     let made: Vec<Made> = made.into_iter().flatten().collect();
     if made.len() > MOST_ACCESSES {
         let message = format!("{} accesses, and {MOST_ACCESSES} are the most", made.len());
@@ -84,7 +86,11 @@ fn run(arguments: &Arguments, terminal: &Terminal) -> Result<Report, Failure> {
     )
 }
 
-fn accesses<'a>(places: &Places, line: &Line<'a>) -> Result<Vec<Made<'a>>, String> {
+fn accesses<'a>(
+    subject: &Subject,
+    places: &Places,
+    line: &Line<'a>,
+) -> Result<Vec<Made<'a>>, String> {
     let words: Vec<&str> = line.text.split_whitespace().collect();
     let (kind, place, variable) = match words[..] {
         ["read", place, variable] => (AccessKind::Read, place, variable),
@@ -101,6 +107,10 @@ fn accesses<'a>(places: &Places, line: &Line<'a>) -> Result<Vec<Made<'a>>, Strin
         node,
         kind,
         variable,
+        text: {
+            let node = words::node(subject.table(), node);
+            format!("{} at {node}, line {}", kind_word(kind), line.number)
+        },
     };
     Ok(places.nodes(place)?.into_iter().map(made).collect())
 }
@@ -109,16 +119,10 @@ fn accesses<'a>(places: &Places, line: &Line<'a>) -> Result<Vec<Made<'a>>, Strin
 fn numbered(made: &[Made]) -> Vec<Access> {
     let mut numbers: HashMap<&str, u16> = HashMap::new();
     let mut accesses = Vec::with_capacity(made.len());
-    for Made {
-        node,
-        kind,
-        variable,
-        ..
-    } in made
-    {
+    for access in made {
         let next = numbers.len() as u16;
-        let number = *numbers.entry(variable).or_insert(next);
-        accesses.push(Access::new(*node, *kind, number));
+        let number = *numbers.entry(access.variable).or_insert(next);
+        accesses.push(Access::new(access.node, access.kind, number));
     }
     accesses
 }
@@ -154,10 +158,6 @@ fn kind_word(kind: AccessKind) -> &'static str {
 }
 
 fn text(subject: &Subject, made: usize, found: &[Found], terminal: &Terminal) -> String {
-    let access = |x: &Made| {
-        let node = words::node(subject.table(), x.node);
-        format!("{} at {node}, line {}", kind_word(x.kind), x.line)
-    };
     let mut text = String::new();
     for Found { race, pair } in found {
         let colour = match race {
@@ -166,12 +166,8 @@ fn text(subject: &Subject, made: usize, found: &[Found], terminal: &Terminal) ->
         };
         let word = terminal.paint(colour, &format!("{} race", race_word(*race)));
         let [one, other] = pair;
-        text += &format!(
-            "{word} on {}: {}; {}\n",
-            one.variable,
-            access(one),
-            access(other)
-        );
+        let variable = one.variable;
+        writeln!(text, "{word} on {variable}: {}; {}", one.text, other.text).ok();
     }
     let data = found.iter().filter(|x| x.race == Race::Data).count();
     text + &format!(
@@ -184,25 +180,21 @@ fn text(subject: &Subject, made: usize, found: &[Found], terminal: &Terminal) ->
 }
 
 fn document(subject: &Subject, region: usize, found: &[Found]) -> String {
-    let access = |x: &Made| {
-        Json::Object(vec![
-            ("line", Json::Number(x.line)),
-            ("node", Json::number(x.node)),
-            ("kind", Json::text(kind_word(x.kind))),
-        ])
-    };
-    let race = |x: &Found| {
-        Json::Object(vec![
-            ("race", Json::text(race_word(x.race))),
-            ("variable", Json::text(x.pair[0].variable)),
-            ("a", access(x.pair[0])),
-            ("b", access(x.pair[1])),
-        ])
-    };
     let fields = vec![
         ("file", Json::text(&subject.file)),
         ("region", Json::Number(region)),
-        ("races", Json::list(found, race)),
+        ("races", Json::list(found, race_fields)),
     ];
     Json::Object(fields).document()
+}
+
+fn race_fields<'a>(found: &Found<'a>) -> Json<'a> {
+    let [one, other] = found.pair;
+    Json::Object(vec![
+        ("race", Json::text(race_word(found.race))),
+        ("variable", Json::text(one.variable)),
+        ("a", Json::number(one.node)),
+        ("b", Json::number(other.node)),
+        ("lines", Json::list([one.line, other.line], Json::Number)),
+    ])
 }

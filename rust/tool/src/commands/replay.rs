@@ -50,8 +50,8 @@ fn run(arguments: &Arguments, terminal: &Terminal) -> Result<Report, Failure> {
     // An error of the region is the library's to tell.
     subject.distances(team.region)?;
     let file = arguments.operands[1].to_string_lossy();
-    let bytes = subject::read(&arguments.operands[1], Trace::MOST_FILE);
-    let trace = Trace::read(&file, &bytes.map_err(|x| Failure::about(&file, x))?)?;
+    let bytes = subject::bytes(&arguments.operands[1], Trace::MOST_FILE)?;
+    let trace = Trace::read(&file, &bytes)?;
     let size = team.size.unwrap_or(Size(trace.threads()));
     let told = Told {
         replayed: program::replay(&subject, team.region, size.0, &trace)?,

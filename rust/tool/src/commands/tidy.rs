@@ -23,9 +23,8 @@ OUT may be FILE.",
 
 fn run(arguments: &Arguments, _: &Terminal) -> Result<Report, Failure> {
     let file = &arguments.operands[0];
-    let about = |x: String| Failure::about(&file.to_string_lossy(), x);
-    let bytes = subject::read(file, MOST_BYTES).map_err(about)?;
-    let text = region::tidy(&bytes).map_err(|x| about(x.to_string()))?;
+    let bytes = subject::bytes(file, MOST_BYTES)?;
+    let text = region::tidy(&bytes).map_err(|x| Failure::about(&file.to_string_lossy(), x))?;
     match arguments.value(&OUTPUT) {
         Some(out) => written(out, text.as_bytes()),
         None => Ok(Report::of(text)),
