@@ -20,7 +20,10 @@ impl Heading {
                 1,
                 format!("the file is empty; a heading '{listed}' is expected"),
             );
-            return Err(problems.stop().unwrap_err());
+            return problems.stop().map(|()| Heading {
+                columns: 0,
+                has_tag: false,
+            });
         };
         let headings: Vec<String> = row.cells().map(str::to_lowercase).collect();
         let used = headings.iter().rposition(|x| !x.is_empty());

@@ -121,6 +121,10 @@ fn cells() {
         "row 6, column inside (D): 'one' found, the number of the construct around, or nothing, expected",
         0,
     );
+}
+
+#[test]
+fn text_of_cells() {
     expect(
         &[("playtest.c:14", "=A1")],
         "row 3, column where (F): the text begins with '=', which a spreadsheet would take for a formula",

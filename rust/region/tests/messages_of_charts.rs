@@ -31,6 +31,10 @@ fn constructs() {
         "row 12, column construct (C): construct 30, and there are 12 constructs: they are numbered 0 to 11 without a gap",
         0,
     );
+}
+
+#[test]
+fn parents() {
     expect(
         &[("4,plain,,1,", "4,plain,,17,")],
         "row 6, column inside (D): construct 17 is named, and no row begins it",
@@ -80,6 +84,10 @@ fn nesting() {
         "row 22, column inside (D): directly inside a sections, construct 5 (sections), lie only sections; this is a plain node",
         0,
     );
+}
+
+#[test]
+fn nesting_of_other_kinds() {
     expect(
         &[("13,ordered,4,2", "13,masked 1,4,2")],
         "row 15, column inside (D): a master or masked is inside criticals only; this one is inside construct 2 (do)",

@@ -36,6 +36,7 @@ fn run(words: &[std::ffi::OsString], terminal: &Terminal) -> Result<Report, Fail
     let name = first.to_string_lossy();
     match (name.as_ref(), rest) {
         ("--help" | "-h", _) | ("help", []) => Ok(Report::of(help::overview())),
+        ("help", [name, ..]) if name == "help" => Ok(Report::of(help::overview())),
         ("--version" | "-V", _) => Ok(Report::of(help::version())),
         ("help", [name, ..]) => {
             let command = commands::named(&name.to_string_lossy())?;

@@ -18,12 +18,6 @@ fn document(words: &[&str]) -> Value {
 fn keys_are_those_that_are_promised() {
     let folder = folder("documents-keys");
     let claims = file(&folder, "fails.claims", "never 14 14\n");
-    let other = fs::read_to_string(example().join(TABLE)).expect("the table");
-    let other = file(
-        &folder,
-        "other.csv",
-        other.replace("16,ordered,5", "16,critical log,5"),
-    );
     let wrong = file(&folder, "wrong.csv", "node,kind\n");
     assert_eq!(
         document(&["check", "--json", TABLE]).keys(),
@@ -49,6 +43,14 @@ fn keys_are_those_that_are_promised() {
     );
     let failed = Value::read(&told(&["judge", "--json", TABLE, &claims]).1);
     assert_eq!(failed.keys(), ["file", "holds", "line", "claim", "a", "b"]);
+}
+
+#[test]
+fn keys_of_locks_and_changes() {
+    let folder = folder("documents-more-keys");
+    let other = fs::read_to_string(example().join(TABLE)).expect("the table");
+    let other = other.replace("16,ordered,5", "16,critical log,5");
+    let other = file(&folder, "other.csv", other);
     let locks = document(&["locks", "--json", TABLE]);
     assert_eq!(locks.keys(), ["criticals"]);
     assert_eq!(

@@ -76,6 +76,11 @@ fn what_is_too_long() {
         told.contains("row 194: this is row 193 under the heading"),
         "{told}"
     );
+}
+
+#[test]
+fn long_lists() {
+    let folder = folder("hostile-lists");
     let claims = file(&folder, "long.claims", "never 4 4\n".repeat(100_000));
     assert!(good(&["judge", TABLE, &claims]).contains("all 100000 claims hold"));
     let wrong = file(&folder, "wrong.claims", "x\n".repeat(100_000));

@@ -8,6 +8,7 @@ use charts::valid::{valid, Shape};
 use common::json::Value;
 use common::{file, folder, good, refused, told};
 use region::{Chart, ConstructKind};
+use std::path::Path;
 
 const HEADING: &str = "node,kind,construct,inside,next,where\n";
 
@@ -134,51 +135,47 @@ fn what_is_said_of_runs_that_do_not_finish() {
     assert!(text.contains("in a run that hangs"));
 }
 
+/// A file with one critical, in a single.
+fn alone(folder: &Path, name: &str, critical: &str) -> String {
+    let rows = ALONE.replace("critical NAME", critical);
+    file(folder, name, format!("{HEADING}{rows}"))
+}
+
 #[test]
 fn names_are_counted_together_over_files() {
-    let folder = folder("locks-files");
-    let table = |name: &str, critical: &str| {
-        let rows = ALONE.replace("critical NAME", critical);
-        file(&folder, name, format!("{HEADING}{rows}"))
-    };
-    let [one, two] = [
+    let folder = folder("locks-names");
+    let table = |name: &str, critical: &str| alone(&folder, name, critical);
+    let (one, two) = (
         table("one.csv", "critical deck"),
         table("two.csv", "critical deck"),
-    ];
-    let other = table("other.csv", "critical scores");
-    let (number, same) = (
-        table("number.csv", "critical 3"),
-        table("same.csv", "critical 3"),
     );
-    let unnamed = table("unnamed.csv", "critical");
-    assert_eq!(locks(&[&one]), [can_go(1)]);
-    assert_eq!(
-        locks(&[&one, &two]),
-        [needed(1, &[], None), needed(1, &[], None)]
+    let (three, four) = (table("3.csv", "critical 3"), table("4.csv", "critical 3"));
+    let (other, unnamed) = (
+        table("other.csv", "critical scores"),
+        table("unnamed.csv", "critical"),
     );
-    assert_eq!(
-        locks(&[&one, &two, "--one-team-at-a-time"]),
-        [can_go(1), can_go(1)]
-    );
-    assert_eq!(
-        locks(&[&one, &other, &unnamed]),
-        [can_go(1), can_go(1), can_go(1)]
-    );
-    assert_eq!(
-        locks(&[&number, &same]),
-        [needed(1, &[], None), needed(1, &[], None)]
-    );
-    assert_eq!(
-        locks(&[&one, &number]),
-        [needed(1, &[], None), needed(1, &[], None)]
-    );
-    assert_eq!(locks(&[&unnamed, &number]), [can_go(1), can_go(1)]);
-    assert!(good(&["locks", &one, &two])
-        .contains("two.csv has a critical that may be of the same name"));
-    assert!(good(&["locks", &one, &two, "--one-team-at-a-time"])
-        .contains("two.csv works at the same time"));
+    let kept = [needed(1, &[], None), needed(1, &[], None)];
+    let gone = [can_go(1), can_go(1)];
+    assert_eq!(locks(&[&one, &two]), kept);
+    assert_eq!(locks(&[&one, &two, "--one-team-at-a-time"]), gone);
+    assert_eq!(locks(&[&one, &other]), gone);
+    assert_eq!(locks(&[&one, &unnamed]), gone);
+    assert_eq!(locks(&[&three, &four]), kept);
+    assert_eq!(locks(&[&one, &three]), kept);
+    assert_eq!(locks(&[&unnamed, &three]), gone);
+}
+
+#[test]
+fn what_is_said_of_several_files() {
+    let folder = folder("locks-files");
+    let one = alone(&folder, "one.csv", "critical deck");
+    let two = alone(&folder, "two.csv", "critical deck");
+    let shared = good(&["locks", &one, &two]);
+    assert!(shared.contains("two.csv has a critical that may be of the same name"));
+    let apart = good(&["locks", &one, &two, "--one-team-at-a-time"]);
+    assert!(apart.contains("two.csv works at the same time"));
+    assert_eq!(told(&["locks", "--strict", &one]).0, 0);
     assert_eq!(told(&["locks", "--strict", &one, &two]).0, 1);
-    assert_eq!(told(&["locks", "--strict", &one, &other]).0, 0);
     let both = refused(&["locks", &one, "no-such.csv", "none.csv"]);
     assert_eq!(both.lines().count(), 2, "{both}");
 }

@@ -223,6 +223,11 @@ fn diff() {
         .replacen("2 48", "below 48", 1);
     let tidied = region::tidy(added.as_bytes()).expect("rows can be numbered");
     let inserted = file(&folder, "inserted.csv", tidied);
+    let unnamed = file(
+        &folder,
+        "unnamed.csv",
+        table.replace("playtest.c", "other.c"),
+    );
     compare(
         "diff",
         &[
@@ -234,6 +239,7 @@ fn diff() {
             &["diff", TABLE, &locked, "--region", "9"],
             &["diff", TABLE, &locked, "--size", "1"],
             &["diff", TABLE, &inserted, "--by", "where"],
+            &["diff", TABLE, &unnamed, "--by", "where"],
             &["diff", TABLE, &locked, "--by", "line"],
             &["diff", TABLE, &locked, "--region", "8"],
         ],
@@ -258,6 +264,7 @@ fn convert_and_tidy() {
             &["convert", TABLE, "-o", "out.txt"],
             &["check", &rows],
             &["tidy", &rows],
+            &["tidy", chart],
             &["tidy", &rows, "-o", &rows],
             &["check", &rows],
         ],

@@ -44,6 +44,10 @@ fn run(arguments: &Arguments, terminal: &Terminal) -> Result<Report, Failure> {
     let old = Subject::read(&arguments.operands[0])?;
     let new = Subject::read(&arguments.operands[1])?;
     let mut matching = matching(arguments, &old, &new)?;
+    if matching.nodes.is_empty() {
+        let message = format!("no node matches one of {}", new.file);
+        return Err(Failure::about(&old.file, message));
+    }
     let notes = matching.notes(&old, &new);
     if arguments.has(&REGION) {
         new.distances(team.region)?;

@@ -5,7 +5,7 @@ use super::Command;
 use crate::arguments::{Arguments, OUTPUT};
 use crate::report::{Failure, Report, Terminal};
 use crate::subject;
-use region::load::MOST_BYTES;
+use region::load::{self, Form, MOST_BYTES};
 
 pub const COMMAND: Command = Command {
     name: "tidy",
@@ -24,6 +24,10 @@ OUT may be FILE.",
 fn run(arguments: &Arguments, _: &Terminal) -> Result<Report, Failure> {
     let file = &arguments.operands[0];
     let bytes = subject::bytes(file, MOST_BYTES)?;
+    if load::form(&bytes) != Form::Table {
+        let message = "this is no region table, which is expected";
+        return Err(Failure::about(&file.to_string_lossy(), message));
+    }
     let text = region::tidy(&bytes).map_err(|x| Failure::about(&file.to_string_lossy(), x))?;
     match arguments.value(&OUTPUT) {
         Some(out) => written(out, text.as_bytes()),
