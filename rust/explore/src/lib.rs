@@ -11,6 +11,7 @@ pub mod regions;
 pub mod replay;
 pub mod search;
 mod sections;
+pub mod shortest;
 mod sizes;
 pub mod team;
 pub mod trace;
