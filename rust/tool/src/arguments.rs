@@ -29,6 +29,11 @@ pub const JSON: Opt = Opt {
     value: None,
     help: "the result as one JSON document",
 };
+pub const WHY: Opt = Opt {
+    name: "--why",
+    value: None,
+    help: "with a run that shows it, as 'bohrali why' does",
+};
 pub const OUTPUT: Opt = Opt {
     name: "-o",
     value: Some("OUT"),

@@ -4,6 +4,7 @@
 mod arguments;
 mod commands;
 mod critical;
+mod evidence;
 mod help;
 mod json;
 mod lines;

@@ -50,6 +50,7 @@ fn help() {
         "check",
         "sheet",
         "pair",
+        "why",
         "judge",
         "locks",
         "races",
@@ -130,6 +131,35 @@ fn pair() {
 }
 
 #[test]
+fn why() {
+    let folder = folder("stored-why");
+    let trace = folder.join("run.trace");
+    let trace = trace.to_str().expect("a path that is text");
+    let figure = chart("figure-2b");
+    let figure = figure.to_str().expect("a path that is text");
+    compare(
+        "why",
+        &[
+            &["why", TABLE, "14", "17", "--trace", trace],
+            &["replay", TABLE, trace],
+            &["why", TABLE, "playtest.c:79", "14", "--json"],
+            &["why", TABLE, "14", "14", "--size", "4"],
+            &["why", TABLE, "4", "4", "--json"],
+            &["why", TABLE, "4", "4", "--trace", trace],
+            &["why", TABLE, "34", "34", "--region", "9"],
+            &["why", TABLE, "14", "17", "--size", "16"],
+            &["why", TABLE, "playtest.c:82-87", "14"],
+            &["why", figure, "7", "8"],
+            &["why", figure, "7", "8", "--json"],
+            &["why", figure, "4", "8", "--all"],
+            &["why", TABLE, "10", "4"],
+            &["why", TABLE, "4", "4", "--region", "8"],
+            &["why", TABLE, "4", "4", "--size", "0"],
+        ],
+    );
+}
+
+#[test]
 fn judge() {
     let folder = folder("stored-judge");
     let fails = file(
@@ -149,6 +179,9 @@ fn judge() {
             &["judge", TABLE, &none],
             &["judge", "--json", TABLE, CLAIMS],
             &["judge", "--json", TABLE, &fails],
+            &["judge", "--why", TABLE, &fails],
+            &["judge", "--why", "--json", TABLE, &fails],
+            &["judge", "--why", TABLE, CLAIMS],
         ],
     );
 }
@@ -164,6 +197,8 @@ fn locks() {
             &["locks", TABLE, "--size", "1", "--region", "9"],
             &["locks", TABLE, "--region", "9"],
             &["locks", TABLE, "--json"],
+            &["locks", TABLE, "--why"],
+            &["locks", TABLE, "--why", "--json"],
         ],
     );
 }

@@ -1,7 +1,8 @@
 //! `bohrali judge`: whether claims hold.
 
 use super::Command;
-use crate::arguments::{Arguments, JSON, REGION, SIZE};
+use crate::arguments::{Arguments, JSON, REGION, SIZE, WHY};
+use crate::evidence::Evidence;
 use crate::json::Json;
 use crate::lines::{self, Line};
 use crate::places::{self, Places};
@@ -21,7 +22,7 @@ pub const COMMAND: Command = Command {
 threads at the two places together. '#' begins a comment. A place that has no node is an error.",
         places::HELP,
     ],
-    options: &[REGION, SIZE, JSON],
+    options: &[WHY, REGION, SIZE, JSON],
     run,
 };
 
@@ -35,7 +36,7 @@ struct Claim<'a> {
 /// One pair of a claim.
 type Asked<'a> = (&'a Claim<'a>, (u8, u8));
 
-fn run(arguments: &Arguments, _: &Terminal) -> Result<Report, Failure> {
+fn run(arguments: &Arguments, terminal: &Terminal) -> Result<Report, Failure> {
     let team = Team::named(arguments)?;
     let subject = Subject::read(&arguments.operands[0])?;
     let places = Places::of(&subject, team.region)?;
@@ -51,9 +52,17 @@ fn run(arguments: &Arguments, _: &Terminal) -> Result<Report, Failure> {
     let failed = subject
         .judge(team, &pairs)?
         .and_then(|index| asked.get(index));
+    let evidence = Evidence::of(&subject, team)?;
+    let wanted = failed.filter(|_| arguments.has(&WHY));
+    let why = wanted.map(|x| evidence.why(x.1 .0, x.1 .1));
+    let why = why.transpose()?;
     let text = match (arguments.has(&JSON), failed) {
-        (true, _) => document(&subject, failed),
-        (false, Some(failed)) => fails(&subject, &file, failed),
+        (true, _) => document(&subject, failed, why.as_ref().map(|x| evidence.document(x))),
+        (false, Some(failed)) => {
+            let text = why.as_ref().map(|x| evidence.text(x, false, terminal));
+            let text = text.map_or(String::new(), |x| format!("\n{x}"));
+            fails(&subject, &file, failed) + &text
+        }
         (false, None) => held(&subject.file, claims.len(), pairs.len()),
     };
     Ok(Report::of(text).with_status(match failed {
@@ -99,7 +108,7 @@ fn fails(subject: &Subject, file: &str, (claim, (a, b)): &Asked) -> String {
     )
 }
 
-fn document(subject: &Subject, failed: Option<&Asked>) -> String {
+fn document(subject: &Subject, failed: Option<&Asked>, why: Option<Json>) -> String {
     let mut fields = vec![
         ("file", Json::text(&subject.file)),
         ("holds", Json::Bool(failed.is_none())),
@@ -110,5 +119,6 @@ fn document(subject: &Subject, failed: Option<&Asked>) -> String {
         fields.push(("a", Json::number(*a)));
         fields.push(("b", Json::number(*b)));
     }
+    fields.extend(why.map(|x| ("why", x)));
     Json::Object(fields).document()
 }

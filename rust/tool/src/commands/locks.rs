@@ -1,12 +1,14 @@
 //! `bohrali locks`: which criticals need their lock.
 
 use super::Command;
-use crate::arguments::{Arguments, Opt, JSON, REGION, SIZE};
+use crate::arguments::{Arguments, Opt, JSON, REGION, SIZE, WHY};
 use crate::critical::{self, Critical, Lock, Reason};
+use crate::evidence::Evidence;
 use crate::json::Json;
 use crate::report::{Colour, Failure, Report, Terminal, FOUND, GOOD};
 use crate::subject::{Subject, Team};
 use crate::words::{self, count};
+use witness::Why;
 
 const STRICT: Opt = Opt {
     name: "--strict",
@@ -37,7 +39,7 @@ over several files, is tested.",
 regions any. In the JSON document 'pair' and 'region' are null where a lock can go, and where it is needed
 for another critical around it or in another file.",
     ],
-    options: &[STRICT, ONE_TEAM, REGION, SIZE, JSON],
+    options: &[STRICT, WHY, ONE_TEAM, REGION, SIZE, JSON],
     run,
 };
 
@@ -55,9 +57,17 @@ fn run(arguments: &Arguments, terminal: &Terminal) -> Result<Report, Failure> {
         locks.extend(critical::locks(subject, team)?);
     }
     share(&mut locks, arguments.has(&ONE_TEAM));
+    let runs: Result<Vec<_>, Failure> = match arguments.has(&WHY) {
+        true => locks.iter().filter_map(|x| shown(x, team)).collect(),
+        false => Ok(Vec::new()),
+    };
+    let runs = runs?;
     let text = match arguments.has(&JSON) {
-        true => document(&locks),
-        false => text(&subjects, &locks, team, terminal),
+        true => document(&locks, &runs, arguments.has(&WHY)),
+        false => {
+            let runs = runs.iter().map(|x| x.text(terminal));
+            text(&subjects, &locks, team, terminal) + &runs.collect::<String>()
+        }
     };
     let is_needed = locks.iter().any(|x| matches!(x.1, Lock::Needed(_)));
     Ok(
@@ -86,6 +96,39 @@ fn share(locks: &mut [(Critical, Lock)], one_team: bool) {
                 false => *lock = Lock::Needed(Reason::OtherFile(file)),
             }
         }
+    }
+}
+
+/// The pair that needs a lock, with what shows it.
+struct Shown<'a> {
+    critical: &'a Critical<'a>,
+    evidence: Evidence<'a>,
+    why: Why,
+}
+
+fn shown<'a>((own, lock): &'a (Critical, Lock), team: Team) -> Option<Result<Shown<'a>, Failure>> {
+    let Lock::Needed(Reason::Pair(a, b, region)) = *lock else {
+        return None;
+    };
+    let size = team.size.filter(|_| team.region == region);
+    let shown = Evidence::of(own.subject, Team { region, size }).and_then(|evidence| {
+        let why = evidence.why(a, b)?;
+        Ok(Shown {
+            critical: own,
+            evidence,
+            why,
+        })
+    });
+    Some(shown)
+}
+
+impl Shown<'_> {
+    fn text(&self, terminal: &Terminal) -> String {
+        let what = self.critical.words();
+        format!(
+            "\n{what}:\n{}",
+            self.evidence.text(&self.why, false, terminal)
+        )
     }
 }
 
@@ -180,11 +223,20 @@ fn beside(locks: &[(Critical, Lock)], team: Team) -> String {
     text
 }
 
-fn document(locks: &[(Critical, Lock)]) -> String {
-    Json::Object(vec![("criticals", Json::list(locks, critical_fields))]).document()
+/// With `why` for each critical also what shows the pair that needs its lock, or null.
+fn document(locks: &[(Critical, Lock)], runs: &[Shown], why: bool) -> String {
+    let criticals = locks.iter().map(|own| {
+        let mut fields = critical_fields(own);
+        if why {
+            let run = runs.iter().find(|x| std::ptr::eq(x.critical, &own.0));
+            fields.push(("why", Json::option(run, |x| x.evidence.document(&x.why))));
+        }
+        Json::Object(fields)
+    });
+    Json::Object(vec![("criticals", Json::List(criticals.collect()))]).document()
 }
 
-fn critical_fields<'a>((own, lock): &'a (Critical<'a>, Lock)) -> Json<'a> {
+fn critical_fields<'a>((own, lock): &'a (Critical<'a>, Lock)) -> Vec<(&'static str, Json<'a>)> {
     let (pair, region) = match lock {
         Lock::Needed(Reason::Pair(a, b, region)) => (Some([*a, *b]), Some(region.number())),
         _ => (None, None),
@@ -193,7 +245,7 @@ fn critical_fields<'a>((own, lock): &'a (Critical<'a>, Lock)) -> Json<'a> {
         Lock::CanGo { .. } => "can go",
         Lock::Needed(_) => "needed",
     };
-    Json::Object(vec![
+    vec![
         ("file", Json::text(&own.subject.file)),
         ("construct", Json::number(own.construct)),
         ("name", Json::text(words::name(&own.name))),
@@ -203,5 +255,5 @@ fn critical_fields<'a>((own, lock): &'a (Critical<'a>, Lock)) -> Json<'a> {
         ("lock", Json::text(word)),
         ("pair", Json::option(pair, |x| Json::list(x, Json::number))),
         ("region", Json::option(region, Json::Number)),
-    ])
+    ]
 }

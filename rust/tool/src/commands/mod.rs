@@ -12,6 +12,7 @@ mod races;
 mod replay;
 mod sheet;
 mod tidy;
+mod why;
 
 use crate::arguments::{Arguments, Opt};
 use crate::nearest::nearest;
@@ -31,10 +32,11 @@ pub struct Command {
 }
 
 /// All commands, in the order in which one needs them.
-pub const COMMANDS: [&Command; 12] = [
+pub const COMMANDS: [&Command; 13] = [
     &check::COMMAND,
     &sheet::COMMAND,
     &pair::COMMAND,
+    &why::COMMAND,
     &judge::COMMAND,
     &locks::COMMAND,
     &races::COMMAND,

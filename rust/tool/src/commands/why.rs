@@ -1,0 +1,104 @@
+//! `bohrali why`: what shows an answer.
+
+use super::Command;
+use crate::arguments::{Arguments, Opt, JSON, REGION, SIZE};
+use crate::evidence::Evidence;
+use crate::json::Json;
+use crate::places::{self, Places};
+use crate::report::{Failure, Report, Terminal};
+use crate::subject::{Subject, Team};
+use std::ffi::OsStr;
+use std::fs;
+use witness::{Run, Why};
+
+const ALL: Opt = Opt {
+    name: "--all",
+    value: None,
+    help: "every step of the run, with no part of it folded",
+};
+const TRACE: Opt = Opt {
+    name: "--trace",
+    value: Some("OUT"),
+    help: "write the run to the file OUT, as a trace for 'bohrali replay'",
+};
+
+pub const COMMAND: Command = Command {
+    name: "why",
+    operands: "FILE A B",
+    count: (3, 3),
+    summary: "the answer with its evidence; for a 0 a finished run, a column a thread",
+    details: &[
+        "A never is told with its rule: the starts and ends of both nodes, or the construct that keeps two
+threads apart, and whether it holds in runs that do not finish too. For a 0 a run is built in which
+two threads are at the nodes together, the moment marked with >>>>>, and which finishes.",
+        "A run is shown only once the proved replay has certified it; its texts are tested. Runs that keep
+the locks are preferred, of these the shortest found. A team has at most 8 threads.",
+        places::HELP,
+        "Of several pairs that two threads can be at together the first is shown with its run, the others
+are named. With --json two node numbers give an object; where A or B is a source line, a list of them.",
+    ],
+    options: &[ALL, TRACE, REGION, SIZE, JSON],
+    run,
+};
+
+fn run(arguments: &Arguments, terminal: &Terminal) -> Result<Report, Failure> {
+    let team = Team::named(arguments)?;
+    let subject = Subject::read(&arguments.operands[0])?;
+    let places = Places::of(&subject, team.region)?;
+    let words: Vec<_> = arguments.operands[1..]
+        .iter()
+        .map(|x| x.to_string_lossy())
+        .collect();
+    let nodes = |word: &str| {
+        places
+            .nodes(word)
+            .map_err(|x| Failure::about(&subject.file, x))
+    };
+    let pairs = places::pairs(&nodes(&words[0])?, &nodes(&words[1])?);
+    let evidence = Evidence::of(&subject, team)?;
+    let all = evidence.all(&pairs)?;
+    let text = match arguments.has(&JSON) {
+        false => texts(&evidence, &all, arguments.has(&ALL), terminal),
+        true => {
+            let mut documents = all.iter().map(|x| evidence.document(x));
+            let one = words.iter().all(|x| places::is_number(x));
+            let document = match one {
+                true => documents.next().unwrap_or(Json::Null),
+                false => Json::List(documents.collect()),
+            };
+            document.document()
+        }
+    };
+    let run = all.iter().find_map(|x| x.run.as_ref());
+    let notes = arguments.value(&TRACE).map(|out| written(out, run));
+    Ok(Report::of(text).with_notes(notes.transpose()?.flatten().into_iter().collect()))
+}
+
+/// Every pair in words, the first that has a run with it.
+fn texts(evidence: &Evidence, all: &[Why], unfolded: bool, terminal: &Terminal) -> String {
+    let first = all.iter().position(|x| x.run.is_some());
+    let texts = all.iter().enumerate().map(|(place, why)| {
+        let why = match first == Some(place) {
+            true => why.clone(),
+            false => Why {
+                run: None,
+                ..why.clone()
+            },
+        };
+        evidence.text(&why, unfolded, terminal)
+    });
+    texts.collect::<Vec<_>>().join("\n")
+}
+
+/// Writes the trace of a run; where there is none, what is said of it.
+fn written(out: &OsStr, run: Option<&Run>) -> Result<Option<String>, Failure> {
+    let file = out.to_string_lossy();
+    let Some(run) = run else {
+        return Ok(Some(format!(
+            "bohrali: {file} is not written: there is no run"
+        )));
+    };
+    let written = fs::write(out, run.bytes());
+    written.map_err(|x| Failure::about(&file, x))?;
+    Ok(None)
+}
