@@ -26,7 +26,7 @@ const TRUST: &str = "\
 What each part can be trusted for:
     answers, verdicts, races, whether a   proved
       trace is a finished run
-    runs that show an answer              certified by the proved replay before they are shown
+    runs that show an answer              certified by a proved call before they are shown
     words of why                          what Phases and the construct records say; tested
     region table                          tested; a table is taken exactly when its chart is admitted
     locks over regions and files          put together of proved answers; tested

@@ -12,10 +12,8 @@ pub enum Error {
     Unread,
     /// A fault: no run was found for a pair that may be met.
     NoRun,
-    /// A fault: a run was found, and the proved replay does not certify it.
+    /// A fault: a run was found, and the proved library does not certify it.
     NotCertified,
-    /// The proved replay could not be asked.
-    Replay(String),
 }
 
 impl From<Refusal> for Error {
@@ -34,10 +32,9 @@ impl fmt::Display for Error {
             Error::NoRun => {
                 f.write_str("fault: the answer is that they may be met, and no run was found")
             }
-            Error::NotCertified => f.write_str(
-                "fault: a run was found that the proved replay does not certify; it is not shown",
-            ),
-            Error::Replay(reason) => write!(f, "the proved replay could not be asked: {reason}"),
+            Error::NotCertified => {
+                f.write_str("fault: a run was found that is not certified; it is not shown")
+            }
         }
     }
 }

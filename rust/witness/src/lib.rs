@@ -2,7 +2,7 @@
 //! rule with its evidence, in words.
 //!
 //! Every answer is the proved library's. A run is built by rules of this crate, which are tested; it is handed out
-//! only once the proved replay has certified it. Words say what Phases and the construct records say.
+//! only once the library has certified it. Words say what Phases and the construct records say.
 
 mod certify;
 mod error;

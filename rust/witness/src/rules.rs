@@ -1,5 +1,5 @@
 //! The team rules, as the planner needs them: what a step of a thread asks for, and what it does. Whether a
-//! run is one by the rules is not for these to say: the proved replay certifies it (`certify`).
+//! run is one by the rules is not for these to say: the proved library certifies it (`certify`).
 
 use crate::view::{Role, View};
 use bohrali::layout::ConstructKind;

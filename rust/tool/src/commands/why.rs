@@ -31,8 +31,8 @@ pub const COMMAND: Command = Command {
         "A never is told with its rule: the starts and ends of both nodes, or the construct that keeps two
 threads apart, and whether it holds in runs that do not finish too. For a 0 a run is built in which
 two threads are at the nodes together, the moment marked with >>>>>, and which finishes.",
-        "A run is shown only once the proved replay has certified it; its texts are tested. Runs that keep
-the locks are preferred, of these the shortest found. A team has at most 8 threads.",
+        "A run is shown only once the proved call bohrali_witnessed has certified it; its texts are tested. Runs
+that keep the locks are preferred, of these the shortest found. A team has at most 8 threads.",
         places::HELP,
         "Of several pairs that two threads can be at together the first is shown with its run, the others
 are named. With --json two node numbers give an object; where A or B is a source line, a list of them.",

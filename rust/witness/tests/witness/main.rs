@@ -1,4 +1,4 @@
-//! Runs and words against the archive, the proved replay, the second implementation and the exploration of team states.
+//! Runs and words against the archive, the second implementation and the exploration of team states.
 
 mod certificate;
 mod generated;

@@ -10,12 +10,11 @@ use witness::view::View;
 use witness::{Witness, Witnesses};
 
 const SEED: u64 = 2_026_111_736;
-/// Of a region with more pairs so many are drawn.
-const PAIRS: usize = 300;
-
 /// What was tried, and how long runs and their making take.
 #[derive(Default)]
 struct Tally {
+    /// Of a region with more pairs so many are drawn.
+    pairs: usize,
     charts: usize,
     runs: usize,
     nevers: usize,
@@ -42,7 +41,7 @@ impl Tally {
         let mut witnesses = Witnesses::new(view);
         let mut planner = Planner::new(view, size.map_or(3, |x| x.0));
         for &(a, b, answer) in &answers {
-            if random.below(answers.len()) >= PAIRS {
+            if random.below(answers.len()) >= self.pairs {
                 continue;
             }
             let began = Instant::now();
@@ -92,9 +91,12 @@ impl Tally {
     }
 }
 
-fn try_charts(count: usize) -> Tally {
+fn try_charts(count: usize, pairs: usize) -> Tally {
     let mut random = Random::new(SEED);
-    let mut tally = Tally::default();
+    let mut tally = Tally {
+        pairs,
+        ..Tally::default()
+    };
     let benchmark = charts::benchmark::all().map(|(_, chart)| chart);
     for chart in files().into_iter().chain(benchmark) {
         tally.chart(&chart, &mut random);
@@ -108,12 +110,12 @@ fn try_charts(count: usize) -> Tally {
 
 #[test]
 fn every_pair_answered_0_has_a_certified_run() {
-    try_charts(40);
+    try_charts(1_000, 30);
 }
 
 #[test]
 #[ignore = "takes minutes"]
-fn over_a_hundred_thousand_pairs() {
-    let tally = try_charts(2_000);
-    assert!(tally.runs > 100_000);
+fn over_a_million_pairs() {
+    let tally = try_charts(10_000, 300);
+    assert!(tally.runs > 1_000_000);
 }
