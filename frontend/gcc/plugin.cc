@@ -1,0 +1,97 @@
+/* GCC plugin: writes the control flow of each function, for each unit a file beside the object. */
+#include "text.h"
+
+int plugin_is_GPL_compatible;
+
+namespace {
+
+flow::text unit;
+bool begun, failed;
+
+/* As GCC names what it writes beside an object: obj/a.o gives obj/a.flow. */
+std::string path()
+{
+    return std::string(aux_base_name) + ".flow";
+}
+
+/* A build goes on without the flow; the reader then knows the unit's routines by name alone. */
+void begin()
+{
+    if (begun) {
+        return;
+    }
+    begun = true;
+    failed = !unit.begin(path(), main_input_filename);
+    if (failed) {
+        inform(UNKNOWN_LOCATION, "bohrali: cannot write %s: %m", path().c_str());
+    }
+}
+
+const pass_data description = {
+    GIMPLE_PASS, "flow", OPTGROUP_NONE, TV_NONE, PROP_gimple_any | PROP_cfg, 0, 0, 0, 0};
+
+class pass : public gimple_opt_pass {
+public:
+    pass() : gimple_opt_pass(description, g) {}
+
+    bool gate(function *) final override { return !seen_error(); }
+
+    unsigned execute(function *fn) final override
+    {
+        begin();
+        if (!failed) {
+            unit.write(fn, flow::graph(fn));
+        }
+        return 0;
+    }
+};
+
+/* Other names of a routine: constructors that are one, and the attribute alias. */
+void write_aliases(void *, void *)
+{
+    /* At link time the flows are there already. */
+    if (in_lto_p) {
+        return;
+    }
+    begin();
+    symtab_node *node;
+    FOR_EACH_SYMBOL (node) {
+        if (failed || !node->alias || TREE_CODE(node->decl) != FUNCTION_DECL) {
+            continue;
+        }
+        symtab_node *target = node->ultimate_alias_target();
+        if (target && target != node) {
+            unit.alias(node->decl, target->decl);
+        }
+    }
+}
+
+void finish(void *, void *)
+{
+    if (!begun || failed) {
+        return;
+    }
+    if (!unit.end() || seen_error()) {
+        remove(path().c_str());
+    }
+}
+
+}
+
+int plugin_init(plugin_name_args *info, plugin_gcc_version *version)
+{
+    if (!plugin_default_version_check(version, &gcc_version)) {
+        error("bohrali: this plugin is built for gcc %s, the compiler is %s", gcc_version.basever,
+              version->basever);
+        return 1;
+    }
+    register_pass_info place;
+    place.pass = new pass();
+    place.reference_pass_name = "ompexp";
+    place.ref_pass_instance_number = 1;
+    place.pos_op = PASS_POS_INSERT_BEFORE;
+    register_callback(info->base_name, PLUGIN_PASS_MANAGER_SETUP, NULL, &place);
+    register_callback(info->base_name, PLUGIN_ALL_IPA_PASSES_START, write_aliases, NULL);
+    register_callback(info->base_name, PLUGIN_FINISH_UNIT, finish, NULL);
+    return 0;
+}
