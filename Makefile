@@ -1,9 +1,10 @@
 # make            prove the library and build it: target/staticlib/libbohrali.a, target/lib/libbohrali.so
 # make demo       the same, then show a chart's answers and judge claims on it
 # make test       the gate: all proofs, must-fail edits and tests
+# make frontend   the gcc plugin that writes control flow, and the wrappers bohrali-gcc, bohrali-g++, bohrali-gfortran: target/frontend
 # make bench      the library's times by those of hand-written Rust
 # make bench-against BEFORE=path/to/libbohrali.a    by those of another build of it
-# make install    header, archive, shared library and bohrali.pc, below PREFIX
+# make install    header, archive, shared library and bohrali.pc, and the front end if it is built, below PREFIX
 PREFIX ?= /usr/local
 VERSION := 1.0.0
 SONAME := libbohrali.so.$(firstword $(subst ., ,$(VERSION)))
@@ -13,7 +14,7 @@ SHARED := target/lib/libbohrali.so.$(VERSION)
 SOURCES := crates.txt $(wildcard crates/*/src/*.rt crates/*/specs/*.antt)
 CFLAGS ?= -O2 -Wall -Wextra -Werror
 
-.PHONY: all demo test bench bench-against install clean
+.PHONY: all demo test frontend bench bench-against install clean
 
 all: $(ARCHIVE) $(SHARED)
 
@@ -45,6 +46,9 @@ demo: all target/judge
 test:
 	.ci/run
 
+frontend:
+	$(MAKE) -C frontend/gcc
+
 bench: $(ARCHIVE) $(REPLAY)
 	cd rust && cargo run --offline --locked --quiet --release -p bench
 
@@ -58,6 +62,10 @@ install: $(ARCHIVE) $(SHARED)
 	install -m 644 $(ARCHIVE) $(DESTDIR)$(PREFIX)/lib
 	install -m 755 $(SHARED) $(DESTDIR)$(PREFIX)/lib
 	cp -P target/lib/$(SONAME) target/lib/libbohrali.so $(DESTDIR)$(PREFIX)/lib
+	if [ -d target/frontend ]; then \
+	    install -d $(DESTDIR)$(PREFIX)/bin $(DESTDIR)$(PREFIX)/lib/bohrali && \
+	    install -m 755 target/frontend/bohrali-* $(DESTDIR)$(PREFIX)/bin && \
+	    install -m 644 target/frontend/flow-*.so $(DESTDIR)$(PREFIX)/lib/bohrali; fi
 	sed -e 's|@PREFIX@|$(PREFIX)|' -e 's|@VERSION@|$(VERSION)|' bohrali.pc.in > $(DESTDIR)$(PREFIX)/lib/pkgconfig/bohrali.pc
 
 clean:

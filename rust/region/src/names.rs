@@ -35,7 +35,7 @@ pub struct Names(BTreeMap<u16, String>);
 impl Names {
     /// Numbers for the names of criticals in the order of their constructs: a word gets the lowest from 1
     /// that no critical has as a number.
-    pub(crate) fn number(names: &[Name]) -> (Names, Vec<u16>) {
+    pub fn number(names: &[Name]) -> (Names, Vec<u16>) {
         let taken: BTreeSet<u16> = names.iter().filter_map(Name::as_number).collect();
         let mut free = (1..=u16::MAX).filter(|x| !taken.contains(x));
         let mut words = BTreeMap::new();

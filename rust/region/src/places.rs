@@ -32,7 +32,7 @@ impl Lines {
     }
 
     /// Whether some line is common. A file may be named by the end of its path alone.
-    fn shares(&self, other: &Lines) -> bool {
+    pub fn shares(&self, other: &Lines) -> bool {
         let in_file = match other.file.strip_suffix(self.file.as_str()) {
             Some(folder) => folder.is_empty() || folder.ends_with(['/', '\\']),
             None => false,

@@ -13,7 +13,8 @@ Can two threads of one OpenMP team be at two places of a parallel region togethe
 finishes?
 
 FILE is a region table (docs/REGION-TABLE.md), a chart or a listing, told by content; - is standard
-input. A node is named by its number, or by a source line as file.c:12.";
+input. A node is named by its number, or by a source line as file.c:12. DIR is a directory of region
+tables, made of a compiled program by 'regions'.";
 
 const STATUS: &str = "\
 Results go to standard output, messages to standard error. The status is
@@ -30,6 +31,7 @@ What each part can be trusted for:
     words of why                          what Phases and the construct records say; tested
     region table                          tested; a table is taken exactly when its chart is admitted
     locks over regions and files          put together of proved answers; tested
+    charts from source                    tested: expected answers
     this command                          shows library bytes; decides nothing";
 
 /// The help for all.

@@ -14,6 +14,7 @@ mod places;
 mod program;
 mod report;
 mod subject;
+mod tables;
 mod trace;
 mod words;
 

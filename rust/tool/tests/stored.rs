@@ -41,7 +41,10 @@ fn shown(text: &str) -> String {
     let temporary = format!("{}/", env!("CARGO_TARGET_TMPDIR"));
     let charts = chart("s").with_file_name("");
     let charts = charts.to_str().expect("a path that is text");
-    text.replace(&temporary, "").replace(charts, "charts/")
+    let flows = concat!(env!("CARGO_MANIFEST_DIR"), "/../frontend/tests/flows/");
+    text.replace(&temporary, "")
+        .replace(charts, "charts/")
+        .replace(flows, "flows/")
 }
 
 #[test]
@@ -60,6 +63,8 @@ fn help() {
         "replay",
         "convert",
         "tidy",
+        "regions",
+        "ask",
     ];
     compare("help", &[&["--help"], &["--version"]]);
     let each: Vec<Vec<&str>> = commands.iter().map(|x| vec![*x, "--help"]).collect();
@@ -353,6 +358,45 @@ fn mistyped_words() {
             &["sheet"],
             &["pair", TABLE, "1", "2", "3"],
             &["help", "loks"],
+        ],
+    );
+}
+
+/// A whole program, from the flow of its units on.
+#[test]
+fn programs() {
+    let flows = Path::new(env!("CARGO_MANIFEST_DIR")).join("../frontend/tests/flows/O2");
+    let flow = |name: &str| flows.join(name).to_str().expect("text").to_string();
+    let folder = folder("programs");
+    let tables = folder.join("tables");
+    let tables = tables.to_str().expect("a path that is text");
+    let claims = file(
+        &folder,
+        "claims",
+        "never h1.c:21 h1.c:27\nnever h1.c:21 h1.c:21\n",
+    );
+    let unanswered = file(&folder, "unanswered", "never h5.c:49 h5.c:50\n");
+    let wrong = file(&folder, "cut.flow", "bohrali-flow 1\nunit a.c\n");
+    let [hand, calls, locks] =
+        ["h1.c", "h5.c", "locks1.c"].map(|x| flow(&format!("hand/{x}.flow")));
+    compare(
+        "programs",
+        &[
+            &["regions", &hand, &calls, &locks, "-o", tables],
+            &["locks", tables],
+            &["locks", "--strict", "--json", tables],
+            &["ask", "h1.c:21", "h1.c:27", tables],
+            &["ask", "hand/h1.c:21", "h1.c:21", tables],
+            &["ask", "h5.c:49", "h5.c:50", tables],
+            &["ask", "h1.c:21", "h5.c:50", tables],
+            &["ask", "--json", "h1.c:23", "h1.c:23", tables],
+            &["ask", "h1.c", "h1.c:21", tables],
+            &["judge", tables, &claims],
+            &["judge", tables, &unanswered],
+            &["judge", "--size", "2", tables, &claims],
+            &["regions", &wrong, "no-such.flow", "-o", tables],
+            &["regions", &hand],
+            &["regions", &hand, "-o", "."],
         ],
     );
 }

@@ -8,19 +8,22 @@ use crate::lines::{self, Line};
 use crate::places::{self, Places};
 use crate::report::{Failure, Report, Terminal, FOUND, GOOD};
 use crate::subject::{self, Subject, Team};
+use crate::tables;
 use crate::words::{self, count};
+use frontend::{ask, Directory, Finding, Verdict};
 use region::load::MOST_BYTES;
-use region::quoted;
+use region::{quoted, Lines};
 
 pub const COMMAND: Command = Command {
     name: "judge",
-    operands: "FILE CLAIMS",
+    operands: "FILE|DIR CLAIMS",
     count: (2, 2),
     summary: "whether all claims of a list hold, or the first that does not",
     details: &[
         "CLAIMS is a text with a line for each claim, 'never PLACE PLACE': no run that finishes has two
 threads at the two places together. '#' begins a comment. A place that has no node is an error.",
         places::HELP,
+        tables::HELP,
     ],
     options: &[WHY, REGION, SIZE, JSON],
     run,
@@ -37,6 +40,9 @@ struct Claim<'a> {
 type Asked<'a> = (&'a Claim<'a>, (u8, u8));
 
 fn run(arguments: &Arguments, terminal: &Terminal) -> Result<Report, Failure> {
+    if let Some(directory) = tables::named(arguments)? {
+        return judge_program(&directory, arguments);
+    }
     let team = Team::named(arguments)?;
     let subject = Subject::read(&arguments.operands[0])?;
     let places = Places::of(&subject, team.region)?;
@@ -71,7 +77,8 @@ fn run(arguments: &Arguments, terminal: &Terminal) -> Result<Report, Failure> {
     }))
 }
 
-fn claim<'a>(places: &Places, line: &Line<'a>) -> Result<Claim<'a>, String> {
+/// The two words of a claim.
+fn claimed<'a>(line: &Line<'a>) -> Result<[&'a str; 2], String> {
     let words: Vec<&str> = line.text.split_whitespace().collect();
     let [word, one, other] = words[..] else {
         return Err(format!(
@@ -79,14 +86,72 @@ fn claim<'a>(places: &Places, line: &Line<'a>) -> Result<Claim<'a>, String> {
             quoted(line.text)
         ));
     };
-    if word != "never" {
-        return Err(format!("{} found, 'never' expected", quoted(word)));
+    match word {
+        "never" => Ok([one, other]),
+        _ => Err(format!("{} found, 'never' expected", quoted(word))),
     }
+}
+
+fn claim<'a>(places: &Places, line: &Line<'a>) -> Result<Claim<'a>, String> {
+    let [one, other] = claimed(line)?;
     Ok(Claim {
         line: line.number,
         text: line.text,
         pairs: places::pairs(&places.nodes(one)?, &places.nodes(other)?),
     })
+}
+
+/// Claims about the source places of a program: all are asked, and one without an answer is an error.
+fn judge_program(directory: &Directory, arguments: &Arguments) -> Result<Report, Failure> {
+    let file = arguments.operands[1].to_string_lossy();
+    let bytes = subject::bytes(&arguments.operands[1], MOST_BYTES)?;
+    let lines = lines::of(&file, &bytes)?;
+    let source = |word: &str| {
+        Lines::read(word).ok_or_else(|| format!("{} found, FILE:LINE expected", quoted(word)))
+    };
+    let asked = lines::each(&file, &lines, |line| {
+        let [one, other] = claimed(line)?;
+        let asked = ask(directory, [&source(one)?, &source(other)?], &tables::source);
+        let is_so = |x: &&Finding| x.verdict == asked.verdict;
+        let why = asked.findings.iter().find(is_so).map_or_else(
+            || "no region has code of both places".into(),
+            |x| super::ask::found(directory, x),
+        );
+        match asked.verdict {
+            Verdict::NoAnswer => Err(format!("'{}' has no answer: {why}", line.text)),
+            Verdict::Never => Ok(None),
+            Verdict::Together => Ok(Some((line.number, line.text, why))),
+        }
+    })?;
+    let failed = asked.iter().flatten().next();
+    let text = match (arguments.has(&JSON), failed) {
+        (true, _) => program_document(&arguments.operands[0].to_string_lossy(), failed),
+        (false, Some((line, claim, why))) => {
+            format!("{file}: line {line}: '{claim}' does not hold\n    {why}\n")
+        }
+        (false, None) => format!(
+            "{file}: {} hold\n\n{}",
+            count(asked.len(), "claim"),
+            tables::WHEN
+        ),
+    };
+    Ok(Report::of(text).with_status(match failed {
+        Some(_) => FOUND,
+        None => GOOD,
+    }))
+}
+
+fn program_document(folder: &str, failed: Option<&(usize, &str, String)>) -> String {
+    let mut fields = vec![
+        ("file", Json::text(folder)),
+        ("holds", Json::Bool(failed.is_none())),
+    ];
+    if let Some((line, claim, why)) = failed {
+        fields.push(("line", Json::Number(*line)));
+        fields.push(("claim", Json::text(*claim)));
+        fields.push(("reason", Json::text(why)));
+    }
+    Json::Object(fields).document()
 }
 
 fn held(file: &str, claims: usize, pairs: usize) -> String {

@@ -1,12 +1,13 @@
 //! `bohrali locks`: which criticals need their lock.
 
-use super::Command;
+use super::{program_locks, Command};
 use crate::arguments::{Arguments, Opt, JSON, REGION, SIZE, WHY};
 use crate::critical::{self, Critical, Lock, Reason};
 use crate::evidence::Evidence;
 use crate::json::Json;
 use crate::report::{Colour, Failure, Report, Terminal, FOUND, GOOD};
 use crate::subject::{Subject, Team};
+use crate::tables;
 use crate::words::{self, count};
 use witness::Why;
 
@@ -23,7 +24,7 @@ const ONE_TEAM: Opt = Opt {
 
 pub const COMMAND: Command = Command {
     name: "locks",
-    operands: "FILE..",
+    operands: "FILE.. | DIR",
     count: (1, usize::MAX),
     summary: "each critical: its lock can go, or the pair that needs it",
     details: &[
@@ -33,6 +34,9 @@ All locks that can go may go at once. A critical that has one of its own name ar
         "Criticals of one name in several files share their lock, and what teams of different files do at the
 same time no file says: such locks are needed, unless --one-team-at-a-time is given. A name that is a
 number in one file may be any name of another.",
+        "Of a DIR each critical of the program is told once: its lock can go where every chart that has it says so
+and none of its name is in a task, in code that the charts leave out, or in a routine that is not opened.",
+        tables::HELP,
         "The answers are proved. What is put together of them here, over the regions around two criticals and
 over several files, is tested.",
         "With --size the team of --region, the outermost if not given, has just that size; teams of all other
@@ -44,6 +48,10 @@ for another critical around it or in another file.",
 };
 
 fn run(arguments: &Arguments, terminal: &Terminal) -> Result<Report, Failure> {
+    if let Some(directory) = tables::named(arguments)? {
+        let flags = [arguments.has(&STRICT), arguments.has(&JSON)];
+        return program_locks::run(directory, flags, terminal);
+    }
     let team = Team::named(arguments)?;
     if arguments.has(&REGION) && team.size.is_none() {
         let message =

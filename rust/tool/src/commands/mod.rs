@@ -1,5 +1,6 @@
 //! The commands, a module each.
 
+mod ask;
 mod check;
 mod convert;
 mod diff;
@@ -8,7 +9,9 @@ mod judge;
 mod locks;
 mod pair;
 mod phases;
+mod program_locks;
 mod races;
+mod regions;
 mod replay;
 mod sheet;
 mod tidy;
@@ -32,7 +35,7 @@ pub struct Command {
 }
 
 /// All commands, in the order in which one needs them.
-pub const COMMANDS: [&Command; 13] = [
+pub const COMMANDS: [&Command; 15] = [
     &check::COMMAND,
     &sheet::COMMAND,
     &pair::COMMAND,
@@ -46,6 +49,8 @@ pub const COMMANDS: [&Command; 13] = [
     &replay::COMMAND,
     &convert::COMMAND,
     &tidy::COMMAND,
+    &regions::COMMAND,
+    &ask::COMMAND,
 ];
 
 /// The command of this name.

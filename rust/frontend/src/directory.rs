@@ -1,0 +1,154 @@
+//! A directory of region tables: for each region NAME.csv, and NAME.txt with its notes; program.txt for the
+//! program as a whole, with the names of all tables, so that none is missed and no old one is read.
+
+use crate::notes::{Key, Notes};
+use crate::problem::Problem;
+use crate::regions::RegionChart;
+use region::load::{self, Loaded, MOST_BYTES};
+use std::fs;
+use std::io;
+use std::path::{Path, PathBuf};
+
+const PROGRAM: &str = "program.txt";
+
+/// A region of a directory.
+#[derive(Debug)]
+pub struct Held {
+    pub name: String,
+    pub table: PathBuf,
+    /// None where the notes say why.
+    pub loaded: Option<Loaded>,
+    pub notes: Notes,
+}
+
+#[derive(Debug)]
+pub struct Directory {
+    pub regions: Vec<Held>,
+    /// Of the program as a whole.
+    pub notes: Notes,
+}
+
+/// Whether there is such a directory at a path.
+pub fn is_directory(path: &Path) -> bool {
+    path.join(PROGRAM).is_file()
+}
+
+/// Writes the tables of a program, in place of those that were written there before.
+pub fn write(path: &Path, regions: &[RegionChart], notes: &Notes) -> Result<(), Problem> {
+    let failed = |path: &Path, error: io::Error| {
+        Problem::whole(
+            &path.display().to_string(),
+            format!("cannot be written: {error}"),
+        )
+    };
+    clear(path)?;
+    fs::create_dir_all(path).map_err(|x| failed(path, x))?;
+    let put = |name: String, text: String| {
+        let file = path.join(name);
+        fs::write(&file, text).map_err(|x| failed(&file, x))
+    };
+    // First, so that what is half written is known for what it is.
+    put(PROGRAM.into(), notes.write())?;
+    for region in regions {
+        if let Some(table) = &region.table {
+            put(format!("{}.csv", region.name), table.write())?;
+        }
+        put(format!("{}.txt", region.name), region.notes.write())?;
+    }
+    Ok(())
+}
+
+/// Takes away what an earlier run wrote; a directory of anything else is left alone.
+fn clear(path: &Path) -> Result<(), Problem> {
+    let name = path.display().to_string();
+    let is_empty = match fs::read_dir(path) {
+        Ok(mut entries) => entries.next().is_none(),
+        Err(error) if error.kind() == io::ErrorKind::NotFound => true,
+        Err(error) => return Err(Problem::whole(&name, format!("cannot be read: {error}"))),
+    };
+    if is_empty {
+        return Ok(());
+    }
+    let program = path.join(PROGRAM);
+    if !is_directory(path) {
+        let message = "holds files and no program.txt, so it is none of region tables; name one that is new or empty";
+        return Err(Problem::whole(&name, message));
+    }
+    let notes = read_notes(&program)?;
+    for note in notes.of(Key::Table) {
+        for ending in ["csv", "txt"] {
+            let file = path.join(format!("{}.{ending}", safe(&program, &note.subject)?));
+            match fs::remove_file(&file) {
+                Err(error) if error.kind() != io::ErrorKind::NotFound => {
+                    let message = format!("cannot be replaced: {error}");
+                    return Err(Problem::whole(&file.display().to_string(), message));
+                }
+                _ => {}
+            }
+        }
+    }
+    Ok(())
+}
+
+/// The name of a table, which leads nowhere else.
+fn safe<'a>(program: &Path, name: &'a str) -> Result<&'a str, Problem> {
+    let is_name = !name.is_empty() && !name.starts_with('.') && !name.contains(['/', '\\']);
+    let wrong = || {
+        let message = format!("'{name}' is no name of a table");
+        Problem::whole(&program.display().to_string(), message)
+    };
+    is_name.then_some(name).ok_or_else(wrong)
+}
+
+fn read_notes(path: &Path) -> Result<Notes, Problem> {
+    let name = path.display().to_string();
+    let bytes = load::bytes(path, MOST_BYTES).map_err(|x| Problem::whole(&name, x))?;
+    Notes::read(&name, &bytes)
+}
+
+impl Directory {
+    /// All tables with their notes, or all that is wrong with them.
+    pub fn read(path: &Path) -> Result<Directory, Vec<Problem>> {
+        let program = path.join(PROGRAM);
+        let notes = read_notes(&program).map_err(|x| vec![x])?;
+        let mut problems = Vec::new();
+        let mut regions = Vec::new();
+        for note in notes.of(Key::Table) {
+            let held =
+                safe(&program, &note.subject).and_then(|name| held(path, name, &note.reason));
+            match held {
+                Ok(held) => regions.push(held),
+                Err(problem) => problems.push(problem),
+            }
+        }
+        if problems.is_empty() {
+            Ok(Directory { regions, notes })
+        } else {
+            Err(problems)
+        }
+    }
+
+    /// The notes of all regions and of the program.
+    pub fn all_notes(&self) -> impl Iterator<Item = &crate::notes::Note> {
+        let of_regions = self.regions.iter().flat_map(|x| x.notes.iter());
+        of_regions.chain(self.notes.iter())
+    }
+}
+
+fn held(path: &Path, name: &str, reason: &str) -> Result<Held, Problem> {
+    let table = path.join(format!("{name}.csv"));
+    let shown = table.display().to_string();
+    let loaded = if reason.is_empty() {
+        let bytes = load::bytes(&table, MOST_BYTES).map_err(|x| Problem::whole(&shown, x))?;
+        let loaded = load::region(&bytes).map_err(|x| Problem::whole(&shown, x.to_string()))?;
+        Some(loaded)
+    } else {
+        None
+    };
+    Ok(Held {
+        name: name.into(),
+        table,
+        loaded,
+        notes: read_notes(&path.join(format!("{name}.txt")))?,
+    })
+}
