@@ -14,19 +14,19 @@ use Rattle.lists.specs.Range.{any-at, at-any}
 use Rattle.lists.specs.Mask.{Has, has-none}
 use Rattle.lists.specs.Bits.{has}
 use Rattle.chart.specs.Region.{critical, Region}
-use Rattle.answers.specs.Answer.{isIn}
-use Rattle.answers.specs.AnswerLaws.{in-of}
-use Rattle.answers.specs.Numbers.{asked}
-use Rattle.answers.specs.declared.Size.{Size}
-use Rattle.locks.specs.Locks.{isCritical, inNamed, somePair, needed, everNeeded, lockByte}
-use Rattle.locks.specs.LocksLaws.{critical-of}
-use Rattle.loading.specs.Tables.{Closed}
-use Rattle.profiles.specs.Marks.{Sized, heldIn, Marks}
-use Rattle.profiles.specs.declared.chains.Sets.{Sets}
-use Rattle.pairs.specs.Rules.{profileAt}
-use Rattle.critical_names.specs.Names.{Names, InCriticals}
-use Rattle.met_nodes.specs.Meets.{unbarred, meets}
-use Rattle.met_nodes.proofs.Meeting.{met-by, unbarred-by}
+use Rattle.theory_answers.specs.Answer.{isIn}
+use Rattle.theory_answers.specs.AnswerLaws.{in-of}
+use Rattle.theory_answers.specs.Numbers.{asked}
+use Rattle.theory_answers.specs.declared.Size.{Size}
+use Rattle.theory_calls.specs.Locks.{isCritical, inNamed, somePair, needed, everNeeded, lockByte}
+use Rattle.theory_calls.specs.LocksLaws.{critical-of}
+use Rattle.mark_tables.specs.Tables.{Closed}
+use Rattle.answer_constructs.specs.Marks.{Sized, heldIn, Marks}
+use Rattle.answer_constructs.specs.declared.chains.Sets.{Sets}
+use Rattle.answer_pairs.specs.Rules.{profileAt}
+use Rattle.answer_names.specs.Names.{Names, InCriticals}
+use Rattle.answer_met.specs.Meets.{unbarred, meets}
+use Rattle.answer_met.proofs.Meeting.{met-by, unbarred-by}
 use Rattle.answer_locks.specs.Fitting.{Fitting}
 use Rattle.answer_locks.specs.Search.{partner, pairs, somePair as somePairBy, Searched}
 use Rattle.answer_locks.specs.Bytes.{byteBy}

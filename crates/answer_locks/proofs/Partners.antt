@@ -14,11 +14,11 @@ use Rattle.lists.specs.Range.{any-at, at-any}
 use Rattle.lists.specs.Mask.{Has, maskOf, mask-of}
 use Rattle.lists.specs.Bits.{has, has-below}
 use Rattle.lists.specs.Common.{common}
-use Rattle.unions.specs.declared.Words.{Words}
-use Rattle.nodesets.specs.Gathered.{having}
-use Rattle.nodesets.specs.Shared.{common-of}
-use Rattle.sheet_rows.proofs.RowSets.{three-words}
-use Rattle.met_nodes.specs.Meets.{SetFrom, NodeSet, Named}
+use Rattle.masks.specs.declared.unions.Words.{Words}
+use Rattle.answer_sheet.specs.Gathered.{having}
+use Rattle.answer_sheet.specs.Shared.{common-of}
+use Rattle.answer_sheet.proofs.RowSets.{three-words}
+use Rattle.answer_met.specs.Meets.{SetFrom, NodeSet, Named}
 use Rattle.answer_locks.specs.Search.{hasNamed, partner}
 
 module _ (closed names : List ℕ) (test : ℕ → Bool) (c : ℕ) where

@@ -9,13 +9,13 @@ use lib.Dec.{eqb, leb}
 use lib.ListN.{getD}
 use Rattle.lists.specs.Common.{common}
 use Rattle.chart.specs.Region.{Region}
-use Rattle.answers.specs.Answer.{answer, lacksThread, answerIn, answerFor}
-use Rattle.answers.specs.declared.Size.{Size}
-use Rattle.answers.specs.declared.Size.the-variants.{Any, Of}
-use Rattle.exact.specs.Barred.{isBarred, isBarredIn, isBarredFor}
-use Rattle.profiles.specs.Marks.{Sized, heldIn, Marks}
-use Rattle.profiles.specs.declared.chains.Sets.{Sets}
-use Rattle.pairs.specs.Rules.{lacks-by, lacks-none}
+use Rattle.theory_answers.specs.Answer.{answer, lacksThread, answerIn, answerFor}
+use Rattle.theory_answers.specs.declared.Size.{Size}
+use Rattle.theory_answers.specs.declared.Size.the-variants.{Any, Of}
+use Rattle.theory_exact.specs.Barred.{isBarred, isBarredIn, isBarredFor}
+use Rattle.answer_constructs.specs.Marks.{Sized, heldIn, Marks}
+use Rattle.answer_constructs.specs.declared.chains.Sets.{Sets}
+use Rattle.answer_pairs.specs.Rules.{lacks-by, lacks-none}
 use Rattle.answer_locks.specs.Fitting.{lacking}
 
 -- no thread of such a team that another can meet is at x

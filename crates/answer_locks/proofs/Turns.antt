@@ -13,11 +13,11 @@ use Rattle.lists.specs.Truth.{truth, clash, false-if, and-both, both-and, and-f
 use Rattle.lists.specs.Range.{any, any-next}
 use Rattle.lists.specs.Mask.{has-none}
 use Rattle.lists.specs.Bits.{has}
-use Rattle.sheet_rows.proofs.Ranks.{has-or}
-use Rattle.pairs.specs.Rules.{profileAt}
-use Rattle.pairs.specs.declared.rules.Profile.{Profile}
-use Rattle.unions.specs.declared.Words.{Words}
-use Rattle.met_nodes.specs.Meets.{unbarred, meets, NodeSet, Named}
+use Rattle.answer_sheet.proofs.Ranks.{has-or}
+use Rattle.answer_pairs.specs.Rules.{profileAt}
+use Rattle.answer_pairs.specs.declared.rules.Profile.{Profile}
+use Rattle.masks.specs.declared.unions.Words.{Words}
+use Rattle.answer_met.specs.Meets.{unbarred, meets, NodeSet, Named}
 use Rattle.answer_locks.specs.Search.{hasNamed, partner, pairs, somePair, Skips, shut, bare, again, Covers, Kept, Adds, Tries, Searched}
 use Rattle.answer_locks.specs.declared.search.Tried.{Tried}
 use Rattle.answer_locks.proofs.Partners.{partner-by, partner-more}

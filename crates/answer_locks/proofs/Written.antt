@@ -19,18 +19,18 @@ use Rattle.chart.proofs.Reading.{begin}
 use Rattle.chart.proofs.Records.{nodes-length, constructs-length}
 use Rattle.chart.proofs.RegionFacts.{Counts}
 use Rattle.chart.proofs.Tables.{lies}
-use Rattle.answers.specs.Numbers.{node-asked}
-use Rattle.answers.specs.declared.Size.{Size}
-use Rattle.exact.specs.Constructs.{inside-open}
-use Rattle.locks.specs.Locks.{isCritical, lockByte, locksResult}
-use Rattle.locks.specs.LocksLaws.{critical-of}
-use Rattle.loading.specs.Tables.{Accepted, Closed}
-use Rattle.loading.proofs.Accepted.{tables}
-use Rattle.profiles.specs.Marks.{Sized, heldIn, Marks}
-use Rattle.profiles.specs.declared.chains.Sets.{Sets}
-use Rattle.profiles.proofs.Facts.{few, is-read}
-use Rattle.critical_names.specs.Names.{Given, Spread, Criticals, InCriticals}
-use Rattle.critical_names.proofs.Peers.{spread-names}
+use Rattle.theory_answers.specs.Numbers.{node-asked}
+use Rattle.theory_answers.specs.declared.Size.{Size}
+use Rattle.theory_exact.specs.Constructs.{inside-open}
+use Rattle.theory_calls.specs.Locks.{isCritical, lockByte, locksResult}
+use Rattle.theory_calls.specs.LocksLaws.{critical-of}
+use Rattle.mark_tables.specs.Tables.{Accepted, Closed}
+use Rattle.mark_tables.proofs.Accepted.{tables}
+use Rattle.answer_constructs.specs.Marks.{Sized, heldIn, Marks}
+use Rattle.answer_constructs.specs.declared.chains.Sets.{Sets}
+use Rattle.answer_constructs.proofs.Facts.{few, is-read}
+use Rattle.answer_names.specs.Names.{Given, Spread, Criticals, InCriticals}
+use Rattle.answer_names.proofs.Peers.{spread-names}
 use Rattle.answer_locks.specs.Fitting.{Fitting}
 use Rattle.answer_locks.specs.Search.{Searched}
 use Rattle.answer_locks.specs.Bytes.{Put}

@@ -9,10 +9,10 @@ use lib.ListN.{getD}
 use Rattle.lists.specs.Range.{any}
 use Rattle.lists.specs.Bits.{has}
 use Rattle.lists.specs.Common.{common}
-use Rattle.unions.specs.declared.Words.{Words}
-use Rattle.pairs.specs.Rules.{profileAt}
-use Rattle.pairs.specs.declared.rules.Profile.{Profile}
-use Rattle.met_nodes.specs.Meets.{unbarred, meets}
+use Rattle.masks.specs.declared.unions.Words.{Words}
+use Rattle.answer_pairs.specs.Rules.{profileAt}
+use Rattle.answer_pairs.specs.declared.rules.Profile.{Profile}
+use Rattle.answer_met.specs.Meets.{unbarred, meets}
 use Rattle.answer_locks.specs.declared.search.Tried.{Tried}
 
 -- A node of the set has bit c of the names.

@@ -4,7 +4,7 @@ ghost use Prim.Native.Nat.{_≤_, _<_};
 ghost use lib.ListN.{length};
 ghost use Rattle.answer_locks.specs.Bytes.{byteBy, Put};
 use crate::search::Tried;
-use bits::has;
+use masks::bits::has;
 
 // The lock is needed; it can be dropped as far as finished runs go; in every run.
 const NEEDED: u8 = 0;

@@ -5,13 +5,13 @@ ghost use mathlib.Core.Bool.{_&&_, not};
 ghost use Prim.Native.Nat.{_≤_};
 ghost use lib.Dec.{eqb};
 ghost use lib.ListN.{length};
-ghost use Rattle.profiles.specs.Marks.{heldIn};
+ghost use Rattle.answer_constructs.specs.Marks.{heldIn};
 ghost use Rattle.answer_locks.specs.Fitting.{lacking, Fitting};
-use bits::common;
+use answer_constructs::chains::Sets;
+use answer_constructs::marks::HELD;
+use answer_constructs::marks::MaskTable;
 use chart::format::Chart;
-use profiles::chains::Sets;
-use profiles::marks::HELD;
-use profiles::marks::MaskTable;
+use masks::bits::common;
 
 // The flag of a node that holds this.
 fn shut_flag(closed: u8, held: u64, sets: Sets) -> u8

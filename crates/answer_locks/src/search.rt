@@ -4,22 +4,22 @@ ghost use mathlib.Core.Bool.{true, false, _&&_};
 ghost use mathlib.Core.List.{List};
 ghost use Prim.Native.Nat.{ℕ, _≤_, _<_};
 ghost use Rattle.lists.specs.Bits.{has};
-ghost use Rattle.sheet_rows.specs.Sheet.{InSets};
-ghost use Rattle.met_nodes.specs.Meets.{Named};
+ghost use Rattle.answer_sheet.specs.Sheet.{InSets};
+ghost use Rattle.answer_met.specs.Meets.{Named};
 ghost use Rattle.answer_locks.specs.Search.{hasNamed, Skips, Kept, Tries, Searched};
-use bits::common;
-use bits::lowest;
+use answer_constructs::marks::MaskTable;
+use answer_constructs::peers::add_if;
+use answer_met::NameSets;
+use answer_met::met_nodes;
+use answer_met::unbarred_nodes;
+use answer_pairs::rules::Profile;
+use answer_pairs::rules::profile_of;
+use answer_pairs::rules::same;
+use answer_sheet::rows::NodeSets;
 use chart::format::Chart;
-use met_nodes::NameSets;
-use met_nodes::met_nodes;
-use met_nodes::unbarred_nodes;
-use pairs::rules::Profile;
-use pairs::rules::profile_of;
-use pairs::rules::same;
-use profiles::marks::MaskTable;
-use profiles::peers::add_if;
-use sheet_rows::NodeSets;
-use unions::Words;
+use masks::bits::common;
+use masks::bits::lowest;
+use masks::unions::Words;
 
 // Whether a node of the set has bit c of the names.
 fn has_named(set: Words, c: usize, named: &NameSets) -> bool

@@ -1,50 +1,51 @@
-// The calls in C. A slice is a pointer and a length there; each call returns one signed number. Each but Admit and those that write a
-// chart names a region of the chart, by the number of a parallel or by 255 for the outermost one; any other number is refused. Those that end in `_sized` are for teams of
-// just so many threads (02, Note 10), from 1 to 1,024. The last part of each contract is demand 2, of
-// Judge's demand 3: what the number and the lent bytes say in paths, barriers and constructs, and about finished runs.
+// The calls in C. A slice is a pointer and a length there; each call returns one signed number. Each but Admit and those that write or change a
+// chart names a region of the chart, by the number of a parallel or by 255 for the outermost one; any other number is refused. Those that end in
+// `_sized` are for teams of just so many threads (02, Note 10), from 1 to 1,024. A contract has one equation for the number and one for each lent
+// buffer. Its last part says what they mean, in paths, barriers, constructs and runs: demand 3 for Judge, demand 2 for 01's other calls, and for
+// the rest what is asked of them.
 ghost use mathlib.Core.Path.{_≡_};
-ghost use Rattle.admission.specs.Admission.{admitted, numberOf as Admission·numberOf};
+ghost use Rattle.theory_calls.specs.Admission.{admitted, numberOf as Admission·numberOf};
+ghost use Rattle.theory_calls.specs.Distances.{distancesWritten, distancesLeft};
+ghost use Rattle.theory_calls.specs.Races.{racesWritten, racesLeft};
+ghost use Rattle.theory_calls.specs.Locks.{locksWrittenFor, locksLeftFor};
+ghost use Rattle.theory_calls.specs.Phases.{phasesWritten, phasesLeft};
+ghost use Rattle.theory_calls.specs.Sheet.{sheetWritten, sheetLeft, sheetWrittenFor, sheetLeftFor};
+ghost use Rattle.theory_calls.specs.Pair.{pairAnswered, pairAnsweredFor, numberOf as Pair·numberOf};
+ghost use Rattle.theory_calls.specs.Judged.{judged, judgedFor, numberOf as Judged·numberOf};
+ghost use Rattle.theory_calls.specs.Correct.{Correct, CorrectIn};
+ghost use Rattle.theory_calls.specs.PhasesCorrect.{PhasesCorrect, AdmitCorrect};
+ghost use Rattle.theory_calls.specs.DistancesCorrect.{DistancesCorrect};
+ghost use Rattle.theory_calls.specs.AnswersCorrect.{PairCorrect, PairCorrectIn, SheetCorrect, SheetCorrectIn};
+ghost use Rattle.theory_calls.specs.RacesCorrect.{RacesCorrect};
+ghost use Rattle.theory_calls.specs.LocksCorrect.{LocksCorrect, LocksCorrectIn};
+ghost use Rattle.theory_calls.specs.WitnessedCorrect.{WitnessedCorrect};
+ghost use Rattle.theory_calls.specs.Witness.{witnessed, numberOf as Witnessed·numberOf};
 ghost use Rattle.output.specs.Output.{numberOf as Output·numberOf};
-ghost use Rattle.distances.specs.Distances.{distancesWritten, distancesLeft};
-ghost use Rattle.accesses.specs.Races.{racesWritten, racesLeft};
-ghost use Rattle.locks.specs.Locks.{locksWrittenFor, locksLeftFor};
-ghost use Rattle.listing.specs.Call.{listingWritten, listingLeft};
-ghost use Rattle.calls.specs.Phases.{phasesWritten, phasesLeft};
-ghost use Rattle.calls.specs.Sheet.{sheetWritten, sheetLeft, sheetWrittenFor, sheetLeftFor};
-ghost use Rattle.calls.specs.Pair.{pairAnswered, pairAnsweredFor, numberOf as Pair·numberOf};
-ghost use Rattle.answers.specs.declared.Size.the-variants.{Any, Of};
-ghost use Rattle.verdicts.specs.Judged.{judged, judgedFor, numberOf as Judged·numberOf};
-ghost use Rattle.verdicts.specs.Correct.{Correct, CorrectIn};
-ghost use Rattle.correctness.specs.PhasesCorrect.{PhasesCorrect, AdmitCorrect};
-ghost use Rattle.correctness.specs.DistancesCorrect.{DistancesCorrect};
-ghost use Rattle.correctness.specs.AnswersCorrect.{PairCorrect, PairCorrectIn, SheetCorrect, SheetCorrectIn};
-ghost use Rattle.correctness.specs.RacesCorrect.{RacesCorrect};
-ghost use Rattle.correctness.specs.LocksCorrect.{LocksCorrect, LocksCorrectIn};
-ghost use Rattle.correctness.specs.InsertCorrect.{InsertCorrect};
-ghost use Rattle.correctness.specs.RemoveCorrect.{RemoveCorrect};
-ghost use Rattle.correctness.specs.ListingCorrect.{ListingCorrect};
-ghost use Rattle.correctness.specs.WitnessedCorrect.{WitnessedCorrect};
-ghost use Rattle.witnesses.specs.Witness.{witnessed, numberOf as Witnessed·numberOf};
-ghost use Rattle.edits.specs.Edits.{insertWritten, insertLeft, removeWritten, removeLeft};
-ghost use Rattle.edits.specs.declared.Receipt.{Receipt};
-use answers::Size;
-use edits::Receipt;
-use inserting::insert_edge;
-use numbers::counts;
-use numbers::sized::judge;
-use numbers::sized::locks;
-use numbers::sized::pair;
-use numbers::sized::sheet;
-use numbers::witnessed;
-use numbers::written;
-use removing::remove_edge;
+ghost use Rattle.theory_listing.specs.Call.{listingWritten, listingLeft};
+ghost use Rattle.theory_listing.specs.ListingCorrect.{ListingCorrect};
+ghost use Rattle.theory_answers.specs.declared.Size.the-variants.{Any, Of};
+ghost use Rattle.theory_edits.specs.InsertCorrect.{InsertCorrect};
+ghost use Rattle.theory_edits.specs.RemoveCorrect.{RemoveCorrect};
+ghost use Rattle.theory_edits.specs.Edits.{insertWritten, insertLeft, removeWritten, removeLeft};
+ghost use Rattle.theory_edits.specs.declared.Receipt.{Receipt};
+use crate::counts;
+use crate::sized::judge;
+use crate::sized::locks;
+use crate::sized::pair;
+use crate::sized::sheet;
+use crate::witnessed;
+use crate::written;
+use call_edges::insert::insert_edge;
+use call_edges::remove::remove_edge;
+use theory_answers::Size;
+use theory_edits::Receipt;
 
 #[no_mangle]
 pub extern "C" fn bohrali_admit(chart: &[u8]) -> i64
     ensures { λ r. ⌜ r ≡ Admission·numberOf (admitted (now (chart .entry))) ⌝ }
     ensures { λ r. ⌜ AdmitCorrect (now (chart .entry)) r ⌝ }
 {
-    counts::number_of(admission::admit::admit(chart))
+    counts::number_of(call_admit::admit::admit(chart))
 }
 
 #[no_mangle]
@@ -75,7 +76,7 @@ pub extern "C" fn bohrali_phases(chart: &[u8], region: usize, out: &mut [u8]) ->
     ensures { λ _. ⌜ now (out .exit) ≡ phasesLeft (now (chart .entry)) region (now (out .entry)) ⌝ }
     ensures { λ r. ⌜ PhasesCorrect (now (chart .entry)) region (now (out .entry)) r (now (out .exit)) ⌝ }
 {
-    written::number_of(phase_writing::phases(chart, region, out))
+    written::number_of(call_phases::writing::phases(chart, region, out))
 }
 
 #[no_mangle]
@@ -84,7 +85,7 @@ pub extern "C" fn bohrali_distances(chart: &[u8], region: usize, out: &mut [u8])
     ensures { λ _. ⌜ now (out .exit) ≡ distancesLeft (now (chart .entry)) region (now (out .entry)) ⌝ }
     ensures { λ r. ⌜ DistancesCorrect (now (chart .entry)) region (now (out .entry)) r (now (out .exit)) ⌝ }
 {
-    written::number_of(distances::distances(chart, region, out))
+    written::number_of(call_distances::distances(chart, region, out))
 }
 
 // The chart of a directive listing, written to the buffer: its length.
@@ -94,7 +95,7 @@ pub extern "C" fn bohrali_listing(text: &[u8], out: &mut [u8]) -> i64
     ensures { λ _. ⌜ now (out .exit) ≡ listingLeft (now (text .entry)) (now (out .entry)) ⌝ }
     ensures { λ r. ⌜ ListingCorrect (now (text .entry)) (now (out .entry)) r (now (out .exit)) ⌝ }
 {
-    written::number_of(listing_chart::listing(text, out))
+    written::number_of(call_listing::drawing::listing(text, out))
 }
 
 #[no_mangle]
@@ -147,7 +148,7 @@ pub extern "C" fn bohrali_races(chart: &[u8], region: usize, accesses: &[u8], ou
     ensures { λ _. ⌜ now (out .exit) ≡ racesLeft (now (chart .entry)) region (now (accesses .entry)) (now (out .entry)) ⌝ }
     ensures { λ r. ⌜ RacesCorrect (now (chart .entry)) region (now (accesses .entry)) (now (out .entry)) r (now (out .exit)) ⌝ }
 {
-    written::number_of(races::races(chart, region, accesses, out))
+    written::number_of(call_races::races(chart, region, accesses, out))
 }
 
 // For each construct a byte: 0 the lock of this critical is needed, 1 it can be dropped as far as finished runs go, 2 in every run; 255 it is no

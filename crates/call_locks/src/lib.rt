@@ -1,24 +1,24 @@
 // Locks as a call on slices: for each construct whether the lock of this critical is needed, or can be dropped, in finished runs or in all. What the
-// bytes say about runs is in crate correctness, specs/LocksCorrect.antt.
+// bytes say about runs is in crate theory_calls, specs/LocksCorrect.antt.
 ghost use mathlib.Core.Path.{_≡_};
 ghost use mathlib.Core.List.{[]};
 ghost use lib.ListN.{length};
 ghost use Rattle.chart.specs.Checked.{reading};
-ghost use Rattle.answers.specs.Size.{sizeRows};
-ghost use Rattle.locks.specs.Locks.{locksResult, locksWrittenFor, locksLeftFor};
-ghost use Rattle.loading.specs.Tables.{Accepted};
-ghost use Rattle.profiles.specs.Marks.{Marks};
+ghost use Rattle.theory_answers.specs.Size.{sizeRows};
+ghost use Rattle.theory_calls.specs.Locks.{locksResult, locksWrittenFor, locksLeftFor};
+ghost use Rattle.mark_tables.specs.Tables.{Accepted};
+ghost use Rattle.answer_constructs.specs.Marks.{Marks};
 ghost use Rattle.output.specs.Output.{outputRows, writtenBy, leftBy};
+use answer_constructs::chains::Sets;
+use answer_constructs::marks::MaskTable;
+use answer_constructs::marks::ROWS;
+use answer_constructs::sizes::room_sized;
 use answer_locks::put_locks;
-use answers::Size;
+use answer_masks::Surveyed;
+use answer_masks::survey;
 use chart::format::Chart;
 use output::Written;
-use profiles::chains::Sets;
-use profiles::marks::MaskTable;
-use profiles::marks::ROWS;
-use sizes::room_sized;
-use survey::Surveyed;
-use survey::survey;
+use theory_answers::Size;
 
 // Rows 11 and 21 and the bytes, of a chart whose nodes are marked.
 fn write_locks(

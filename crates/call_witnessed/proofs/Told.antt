@@ -14,16 +14,16 @@ use Rattle.chart.specs.Region.{Region}
 use Rattle.chart.specs.Reading.{regionOf}
 use Rattle.chart.specs.Refusal.{Row, firstOf}
 use Rattle.chart.proofs.Rows.{first-decides, second-decides}
-use Rattle.paths.specs.Admission.{regionRows}
-use Rattle.calls.specs.Pair.{numbersRow}
-use Rattle.traces.specs.Call.{badTrace}
-use Rattle.traces.specs.Replay.{outcomeOf, playOf, replayed}
-use Rattle.traces.specs.declared.Replayed.{Replayed}
-use Rattle.replay_marks.specs.Marks.{Sheet}
-use Rattle.witnesses.specs.Witness.{isEnded, isWitness, witnessRows, answeredBy, witnessed}
-use Rattle.witnesses.specs.WitnessLaws.{byte-is}
-use Rattle.witnesses.specs.declared.Witnessed.{Witnessed}
-use Rattle.witnesses.specs.declared.Witnessed.the-variants.{Refused}
+use Rattle.theory_paths.specs.Admission.{regionRows}
+use Rattle.theory_calls.specs.Pair.{numbersRow}
+use Rattle.theory_calls.specs.Witness.{isEnded, isWitness, witnessRows, answeredBy, witnessed}
+use Rattle.theory_calls.specs.WitnessLaws.{byte-is}
+use Rattle.theory_calls.specs.declared.Witnessed.{Witnessed}
+use Rattle.theory_calls.specs.declared.Witnessed.the-variants.{Refused}
+use Rattle.theory_traces.specs.Call.{badTrace}
+use Rattle.theory_traces.specs.Replay.{outcomeOf, playOf, replayed}
+use Rattle.theory_traces.specs.declared.Replayed.{Replayed}
+use Rattle.call_replay.specs.Marks.{Sheet}
 
 module _ (R : Region) (m : ℕ) (trace : List ℕ) (a b : ℕ) {r : Replayed} (said : r ≡ outcomeOf R m (replayed R m trace)) where
   -- a run that has ended: the row of a tells

@@ -1,24 +1,24 @@
-// Whether a trace is a witness for two nodes, as a call on slices (definitions: crate `witnesses`).
+// Whether a trace is a witness for two nodes, as a call on slices (definitions: crate `theory_calls`).
 ghost use mathlib.Core.Path.{_≡_};
 ghost use mathlib.Core.List.{[], _∷_};
 ghost use Prim.Native.Nat.{_≤_, _<_};
 ghost use Rattle.chart.specs.Checked.{reading};
 ghost use Rattle.chart.specs.Refusal.{firstOf};
-ghost use Rattle.loading.specs.Tables.{Accepted};
-ghost use Rattle.calls.specs.Pair.{numbersRow};
-ghost use Rattle.traces.specs.Call.{badTrace};
-ghost use Rattle.witnesses.specs.Witness.{isWitness, answeredBy, witnessed as witnessedBy};
+ghost use Rattle.mark_tables.specs.Tables.{Accepted};
+ghost use Rattle.theory_calls.specs.Pair.{numbersRow};
+ghost use Rattle.theory_calls.specs.Witness.{isWitness, answeredBy, witnessed as witnessedBy};
+ghost use Rattle.theory_traces.specs.Call.{badTrace};
+use answer_pairs::numbers::bad_node;
+use answer_steps::tables::TEAM;
+use call_replay::marks::Rows;
+use call_replay::rows::replay_rows;
+use call_replay::run::bad_trace;
 use chart::format::Chart;
 use chart::format::Refusal;
-use entrance::enter;
-use outermost::Entered;
-use pairs::numbers::bad_node;
-use replay::rows::replay_rows;
-use replay::run::bad_trace;
-use replay_marks::Rows;
-use replay_steps::tables::TEAM;
-use traces::Replayed;
-use witnesses::Witnessed;
+use mark_regions::entrance::enter;
+use mark_regions::outermost::Entered;
+use theory_calls::Witnessed;
+use theory_traces::Replayed;
 
 // What no row refuses: whether the run is finished, and b marked in the row of a, which alone is kept.
 fn is_witness(s: &[u8], chart: Chart, size: usize, trace: &[u8], a: usize, b: usize) -> bool

@@ -1,5 +1,5 @@
--- The bytes of a chart (01: "Bytes of a chart") and their decoding to one record. The decoding is total: it reads any bytes, and
--- whether they make a chart is for the refusals to say.
+-- The bytes of a chart, of edition 1 (01: "Bytes of a chart") and of edition 2 (02, Note 5), and their decoding to one record. The decoding is
+-- total: it reads any bytes, and whether they make a chart is for the refusals to say.
 -- Assumes nothing.
 use mathlib.Core.Bool.{cond}
 use mathlib.Core.List.{List, [], _∷_}
@@ -11,12 +11,12 @@ use lib.ListN.{length, getD, drop}
 unfoldable pub field : List ℕ → ℕ → ℕ
 field s at = getD s at 0 + 256 * getD s (at + 1) 0
 
--- The number that stands for no construct: outside all of them.
+-- The number that stands for no construct: outside all of them. As the number of a region it names the outermost one (02, Note 12).
 abbrev pub outside : ℕ
 outside = 255
 
--- The number is that of the innermost construct that encloses a plain node, and of the construct that a begin opens or an end closes. The
--- tag is the buyer's: it is decoded, and read by nothing.
+-- The number is that of the innermost construct that encloses a plain node, of the construct that a begin opens or an end closes, and of the
+-- parallel whose region a barrier is one of (02, Note 12). The tag is the buyer's: it is decoded, and read by nothing.
 pub record Node : Type 0 where
   pub kind : ℕ
   pub number : ℕ

@@ -1,5 +1,5 @@
 -- What rows 5 to 9 of the refusals say of a region, a field for each fact. Facts are keyed by what a node is or is inside of, never by
--- "c is below the count". Row 10's facts are in crate `paths`.
+-- "c is below the count". Row 10's facts are in crate `theory_paths`.
 -- Assumes nothing.
 use mathlib.Core.Path.{_≡_}
 use mathlib.Core.Logic.{_⊎_, _≢_}

@@ -4,13 +4,13 @@ mod lines;
 
 ghost use Prim.Native.Nat.{_≤_, _<_};
 ghost use lib.ListN.{length};
+use call_judge::two::judge_two;
 use chart::cursor::wide;
 use chart::format::Chart;
-use framing::Framed;
-use framing::list_at;
-use framing::too_long;
-use framing::too_short;
-use judge_lists::judge_two;
+use program_io::framing::Framed;
+use program_io::framing::list_at;
+use program_io::framing::too_long;
+use program_io::framing::too_short;
 
 // The longest input: both lists and the chart as long as they can be.
 const MOST: usize = 1 + 2 * (Framed::LENGTH + Framed::MOST) + Chart::MOST_BYTES;

@@ -1,13 +1,13 @@
 // What the library answers for a chart and for pairs of its nodes, as text.
-use admission::admit::Admission;
-use admission::admit::Counts;
-use admission::admit::admit;
-use answers::Size;
-use calls::pair::Answered;
-use calls::pair::pair;
+use call_admit::admit::admit;
+use call_pair::pair::pair;
 use chart::cursor::wide;
 use chart::format::Construct;
 use chart::format::Refusal;
+use theory_answers::Size;
+use theory_calls::Admission;
+use theory_calls::Answered;
+use theory_calls::Counts;
 
 fn print_number(word: &[u8], number: usize) {
     io::write_all(1, word);

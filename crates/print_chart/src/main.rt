@@ -1,4 +1,4 @@
 // The printing program of 01, run on its chart K.
 fn main() {
-    printing::run();
+    program_io::printing::run();
 }

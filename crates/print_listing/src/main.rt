@@ -1,10 +1,10 @@
 // The printing program on the chart of a listing (02, Note 2), which is read from standard input: the lines of its chart, or the refusal.
+use call_listing::drawing::listing;
 use chart::format::Chart;
-use framing::too_long;
-use listing_chart::listing;
 use output::Written;
-use printing::print;
-use printing::print_refusal;
+use program_io::framing::too_long;
+use program_io::printing::print;
+use program_io::printing::print_refusal;
 
 const MOST: usize = 65535;
 

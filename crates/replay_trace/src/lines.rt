@@ -2,7 +2,7 @@
 ghost use Prim.Native.Nat.{_*_, _≤_, _<_};
 use chart::cursor::wide;
 use chart::format::Chart;
-use traces::Replayed;
+use theory_traces::Replayed;
 
 pub fn number(word: &[u8], n: usize) {
     io::write_all(1, word);

@@ -5,14 +5,14 @@ mod threads;
 
 ghost use Prim.Native.Nat.{_≤_, _<_};
 ghost use lib.ListN.{length};
+use call_replay::run::run;
 use chart::cursor::wide;
 use chart::format::Chart;
-use framing::Framed;
-use framing::list_at;
-use framing::too_long;
-use framing::too_short;
-use replay::run::run;
-use traces::Replayed;
+use program_io::framing::Framed;
+use program_io::framing::list_at;
+use program_io::framing::too_long;
+use program_io::framing::too_short;
+use theory_traces::Replayed;
 
 // The longest input: trace and chart as long as they can be.
 const MOST: usize = 2 + Framed::LENGTH + Framed::MOST + Chart::MOST_BYTES;

@@ -2,11 +2,11 @@
 ghost use Prim.Native.Nat.{_≤_};
 use crate::lines::end_line;
 use crate::lines::number;
-use bits::has;
+use call_replay::run::Team;
 use chart::cursor::wide;
 use chart::format::Chart;
-use replay::run::Team;
-use traces::Thread;
+use masks::bits::has;
+use theory_traces::Thread;
 
 // Each construct whose begin the thread has left.
 fn counts(counts: [u64; Chart::CONSTRUCTS]) {

@@ -12,18 +12,18 @@ use lib.ListN.{length, getD, replicate, length-replicate, List·getD-eq-default}
 use lib.Seq.{getD-set-other}
 use Rattle.lists.specs.Mask.{Has, Sub, Mask, mask-carry, has-none}
 use Rattle.lists.specs.Store.{zeros}
-use Rattle.paths.specs.Path.{Path, last, next}
-use Rattle.paths.specs.PathLaws.{append, final}
-use Rattle.paths.specs.Graph.{Listed, Places}
-use Rattle.paths.specs.Found.{Clear, Reached, Leveled}
-use Rattle.paths.specs.FoundLaws.{leveled-carry, listed-turned}
-use Rattle.sorting.proofs.Sort.{rising-at, rising-in, places-rise}
-use Rattle.sweeps.specs.Sweep.{Between, Lies, Carried, Closed}
-use Rattle.sweeps.specs.SweepLaws.{Inner, carried, carried-long, masks-found}
-use Rattle.splitting.specs.Parts.{row, Split}
-use Rattle.splitting.proofs.Splitting.{parted-inner, parted-turned, between-turned}
-use Rattle.feeding.specs.Fed.{Fed, Owned, Sowed, Stored}
-use Rattle.levels.specs.Steps.{Leads, Bounded}
+use Rattle.theory_paths.specs.Path.{Path, last, next}
+use Rattle.theory_paths.specs.PathLaws.{append, final}
+use Rattle.theory_paths.specs.Graph.{Listed, Places}
+use Rattle.theory_paths.specs.Found.{Clear, Reached, Leveled}
+use Rattle.theory_paths.specs.FoundLaws.{leveled-carry, listed-turned}
+use Rattle.search.proofs.Sort.{rising-at, rising-in, places-rise}
+use Rattle.search.specs.Sweep.{Between, Lies, Carried, Closed}
+use Rattle.search.specs.SweepLaws.{Inner, carried, carried-long, masks-found}
+use Rattle.search.specs.Parts.{row, Split}
+use Rattle.search.proofs.Splitting.{parted-inner, parted-turned, between-turned}
+use Rattle.search.specs.Fed.{Fed, Owned, Sowed, Stored}
+use Rattle.search.specs.Steps.{Leads, Bounded}
 use Rattle.search.specs.Search.{Standing, Sown, Spread, Cleared, Marked}
 
 -- the bits of the sources, at the nodes to which their edges lead

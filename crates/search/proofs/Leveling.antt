@@ -7,16 +7,16 @@ use native.Mathlib.Omega.{arith}
 use native.Mathlib.Decide.{ℕ-discrete, decLt}
 use lib.ListN.{getD}
 use Rattle.lists.specs.Common.{some-bit}
-use Rattle.paths.specs.Path.{edges}
-use Rattle.paths.specs.PathLaws.{edges-some}
-use Rattle.paths.specs.Graph.{Listed}
-use Rattle.paths.specs.Found.{Clear, Reached, ReachedIn, Leveled}
-use Rattle.sweeps.specs.Sweep.{Lies, Carried, Closed}
-use Rattle.sweeps.specs.SweepLaws.{Inner}
-use Rattle.sweeps.specs.LevelLaws.{nearer, Follows, First, Begun, Measured, levels-found}
-use Rattle.splitting.specs.Parts.{row, Split}
-use Rattle.splitting.proofs.Splitting.{parted-inner}
-use Rattle.feeding.specs.Levels.{Each, Begins, Tells}
+use Rattle.theory_paths.specs.Path.{edges}
+use Rattle.theory_paths.specs.PathLaws.{edges-some}
+use Rattle.theory_paths.specs.Graph.{Listed}
+use Rattle.theory_paths.specs.Found.{Clear, Reached, ReachedIn, Leveled}
+use Rattle.search.specs.Sweep.{Lies, Carried, Closed}
+use Rattle.search.specs.SweepLaws.{Inner}
+use Rattle.search.specs.LevelLaws.{nearer, Follows, First, Begun, Measured, levels-found}
+use Rattle.search.specs.Parts.{row, Split}
+use Rattle.search.proofs.Splitting.{parted-inner}
+use Rattle.search.specs.Levels.{Each, Begins, Tells}
 use Rattle.search.specs.Search.{Sown}
 use Rattle.search.proofs.Finding.{past, path-node, listed-node}
 

@@ -1,3 +1,15 @@
+pub mod Runs
+pub mod Turns
+pub mod Placing
+pub mod Splitting
+pub mod Steps
+pub mod Sort
+pub mod Visits
+pub mod BreadthTurns
+pub mod Feeding
+pub mod Sowing
+pub mod Storing
+pub mod Writing
 pub mod Finding
 pub mod Leveling
 pub mod Settling

@@ -9,11 +9,11 @@ use lib.Pow.{pow-pos, pow-lt}
 use lib.ListN.{length, getD, set, length-set}
 use Rattle.lists.specs.Store.{at-set}
 use Rattle.lists.specs.Mask.{Mask, has-none, has-own, has-pow}
-use Rattle.paths.specs.Path.{last, next}
-use Rattle.paths.specs.Graph.{Listed, Places}
-use Rattle.paths.specs.Found.{Clear, Reached, Leveled}
-use Rattle.splitting.specs.Parts.{row, Split}
-use Rattle.feeding.specs.Levels.{Each, Shows}
+use Rattle.theory_paths.specs.Path.{last, next}
+use Rattle.theory_paths.specs.Graph.{Listed, Places}
+use Rattle.theory_paths.specs.Found.{Clear, Reached, Leveled}
+use Rattle.search.specs.Parts.{row, Split}
+use Rattle.search.specs.Levels.{Each, Shows}
 use Rattle.search.specs.Search.{Standing, Sown, Spread, Lone, Settled}
 use Rattle.search.proofs.Finding.{listed-placed}
 

@@ -1,1 +1,9 @@
+pub mod Sweep
+pub mod SweepLaws
+pub mod LevelLaws
+pub mod Parts
+pub mod Steps
+pub mod Invariant
+pub mod Fed
+pub mod Levels
 pub mod Search

@@ -5,10 +5,10 @@ use mathlib.Core.List.{List}
 use Prim.Native.Nat.{ℕ, _+_, _<_}
 use lib.ListN.{length, getD}
 use Rattle.lists.specs.Mask.{Mask}
-use Rattle.paths.specs.Graph.{Places}
-use Rattle.paths.specs.Found.{Clear, Reached, Found}
-use Rattle.splitting.specs.Parts.{row, Split}
-use Rattle.feeding.specs.Levels.{Shows}
+use Rattle.theory_paths.specs.Graph.{Places}
+use Rattle.theory_paths.specs.Found.{Clear, Reached, Found}
+use Rattle.search.specs.Parts.{row, Split}
+use Rattle.search.specs.Levels.{Shows}
 
 -- The table is that of some edges and stops.
 pub record Ready (edges : List (List ℕ)) (places : List ℕ) (ups low ins : ℕ) : Type 0 where

@@ -2,18 +2,18 @@
 ghost use mathlib.Core.List.{List};
 ghost use Prim.Native.Nat.{ℕ, _≤_, _<_};
 ghost use lib.ListN.{getD};
-ghost use Rattle.paths.specs.Graph.{Listed, Places};
-ghost use Rattle.paths.specs.Found.{Clear, Leveled};
-ghost use Rattle.splitting.specs.Parts.{row, Split};
-ghost use Rattle.feeding.specs.Levels.{Each, Begins};
+ghost use Rattle.theory_paths.specs.Graph.{Listed, Places};
+ghost use Rattle.theory_paths.specs.Found.{Clear, Leveled};
+ghost use Rattle.search.specs.Parts.{row, Split};
+ghost use Rattle.search.specs.Levels.{Each, Begins};
 ghost use Rattle.search.specs.Search.{Ready, Standing, Sown};
+use crate::breadth::search;
+use crate::edges::Extent;
+use crate::edges::Parts;
+use crate::levels::measure;
+use crate::sources::mark;
+use crate::telling::tell;
 use chart::format::Chart;
-use feeding::mark;
-use feeding::telling::tell;
-use levels::search;
-use splitting::Extent;
-use splitting::Parts;
-use sweeps::levels::measure;
 
 // The levels of the nodes that may be passed, from those of the nodes to which the sources' edges lead.
 fn swept(edges: &[[u8; Chart::EDGES]; Parts::ROWS], parts: Parts, levels: &mut [u8; Chart::NODES])

@@ -1,11 +1,11 @@
 // Asks whether a chart would be admitted with one edge more (02, Note 6). Standard input has the edge, from and to, the chart's length in two bytes,
 // little-endian, and the buffer that begins with the chart. Prints the receipt, or the number of the refusal.
-use asking::ask;
+use call_edges::ask::ask;
 use chart::cursor::Cursor;
 use chart::cursor::wide;
 use chart::format::Refusal;
-use edits::Asked;
-use edits::Receipt;
+use theory_edits::Asked;
+use theory_edits::Receipt;
 
 // Bytes in front of the buffer, and the longest input.
 const FRONT: usize = 4;

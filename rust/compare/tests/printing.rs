@@ -3,7 +3,7 @@
 
 use charts::random::Random;
 use compare::programs::printed;
-use reference::known::longest;
+use reference::known::{chart_k, chart_y, chart_z, longest};
 use reference::printing::{text, MOST_BYTES};
 
 const CHARTS: usize = 400;
@@ -32,6 +32,27 @@ fn drawn_charts() {
 fn benchmark_charts() {
     for (_, chart) in charts::benchmark::all() {
         agree(&chart);
+    }
+}
+
+/// A chart of edition 2, one with a region inside its outermost one, and one that is refused: chart K
+/// without its edge from 1 to 2, so that no path leads to the barrier 2.
+#[test]
+fn stored_texts() {
+    let mut cut_off = chart_k();
+    let edges = cut_off.len() - 16 - 10;
+    cut_off.drain(edges + 2..edges + 4);
+    let trailer = cut_off.len() - 16;
+    for (field, value) in [(4, 4), (8, 44), (10, 24)] {
+        cut_off[trailer + field] = value;
+    }
+    for (chart, stored) in [
+        (chart_y([1, 2], &[]), include_str!("printed/masked.txt")),
+        (chart_z(&[]), include_str!("printed/regions.txt")),
+        (cut_off, include_str!("printed/refused.txt")),
+    ] {
+        agree(&chart);
+        assert_eq!(text(&chart), stored);
     }
 }
 

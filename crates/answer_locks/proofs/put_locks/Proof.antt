@@ -2,7 +2,7 @@
 -- Assumes nothing.
 use mathlib.Core.Path.{refl}
 use borrow.Author.Needs.{needs}
-use Rattle.critical_names.proofs.Peers.{given-small}
+use Rattle.answer_names.proofs.Peers.{given-small}
 use Rattle.answer_locks.proofs.Written.{locks-put}
 use Rattle.answer_locks.proofs.put_locks.Statement.{statement}
 use Rattle.answer_locks.proofs.put_locks.Tie as tie

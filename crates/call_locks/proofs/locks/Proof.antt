@@ -6,13 +6,13 @@ use Rattle.chart.specs.Format.{decode}
 use Rattle.chart.specs.Reading.{regionOf}
 use Rattle.chart.specs.Checked.{countsOf, readFor}
 use Rattle.chart.specs.declared.format.Chart.{Chart}
-use Rattle.refusals.proofs.Outcome.{passed-none, refused-some}
-use Rattle.paths.specs.Admission.{regionRows}
-use Rattle.answers.specs.Size.{sizeRows}
-use Rattle.locks.specs.Locks.{locksResult}
-use Rattle.survey.specs.Surveyed.{checkedOf}
+use Rattle.check_chart.proofs.Outcome.{passed-none, refused-some}
+use Rattle.theory_paths.specs.Admission.{regionRows}
+use Rattle.theory_answers.specs.Size.{sizeRows}
+use Rattle.theory_calls.specs.Locks.{locksResult}
+use Rattle.answer_masks.specs.Surveyed.{checkedOf}
 use Rattle.output.proofs.Outputs.{refused-before}
-use Rattle.calls.proofs.Passed.{output-passed}
+use Rattle.call_pair.proofs.Passed.{output-passed}
 use Rattle.call_locks.proofs.locks.Statement.{statement}
 use Rattle.call_locks.proofs.locks.Tie as tie
 

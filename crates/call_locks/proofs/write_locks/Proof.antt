@@ -8,8 +8,8 @@ use borrow.Author.Needs.{needs}
 use Rattle.lists.specs.Tab.{tab-length}
 use Rattle.chart.specs.Checked.{reading}
 use Rattle.chart.proofs.Records.{constructs-length}
-use Rattle.answers.specs.Size.{sizeRows}
-use Rattle.locks.specs.Locks.{lockByte, locksResult}
+use Rattle.theory_answers.specs.Size.{sizeRows}
+use Rattle.theory_calls.specs.Locks.{lockByte, locksResult}
 use Rattle.output.specs.Output.{outputRows, writtenBy}
 use Rattle.output.proofs.Outputs.{had-room, kept, put}
 use Rattle.call_locks.proofs.write_locks.Statement.{statement}

@@ -5,7 +5,7 @@ use mathlib.Core.Bool.{false}
 use native.Mathlib.Omega.{arith}
 use Rattle.chart.specs.Checked.{reading}
 use Rattle.chart.proofs.Records.{nodes-length}
-use Rattle.witnesses.specs.Witness.{isEnded, isWitness}
+use Rattle.theory_calls.specs.Witness.{isEnded, isWitness}
 use Rattle.call_witnessed.proofs.Told.{row-tells, not-ended}
 use borrow.Author.Needs.{needs}
 use Rattle.call_witnessed.proofs.is_witness.Statement.{statement}

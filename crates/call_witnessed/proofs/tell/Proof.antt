@@ -9,11 +9,11 @@ use Rattle.chart.specs.Region.{Region}
 use Rattle.chart.specs.Checked.{reading}
 use Rattle.chart.specs.Refusal.{firstOf}
 use Rattle.chart.proofs.Records.{nodes-length}
-use Rattle.answers.specs.Numbers.{badNumber, good-number}
-use Rattle.loading.proofs.Accepted.{well-formed}
-use Rattle.calls.specs.Pair.{numbersRow}
-use Rattle.traces.specs.CorrectLaws.{whole-trace}
-use Rattle.witnesses.specs.Witness.{told, answeredBy}
+use Rattle.theory_answers.specs.Numbers.{badNumber, good-number}
+use Rattle.mark_tables.proofs.Accepted.{well-formed}
+use Rattle.theory_calls.specs.Pair.{numbersRow}
+use Rattle.theory_calls.specs.Witness.{told, answeredBy}
+use Rattle.theory_traces.specs.CorrectLaws.{whole-trace}
 use borrow.Author.Needs.{needs}
 use Rattle.call_witnessed.proofs.tell.Statement.{statement}
 use Rattle.call_witnessed.proofs.tell.Tie as tie

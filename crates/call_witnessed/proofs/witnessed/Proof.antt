@@ -2,7 +2,7 @@
 -- Assumes nothing.
 use mathlib.Core.Path.{sym, _∙_, ap}
 use Rattle.chart.specs.declared.format.Chart.{Chart}
-use Rattle.outermost.proofs.Entering.{entered-refused, entered-marked, entered-counts}
+use Rattle.mark_regions.proofs.Entering.{entered-refused, entered-marked, entered-counts}
 use Rattle.call_witnessed.proofs.Told.{told-refused, told-passed}
 use borrow.Author.Needs.{needs}
 use Rattle.call_witnessed.proofs.witnessed.Statement.{statement}

@@ -5,7 +5,7 @@ use Prim.Native.Nat.{_+_, _≤_}
 use native.Mathlib.Omega.{arith}
 use lib.ListN.{length}
 use borrow.Author.Needs.{needs}
-use Rattle.framing.specs.Framed.{framed-within}
+use Rattle.program_io.specs.Framed.{framed-within}
 use Rattle.judge_two.proofs.print_after.Statement.{statement}
 use Rattle.judge_two.proofs.print_after.Tie as tie
 

@@ -7,8 +7,8 @@ use native.Mathlib.Omega.{arith}
 use lib.ListN.{length, length-take}
 use borrow.Author.Needs.{needs}
 use Rattle.output.proofs.Outputs.{had-room}
-use Rattle.listing.specs.Grammar.{listed}
-use Rattle.listing.specs.Call.{blockRows, listingBytes, listingRows, listingWritten}
+use Rattle.theory_listing.specs.Grammar.{listed}
+use Rattle.theory_listing.specs.Call.{blockRows, listingBytes, listingRows, listingWritten}
 use Rattle.print_listing.proofs.show.Statement.{statement}
 use Rattle.print_listing.proofs.show.Tie as tie
 

@@ -1,7 +1,7 @@
 -- `replay_trace::print_replayed` is safe and ends.
 -- Assumes nothing.
 use borrow.Author.Needs.{needs}
-use Rattle.replay.proofs.Calls.{count-few}
+use Rattle.call_replay.proofs.Calls.{count-few}
 use Rattle.replay_trace.proofs.print_replayed.Statement.{statement}
 use Rattle.replay_trace.proofs.print_replayed.Tie as tie
 

@@ -8,7 +8,7 @@ use lib.Dec.{eqb}
 use lib.ListN.{length, getD, length-set}
 use borrow.Author.Needs.{needs}
 use Rattle.lists.specs.Store.{stored}
-use Rattle.profiles.specs.Marks.{heldIn}
+use Rattle.answer_constructs.specs.Marks.{heldIn}
 use Rattle.answer_locks.specs.Fitting.{lacking}
 use Rattle.answer_locks.proofs.fitting.close_lacking.Statement.{statement}
 use Rattle.answer_locks.proofs.fitting.close_lacking.Tie as tie

@@ -5,8 +5,8 @@ use mathlib.Core.List.{List}
 use Prim.Native.Nat.{ℕ, _-_, _≤_, _<_}
 use native.Mathlib.Omega.{arith}
 use lib.ListN.{getD}
-use Rattle.pairs.specs.declared.rules.Profile.{Profile}
-use Rattle.met_nodes.specs.Meets.{Named}
+use Rattle.answer_pairs.specs.declared.rules.Profile.{Profile}
+use Rattle.answer_met.specs.Meets.{Named}
 use Rattle.answer_locks.specs.Search.{Tries, Searched}
 use Rattle.answer_locks.proofs.Turns.{searched-none, searched-more}
 use Rattle.answer_locks.proofs.search.search.Statement.{statement}

@@ -4,10 +4,10 @@ use mathlib.Core.Path.{_≡_, ap, sym, subst, _∙_}
 use borrow.Author.Needs.{needs}
 use mir.Syntax.{w64}
 use mir.Val.{toZ, ofZ}
-use Rattle.admission.specs.Admission.{admitted, numberOf}
-use Rattle.numbers.proofs.SmallCounts.{small-counts}
-use Rattle.correctness.specs.PhasesCorrect.{AdmitCorrect}
-use Rattle.correctness.specs.AdmitCorrectLaws.{admit-correct}
+use Rattle.theory_calls.specs.Admission.{admitted, numberOf}
+use Rattle.theory_calls.specs.PhasesCorrect.{AdmitCorrect}
+use Rattle.theory_calls.specs.AdmitCorrectLaws.{admit-correct}
+use Rattle.bohrali.proofs.SmallCounts.{small-counts}
 use Rattle.bohrali.proofs.c.bohrali_admit.Statement.{statement}
 use Rattle.bohrali.proofs.c.bohrali_admit.Tie as tie
 

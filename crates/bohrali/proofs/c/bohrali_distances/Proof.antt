@@ -9,13 +9,13 @@ use mir.Syntax.{w64}
 use mir.Val.{toZ, ofZ}
 use Rattle.chart.specs.Format.{decode}
 use Rattle.chart.specs.Reading.{regionOf}
-use Rattle.paths.specs.Admission.{regionRows}
+use Rattle.theory_paths.specs.Admission.{regionRows}
 use Rattle.output.specs.Output.{numberOf}
-use Rattle.distances.specs.Distances.{distancesResult}
 use Rattle.output.proofs.Outputs.{had-room}
-use Rattle.correctness.specs.DistancesCorrect.{DistancesCorrect}
-use Rattle.correctness.specs.OutputCorrectLaws.{carried}
-use Rattle.correctness.specs.DistancesCorrectLaws.{distances-correct}
+use Rattle.output.specs.OutputCorrectLaws.{carried}
+use Rattle.theory_calls.specs.Distances.{distancesResult}
+use Rattle.theory_calls.specs.DistancesCorrect.{DistancesCorrect}
+use Rattle.theory_calls.specs.DistancesCorrectLaws.{distances-correct}
 use Rattle.bohrali.proofs.c.bohrali_distances.Statement.{statement}
 use Rattle.bohrali.proofs.c.bohrali_distances.Tie as tie
 

@@ -6,11 +6,11 @@ use borrow.Author.Needs.{needs}
 use mir.Syntax.{w64}
 use mir.Val.{toZ, ofZ}
 use Rattle.output.specs.Output.{numberOf}
-use Rattle.edits.specs.EditLaws.{insert-returns, room}
-use Rattle.edits.specs.declared.Receipt.{Receipt}
-use Rattle.correctness.specs.OutputCorrectLaws.{carried}
-use Rattle.correctness.specs.InsertCorrect.{InsertCorrect}
-use Rattle.correctness.specs.InsertCorrectLaws.{insert-correct}
+use Rattle.output.specs.OutputCorrectLaws.{carried}
+use Rattle.theory_edits.specs.EditLaws.{insert-returns, room}
+use Rattle.theory_edits.specs.declared.Receipt.{Receipt}
+use Rattle.theory_edits.specs.InsertCorrect.{InsertCorrect}
+use Rattle.theory_edits.specs.InsertCorrectLaws.{insert-correct}
 use Rattle.bohrali.proofs.c.bohrali_insert_edge.Statement.{statement}
 use Rattle.bohrali.proofs.c.bohrali_insert_edge.Tie as tie
 

@@ -9,11 +9,11 @@ use mir.Syntax.{w64}
 use mir.Val.{toZ, ofZ}
 use Rattle.output.specs.Output.{numberOf}
 use Rattle.output.proofs.Outputs.{had-room}
-use Rattle.listing.specs.Grammar.{listed}
-use Rattle.listing.specs.Call.{blockRows, listingBytes, listingRows, listingWritten}
-use Rattle.correctness.specs.OutputCorrectLaws.{carried}
-use Rattle.correctness.specs.ListingCorrect.{ListingCorrect}
-use Rattle.correctness.specs.ListingCorrectLaws.{listing-correct}
+use Rattle.output.specs.OutputCorrectLaws.{carried}
+use Rattle.theory_listing.specs.Grammar.{listed}
+use Rattle.theory_listing.specs.Call.{blockRows, listingBytes, listingRows, listingWritten}
+use Rattle.theory_listing.specs.ListingCorrect.{ListingCorrect}
+use Rattle.theory_listing.specs.ListingCorrectLaws.{listing-correct}
 use Rattle.bohrali.proofs.c.bohrali_listing.Statement.{statement}
 use Rattle.bohrali.proofs.c.bohrali_listing.Tie as tie
 

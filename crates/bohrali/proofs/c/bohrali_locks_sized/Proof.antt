@@ -4,9 +4,9 @@ use mathlib.Core.Path.{_≡_, _∙_}
 use borrow.Author.Needs.{needs}
 use mir.Syntax.{w64}
 use mir.Val.{toZ, ofZ}
-use Rattle.correctness.specs.LocksCorrect.{LocksCorrectIn}
-use Rattle.correctness.specs.LocksCorrectLaws.{locks-correct}
-use Rattle.correctness.specs.OutputCorrectLaws.{carried}
+use Rattle.theory_calls.specs.LocksCorrect.{LocksCorrectIn}
+use Rattle.theory_calls.specs.LocksCorrectLaws.{locks-correct}
+use Rattle.output.specs.OutputCorrectLaws.{carried}
 use Rattle.bohrali.proofs.c.bohrali_locks_sized.Statement.{statement}
 use Rattle.bohrali.proofs.c.bohrali_locks_sized.Tie as tie
 

@@ -9,13 +9,13 @@ use mir.Syntax.{w64}
 use mir.Val.{toZ, ofZ}
 use Rattle.chart.specs.Format.{decode}
 use Rattle.chart.specs.Reading.{regionOf}
-use Rattle.paths.specs.Admission.{regionRows}
+use Rattle.theory_paths.specs.Admission.{regionRows}
 use Rattle.output.specs.Output.{numberOf}
-use Rattle.calls.specs.Phases.{phasesResult}
 use Rattle.output.proofs.Outputs.{had-room}
-use Rattle.correctness.specs.PhasesCorrect.{PhasesCorrect}
-use Rattle.correctness.specs.OutputCorrectLaws.{carried}
-use Rattle.correctness.specs.PhasesCorrectLaws.{phases-correct}
+use Rattle.output.specs.OutputCorrectLaws.{carried}
+use Rattle.theory_calls.specs.Phases.{phasesResult}
+use Rattle.theory_calls.specs.PhasesCorrect.{PhasesCorrect}
+use Rattle.theory_calls.specs.PhasesCorrectLaws.{phases-correct}
 use Rattle.bohrali.proofs.c.bohrali_phases.Statement.{statement}
 use Rattle.bohrali.proofs.c.bohrali_phases.Tie as tie
 

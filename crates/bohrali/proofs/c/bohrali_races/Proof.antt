@@ -7,14 +7,14 @@ use lib.ListN.{length}
 use borrow.Author.Needs.{needs}
 use mir.Syntax.{w64}
 use mir.Val.{toZ, ofZ}
-use Rattle.accesses.specs.Races.{races, listRows}
+use Rattle.theory_calls.specs.Races.{races, listRows}
+use Rattle.theory_calls.specs.RacesCorrect.{RacesCorrect}
+use Rattle.theory_calls.specs.RacesCorrectLaws.{races-correct}
 use Rattle.chart.specs.Format.{decode}
 use Rattle.chart.specs.Reading.{regionOf}
 use Rattle.output.specs.Output.{numberOf}
 use Rattle.output.proofs.Outputs.{had-room}
-use Rattle.correctness.specs.RacesCorrect.{RacesCorrect}
-use Rattle.correctness.specs.OutputCorrectLaws.{carried}
-use Rattle.correctness.specs.RacesCorrectLaws.{races-correct}
+use Rattle.output.specs.OutputCorrectLaws.{carried}
 use Rattle.bohrali.proofs.c.bohrali_races.Statement.{statement}
 use Rattle.bohrali.proofs.c.bohrali_races.Tie as tie
 

@@ -6,10 +6,10 @@ use borrow.Author.Needs.{needs}
 use mir.Syntax.{w64}
 use mir.Val.{toZ, ofZ}
 use Rattle.output.specs.Output.{numberOf}
-use Rattle.edits.specs.EditLaws.{remove-returns, fits-in}
-use Rattle.correctness.specs.OutputCorrectLaws.{carried}
-use Rattle.correctness.specs.RemoveCorrect.{RemoveCorrect}
-use Rattle.correctness.specs.RemoveCorrectLaws.{remove-correct}
+use Rattle.output.specs.OutputCorrectLaws.{carried}
+use Rattle.theory_edits.specs.EditLaws.{remove-returns, fits-in}
+use Rattle.theory_edits.specs.RemoveCorrect.{RemoveCorrect}
+use Rattle.theory_edits.specs.RemoveCorrectLaws.{remove-correct}
 use Rattle.bohrali.proofs.c.bohrali_remove_edge.Statement.{statement}
 use Rattle.bohrali.proofs.c.bohrali_remove_edge.Tie as tie
 

@@ -4,9 +4,9 @@ use mathlib.Core.Path.{_≡_, ap, sym, subst, _∙_}
 use borrow.Author.Needs.{needs}
 use mir.Syntax.{w64}
 use mir.Val.{toZ, ofZ}
-use Rattle.witnesses.specs.Witness.{numberOf}
-use Rattle.correctness.specs.WitnessedCorrect.{WitnessedCorrect}
-use Rattle.correctness.specs.WitnessedCorrectLaws.{witnessed-correct}
+use Rattle.theory_calls.specs.Witness.{numberOf}
+use Rattle.theory_calls.specs.WitnessedCorrect.{WitnessedCorrect}
+use Rattle.theory_calls.specs.WitnessedCorrectLaws.{witnessed-correct}
 use Rattle.bohrali.proofs.c.bohrali_witnessed.Statement.{statement}
 use Rattle.bohrali.proofs.c.bohrali_witnessed.Tie as tie
 

@@ -2,8 +2,8 @@
 -- Assumes nothing.
 use native.Mathlib.Omega.{arith}
 use borrow.Author.Needs.{needs}
-use Rattle.sweeps.specs.SweepLaws.{carried-long}
-use Rattle.splitting.proofs.Splitting.{ups-ahead, downs-ahead}
+use Rattle.search.specs.SweepLaws.{carried-long}
+use Rattle.search.proofs.Splitting.{ups-ahead, downs-ahead}
 use Rattle.search.proofs.Leveling.{begins-fit, leveled-ahead}
 use Rattle.search.proofs.nearest.swept.Statement.{statement}
 use Rattle.search.proofs.nearest.swept.Tie as tie

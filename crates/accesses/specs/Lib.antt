@@ -1,4 +1,0 @@
-pub mod Access
-pub mod Races
-pub mod Race
-pub mod RaceLaws

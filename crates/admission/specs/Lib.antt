@@ -1,2 +1,0 @@
-pub mod Admission
-pub mod Unions

@@ -1,0 +1,3 @@
+// Lists of claims.
+pub mod list;
+pub mod numbers;

@@ -1,0 +1,77 @@
+// One list of claims against a chart whose nodes are marked: rows 12, 13 (`numbers`) and 21, and the first false claim.
+ghost use mathlib.Core.Path.{_≡_};
+ghost use mathlib.Core.Bool.{false};
+ghost use Prim.Native.Nat.{ℕ, _+_, _*_, _<_};
+ghost use lib.ListN.{getD, length};
+ghost use Rattle.chart.specs.Region.{Region};
+ghost use Rattle.chart.specs.Refusal.{firstOf};
+ghost use Rattle.chart.specs.Checked.{reading};
+ghost use Rattle.mark_tables.specs.Tables.{Accepted};
+ghost use Rattle.theory_answers.specs.Answer.{answerFor};
+ghost use Rattle.answer_constructs.specs.Marks.{Sized, Marks};
+ghost use Rattle.theory_calls.specs.Claims.{badNumbers, isFalse};
+ghost use Rattle.theory_calls.specs.Judged.{claimRows, verdict, answered};
+use crate::numbers::bad_numbers;
+use answer_constructs::chains::Sets;
+use answer_constructs::marks::MaskTable;
+use answer_constructs::sizes::bad_size;
+use answer_constructs::sizes::sets_for;
+use answer_pairs::rules::pair;
+use chart::cursor::wide;
+use chart::format::Chart;
+use chart::format::Refusal;
+use theory_answers::Answer;
+use theory_answers::Size;
+use theory_calls::Verdict;
+
+// Whether claim k is false.
+fn is_false(claims: &[u8], k: usize, marks: &MaskTable, sets: Sets) -> bool
+    requires { ⌜ (2 * k + 1 < length (now claims)) × ((j : ℕ) → getD (now claims) j 0 < 192) ⌝ }
+    ensures { λ r. ⌜ ((R : Region) (size : Size) → Marks R (now (marks .entry)) sets → Sized R size sets → badNumbers R (now (claims .entry)) ≡ false → r ≡ isFalse (answerFor R size) (now (claims .entry)) k) ⌝ }
+{
+    let a = wide(claims[2 * k]);
+    let b = wide(claims[2 * k + 1]);
+    pair(a, b, marks, sets) == Answer::CONCURRENT
+}
+
+// The verdict on a list that is not refused.
+fn first_false(claims: &[u8], marks: &MaskTable, sets: Sets) -> Verdict
+    requires { ⌜ ((j : ℕ) → getD (now claims) j 0 < 192) ⌝ }
+    ensures { λ r. ⌜ ((R : Region) (size : Size) → Marks R (now (marks .entry)) sets → Sized R size sets → badNumbers R (now (claims .entry)) ≡ false → r ≡ verdict (answerFor R size) (now (claims .entry))) ⌝ }
+{
+    let n = claims.len() / 2;
+    let mut k = 0;
+    while k < n {
+        if is_false(claims, k, marks, sets) {
+            return Verdict::Failed(k);
+        }
+        k += 1;
+    }
+    Verdict::Passed
+}
+
+// Rows 12 and 13 over the whole list, row 21 of the size, then the verdict.
+pub fn judge_claims(
+    s: &[u8],
+    chart: Chart,
+    size: Size,
+    claims: &[u8],
+    marks: &MaskTable,
+    sets: Sets,
+) -> Verdict
+    requires { ⌜ Accepted (now s) chart × Marks (reading (now s) chart) (now marks) sets ⌝ }
+    ensures { λ r.
+        let R = reading (now (s .entry)) chart in
+        ⌜ r ≡ answered (firstOf (claimRows R size (now (claims .entry)))) (verdict (answerFor R size) (now (claims .entry))) ⌝ }
+{
+    if claims.len() % 2 == 1 {
+        return Verdict::Refused(Refusal::CLAIMS);
+    }
+    if bad_numbers(s, chart, claims) {
+        return Verdict::Refused(Refusal::NUMBERS);
+    }
+    if bad_size(size) {
+        return Verdict::Refused(Refusal::SIZE);
+    }
+    first_false(claims, marks, sets_for(s, chart, size, sets))
+}

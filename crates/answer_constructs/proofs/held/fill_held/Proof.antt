@@ -1,0 +1,38 @@
+-- `answer_constructs::held::fill_held` meets its contract.
+-- Assumes nothing.
+use mathlib.Core.Path.{refl}
+use borrow.Author.Needs.{needs}
+use Rattle.lists.specs.Store.{zeros}
+use Rattle.answer_constructs.proofs.Nodes.{none-held}
+use Rattle.answer_constructs.proofs.held.fill_held.Statement.{statement}
+use Rattle.answer_constructs.proofs.held.fill_held.Tie as tie
+
+sets-of-requires : tie.Need-sets-of-requires
+sets-of-requires c κs = search needs
+
+returns : tie.Need-returns
+returns c =
+    let k = c .before in
+    let e = k .before .before in
+    (k .sets-of .ensures, λ x l. rw (e .pre .2) (none-held _ (e .args .chart) (e .pre .0) (c .if1 .taken) x))
+
+fill-chains-requires : tie.Need-fill-chains-requires
+fill-chains-requires c κs =
+    let k = c .before .before in
+    let e = k .before .before in
+    (e .pre .0, e .pre .1, k .sets-of .ensures .masters, refl)
+
+mark-nodes-requires : tie.Need-mark-nodes-requires
+mark-nodes-requires c κs =
+    let f = c .before .before in
+    let k = f .before .before .before in
+    let e = k .before .before in
+    (e .pre .0, f .fill-chains .ensures, k .sets-of .ensures .sections, rw (e .pre .2) refl, rw (e .pre .2) (zeros 192))
+
+returns-2 : tie.Need-returns-2
+returns-2 c =
+    let k = c .before .before .before .before .before .before in
+    (k .sets-of .ensures, c .mark-nodes .ensures)
+
+pub fill-held-spec : {M : Type 1} → statement M
+fill-held-spec = tie.close (tie.spec sets-of-requires returns fill-chains-requires mark-nodes-requires returns-2)

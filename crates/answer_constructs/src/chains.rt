@@ -1,0 +1,158 @@
+// Masks of constructs: what a node in each of them holds, and the constructs of each kind.
+ghost use mathlib.Core.Path.{_≡_};
+ghost use mathlib.Core.Bool.{cond};
+ghost use Prim.Native.Nat.{_+_, _<_};
+ghost use lib.ListN.{length};
+ghost use Rattle.lists.specs.Bits.{has as hasBit};
+ghost use Rattle.lists.specs.Mask.{maskOf};
+ghost use Rattle.chart.specs.Format.{outside, decode};
+ghost use Rattle.chart.specs.Region.{master};
+ghost use Rattle.chart.specs.Scope.{orderedByte, sectionByte};
+ghost use Rattle.chart.specs.Nested.{countsIn};
+ghost use Rattle.chart.specs.Checked.{reading};
+ghost use Rattle.chart.proofs.RegionFacts.{Counts};
+ghost use Rattle.theory_paths.specs.Phases.{returning as returningMask};
+ghost use Rattle.mark_tables.specs.Tables.{Accepted};
+ghost use Rattle.answer_constructs.specs.Chains.{Chains, maskAt, lastingBit, ownMask};
+ghost use Rattle.answer_constructs.specs.Marks.{OfKind, Kinds};
+use crate::members::members_of;
+use crate::peers::add_if;
+use crate::peers::masters_like;
+use chart::cursor::wide;
+use chart::format::Chart;
+use chart::format::Construct;
+use masks::bits::bit;
+use masks::bits::has;
+
+// The mask of construct p, with no bit where p is none.
+pub fn mask_at(masks: &[u64; Chart::CONSTRUCTS], p: u8) -> u64
+    requires { ⌜ ((p ≡ outside → ⊥) → p < 48) ⌝ }
+    ensures { λ r. ⌜ r ≡ maskAt (now (masks .entry)) p ⌝ }
+{
+    if p == Construct::NONE {
+        return 0;
+    }
+    let c = wide(p);
+    masks[c]
+}
+
+// Bit c, where construct d does not return.
+fn lasting(c: usize, d: usize, returning: u64) -> u64
+    requires { ⌜ (c < 48) × (d < 48) ⌝ }
+    ensures { λ r. ⌜ r ≡ lastingBit returning d c ⌝ }
+{
+    if has(returning, d) {
+        return 0;
+    }
+    bit(c)
+}
+
+// What a node holds for being inside construct c: a single and, for an ordered, its do, where they do not return; a section where its parent
+// does not; for a master the masters for its thread, since that one goes into all of them.
+fn own(construct: Construct, c: usize, returning: u64, masters: u64) -> u64
+    requires { ⌜ (c < 48) × (construct .kind ≡ orderedByte → construct .parent < 48) × (construct .kind ≡ sectionByte → construct .parent < 48) ⌝ }
+    ensures { λ r. ⌜ r ≡ ownMask (construct .kind) (construct .parent) c returning masters ⌝ }
+{
+    if construct.kind == Construct::MASTER {
+        return masters;
+    }
+    if construct.kind == Construct::SINGLE {
+        return lasting(c, c, returning);
+    }
+    if construct.kind == Construct::ORDERED {
+        let parent = wide(construct.parent);
+        return lasting(parent, parent, returning);
+    }
+    if construct.kind == Construct::SECTION {
+        return lasting(c, wide(construct.parent), returning);
+    }
+    0
+}
+
+// The same, where construct c is one of the region's; a deeper one gives nothing.
+fn gives(construct: Construct, c: usize, members: u64, returning: u64, masters: u64) -> u64
+    requires { ⌜ (c < 48) × (construct .kind ≡ orderedByte → construct .parent < 48) × (construct .kind ≡ sectionByte → construct .parent < 48) ⌝ }
+    ensures { λ r. ⌜ r ≡ cond (hasBit members c) (ownMask (construct .kind) (construct .parent) c returning masters) 0 ⌝ }
+{
+    if !has(members, c) {
+        return 0;
+    }
+    own(construct, c, returning, masters)
+}
+
+// One construct more. Its parent is lower, and so done.
+fn add_construct(
+    s: &[u8],
+    chart: Chart,
+    c: usize,
+    members: u64,
+    returning: u64,
+    masters: u64,
+    held: &mut [u64; Chart::CONSTRUCTS],
+)
+    requires { ⌜ Accepted (now s) chart × (c < chart .constructs) × (members ≡ maskOf (countsIn (decode (now s) .constructs) (chart .region)) (chart .constructs)) × (returning ≡ returningMask (reading (now s) chart)) × OfKind (reading (now s) chart) master masters × Chains (reading (now s) chart) (Counts (decode (now s)) (chart .region)) c (now held) ⌝ }
+    ensures { λ _. ⌜ Chains (reading (now (s .entry)) chart) (Counts (decode (now (s .entry))) (chart .region)) (c + 1) (now (held .exit)) ⌝ }
+{
+    let construct = Construct::read(s, chart, c);
+    let like = masters_like(s, chart, c, masters);
+    held[c] = mask_at(held, construct.parent) | gives(construct, c, members, returning, like);
+}
+
+// For each construct what a node that lies in it holds, given the constructs that return and the masters.
+pub fn fill_chains(
+    s: &[u8],
+    chart: Chart,
+    returning: u64,
+    masters: u64,
+    held: &mut [u64; Chart::CONSTRUCTS],
+)
+    requires { ⌜ Accepted (now s) chart × (returning ≡ returningMask (reading (now s) chart)) × OfKind (reading (now s) chart) master masters × (length (now held) ≡ 48) ⌝ }
+    ensures { λ _. ⌜ Chains (reading (now (s .entry)) chart) (Counts (decode (now (s .entry))) (chart .region)) (chart .constructs) (now (held .exit)) ⌝ }
+{
+    let members = members_of(s, chart);
+    let n = chart.constructs;
+    let mut c = 0;
+    while c < n {
+        add_construct(s, chart, c, members, returning, masters, held);
+        c += 1;
+    }
+}
+
+// The constructs of the kinds that the rules speak of; `sections` are those of kind section. Of a team of a known size, whether it has but one
+// thread, and the masters for a thread that it lacks.
+pub struct Sets {
+    pub masters: u64,
+    pub singles: u64,
+    pub dos: u64,
+    pub sections: u64,
+    pub alone: bool,
+    pub missing: u64,
+}
+
+pub fn sets_of(s: &[u8], chart: Chart) -> Sets
+    requires { ⌜ Accepted (now s) chart ⌝ }
+    ensures { λ r. ⌜ Kinds (reading (now (s .entry)) chart) r ⌝ }
+{
+    let n = chart.constructs;
+    let mut masters = 0;
+    let mut singles = 0;
+    let mut dos = 0;
+    let mut sections = 0;
+    let mut c = 0;
+    while c < n {
+        let kind = Construct::read(s, chart, c).kind;
+        masters = add_if(kind == Construct::MASTER, c, masters);
+        singles = add_if(kind == Construct::SINGLE, c, singles);
+        dos = add_if(kind == Construct::DO, c, dos);
+        sections = add_if(kind == Construct::SECTION, c, sections);
+        c += 1;
+    }
+    Sets {
+        masters,
+        singles,
+        dos,
+        sections,
+        alone: false,
+        missing: 0,
+    }
+}

@@ -1,0 +1,99 @@
+// The answer for two nodes, by their masks.
+ghost use mathlib.Core.Path.{_≡_};
+ghost use mathlib.Core.Bool.{true};
+ghost use Prim.Native.Nat.{_<_};
+ghost use Rattle.chart.specs.Region.{Region};
+ghost use Rattle.theory_answers.specs.Answer.{answerFor};
+ghost use Rattle.theory_answers.specs.declared.Size.{Size};
+ghost use Rattle.answer_constructs.specs.Marks.{Sized, Marks};
+ghost use Rattle.answer_pairs.specs.Rules.{profileAt, ruledBy, answerBy};
+use answer_constructs::chains::Sets;
+use answer_constructs::marks::ENDS;
+use answer_constructs::marks::HELD;
+use answer_constructs::marks::MaskTable;
+use answer_constructs::marks::STARTS;
+use masks::bits::common;
+use theory_answers::Answer;
+
+// What the rules read of one node: its bits in each row of the table of masks.
+pub struct Profile {
+    pub starts: u64,
+    pub ends: u64,
+    pub held: u64,
+}
+
+pub fn profile_of(x: usize, marks: &MaskTable) -> Profile
+    requires { ⌜ x < 192 ⌝ }
+    ensures { λ r. ⌜ r ≡ profileAt (now (marks .entry)) x ⌝ }
+{
+    Profile {
+        starts: marks[STARTS][x],
+        ends: marks[ENDS][x],
+        held: marks[HELD][x],
+    }
+}
+
+// Two nodes with the same profile have the same answers.
+pub fn same(x: Profile, y: Profile) -> bool
+    ensures { λ r. ⌜ (r ≡ true → x ≡ y) ⌝ }
+{
+    if x.starts != y.starts {
+        return false;
+    }
+    if x.ends != y.ends {
+        return false;
+    }
+    x.held == y.held
+}
+
+// The rules for all teams in their order; past the first, a rule asks for a construct of its kind that both hold.
+fn ruled_by(sets: Sets, x: Profile, y: Profile) -> u8
+    ensures { λ r. ⌜ r ≡ ruledBy sets x y ⌝ }
+{
+    if !common(x.starts, y.starts) {
+        return Answer::NO_COMMON_PHASE;
+    }
+    if !common(x.ends, y.ends) {
+        return Answer::NO_COMMON_PHASE;
+    }
+    let both = x.held & y.held;
+    if common(both, sets.masters) {
+        return Answer::MASTER;
+    }
+    if common(both, sets.singles) {
+        return Answer::SINGLE;
+    }
+    if common(both, sets.dos) {
+        return Answer::ORDERED;
+    }
+    if common(both, sets.sections) {
+        return Answer::SECTION;
+    }
+    Answer::CONCURRENT
+}
+
+// Ahead of them, of a known size: the team has one thread, or one of the nodes is inside a master for a thread that it lacks. Where it lacks
+// none, as where no size is known, what the nodes hold is not read for that.
+pub fn answer_by(sets: Sets, x: Profile, y: Profile) -> u8
+    ensures { λ r. ⌜ r ≡ answerBy sets x y ⌝ }
+{
+    if sets.alone {
+        return Answer::ALONE;
+    }
+    if sets.missing == 0 {
+        return ruled_by(sets, x, y);
+    }
+    if common(x.held | y.held, sets.missing) {
+        return Answer::MISSING;
+    }
+    ruled_by(sets, x, y)
+}
+
+// The answer for nodes a and b.
+pub fn pair(a: usize, b: usize, marks: &MaskTable, sets: Sets) -> u8
+    requires { ⌜ (a < 192) × (b < 192) ⌝ }
+    ensures { λ r. ⌜ ((R : Region) (size : Size) → Marks R (now (marks .entry)) sets → Sized R size sets → a < R .nodes → b < R .nodes → r ≡ answerFor R size a b) ⌝ }
+{
+    let x = profile_of(a, marks);
+    answer_by(sets, x, profile_of(b, marks))
+}

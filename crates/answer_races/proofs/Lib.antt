@@ -1,0 +1,9 @@
+pub mod Chains
+pub mod Links
+pub mod Filled
+pub mod Visits
+pub mod LineBits
+pub mod RowsLaws
+pub mod BytesLaws
+pub mod LineRace
+pub mod Sharing

@@ -1,0 +1,5 @@
+pub mod Runs
+pub mod Spreads
+pub mod Ranks
+pub mod RowSets
+pub mod Entries

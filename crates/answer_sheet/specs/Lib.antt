@@ -1,0 +1,5 @@
+pub mod Gathered
+pub mod Shared
+pub mod Fan
+pub mod Eights
+pub mod Sheet

@@ -1,0 +1,5 @@
+// The sheet, row by row.
+pub mod eights;
+pub mod rows;
+pub mod sets;
+pub mod sheet;

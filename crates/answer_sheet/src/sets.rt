@@ -1,0 +1,57 @@
+// For each bit of the nodes' masks the nodes that have it, 64 nodes at a time.
+ghost use mathlib.Core.Path.{_≡_};
+ghost use mathlib.Core.Bool.{_&&_, cond};
+ghost use Prim.Native.Nat.{ℕ, _+_, _^_, _≤_, _<_};
+ghost use lib.Bits.{bitOr};
+ghost use lib.Dec.{eqb};
+ghost use lib.ListN.{length};
+ghost use Rattle.lists.specs.Bits.{has};
+ghost use Rattle.answer_sheet.specs.Gathered.{pending, Gathered};
+use chart::format::Chart;
+use masks::bits::bit;
+use masks::unions::BITS;
+use masks::unions::add;
+
+// Neighbours that have one mask, closed nodes among them left out: they are added to the sets of its bits together.
+pub struct Run {
+    pub mask: u64,
+    pub set: u64,
+}
+
+// Node j of the 64 joins the run, or else the run is added and the node starts another.
+fn take(sets: &mut [u64; BITS], run: Run, closed: u8, mask: u64, j: usize) -> Run
+    requires { ⌜ (length (now sets) ≡ 64) × (j < 64) ⌝ }
+    ensures { λ r. ⌜ (length (now (sets .exit)) ≡ 64) × ((b : ℕ) → b < 64 → pending (now (sets .exit)) (r .mask) (r .set) b ≡ cond (eqb closed 0 && has mask b) (bitOr (2 ^ j) (pending (now (sets .entry)) (run .mask) (run .set) b)) (pending (now (sets .entry)) (run .mask) (run .set) b)) ⌝ }
+{
+    if closed != 0 {
+        return run;
+    }
+    if mask == run.mask {
+        return Run {
+            mask,
+            set: bit(j) | run.set,
+        };
+    }
+    add(sets, run.mask, run.set);
+    Run { mask, set: bit(j) }
+}
+
+// For each bit the nodes from `first` on, 64 of them, that have it and are not closed.
+pub fn gather(
+    masks: &[u64; Chart::NODES],
+    closed: &[u8; Chart::NODES],
+    first: usize,
+    sets: &mut [u64; BITS],
+)
+    requires { ⌜ first + 64 ≤ 192 ⌝ }
+    ensures { λ _. ⌜ Gathered (now (closed .entry)) (now (masks .entry)) first (now (sets .exit)) ⌝ }
+{
+    *sets = [0u64; BITS];
+    let mut run = Run { mask: 0, set: 0 };
+    let mut j = 0;
+    while j < 64 {
+        run = take(sets, run, closed[first + j], masks[first + j], j);
+        j += 1;
+    }
+    add(sets, run.mask, run.set);
+}

@@ -1,0 +1,7 @@
+pub mod Laws
+pub mod Stores
+pub mod Filling
+pub mod Around
+pub mod Roles
+pub mod Marking
+pub mod Whole

@@ -1,0 +1,67 @@
+-- What a region's table and a team's hold.
+-- Assumes nothing.
+use mathlib.Core.Path.{_≡_}
+use mathlib.Core.Bool.{_&&_, cond}
+use mathlib.Core.List.{List}
+use Prim.Native.Nat.{ℕ, _+_, _*_, _/_, _%_, _≤_, _<_}
+use lib.Dec.{eqb}
+use lib.ListN.{length, getD}
+use Rattle.lists.specs.Bits.{has}
+use Rattle.lists.specs.Mask.{maskOf}
+use Rattle.chart.specs.Region.{Role, plain, barrier, opens, closes, Region}
+use Rattle.chart.specs.Scope.{orderedByte, kindOf}
+use Rattle.theory_team.specs.State.{State}
+use Rattle.theory_traces.specs.declared.Effect.{Effect}
+use Rattle.theory_traces.specs.declared.Effect.the-variants.{None, Moves, Leaves, Takes, TakesNext}
+
+-- A role, as its code and the number of its construct.
+unfoldable pub roleBy : ℕ → ℕ → Role
+roleBy code number = cond (eqb code 1) barrier (cond (eqb code 2) (opens number) (cond (eqb code 3) (closes number) plain))
+
+-- The table of a region. Nodes and threads come as bytes.
+pub record Tabled (R : Region) (table : List ℕ) : Type 0 where
+  pub long : length table ≡ 2037
+  pub edge : (x y : ℕ) → x < 256 → y < 256 → R .edge x y ≡ has (getD table (4 * x + y / 64) 0) (y % 64)
+  pub role : (x : ℕ) → x < 256 → R .role x ≡ roleBy (getD table (1024 + x) 0) (getD table (1280 + x) 0)
+  pub number : (x : ℕ) → x < 256 → 2 ≤ getD table (1024 + x) 0 → getD table (1280 + x) 0 < R .constructs
+  pub numbers : (x : ℕ) → x < 256 → getD table (1280 + x) 0 < 48
+  pub inside : (x c : ℕ) → x < 256 → c < R .constructs → R .inside x c ≡ (has (getD table (1536 + x) 0) c && has (getD table 2032 0) c)
+  pub kind : (c : ℕ) → c < R .constructs → R .kind c ≡ kindOf (getD table (1792 + c) 0)
+  pub parent : (c : ℕ) → c < R .constructs → R .parent c ≡ getD table (1840 + c) 0
+  pub thread : (c : ℕ) → c < R .constructs → R .thread c ≡ getD table (1888 + c) 0
+  pub begin : (c : ℕ) → c < R .constructs → R .begin c ≡ getD table (1936 + c) 0
+  pub end : (c : ℕ) → c < R .constructs → R .end c ≡ getD table (1984 + c) 0
+  -- a begin is a node, and an ordered stands in a do
+  pub begins : (c : ℕ) → c < R .constructs → getD table (1936 + c) 0 < 256
+  pub dos : (c : ℕ) → c < R .constructs → getD table (1792 + c) 0 ≡ orderedByte → getD table (1840 + c) 0 < 48
+  pub constructs : R .constructs ≡ getD table 2033 0
+  pub few : R .constructs ≤ 48
+  pub start : R .start ≡ getD table 2034 0
+  pub starts : R .start < 256
+  pub finish : R .finish ≡ getD table 2035 0
+  pub nodes : R .nodes ≡ getD table 2036 0
+  pub few-nodes : R .nodes ≤ 192
+
+-- The table of a team.
+pub record Shows (σ : State) (team : List ℕ) : Type 0 where
+  pub long : length team ≡ 785
+  pub node : (t : ℕ) → t < 8 → getD team (97 * t) 0 ≡ σ .node t
+  pub byte : (t : ℕ) → t < 8 → getD team (97 * t) 0 < 256
+  pub count : (t c : ℕ) → t < 8 → c < 48 → getD team (97 * t + 1 + c) 0 ≡ σ .encounters t c
+  pub taken : (t c : ℕ) → t < 8 → c < 48 → getD team (97 * t + 49 + c) 0 ≡ maskOf (σ .taken t c) 48
+
+-- Some region and some state have these tables, and no count is so large that one more could not be held.
+pub record Sound (table team : List ℕ) : Type 0 where
+  pub region : Region
+  pub state : State
+  pub tabled : Tabled region table
+  pub shows : Shows state team
+  pub low : (t c : ℕ) → t < 8 → c < 48 → getD team (97 * t + 1 + c) 0 + 1 < 18446744073709551616
+
+-- The constructs of an effect have columns.
+abbrev pub Numbered : Effect → Type 0
+Numbered None = Unit {0}
+Numbered Moves = Unit {0}
+Numbered (Leaves c) = c < 48
+Numbered (Takes c x) = (c < 48) × (x < 48)
+Numbered (TakesNext c x) = (c < 48) × (x < 48)

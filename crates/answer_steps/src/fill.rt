@@ -1,0 +1,81 @@
+// The whole table.
+ghost use mathlib.Core.Path.{_≡_};
+ghost use mathlib.Core.Bool.{cond};
+ghost use Prim.Native.Nat.{ℕ, _-_, _≤_, _<_};
+ghost use lib.Dec.{eqb};
+ghost use lib.ListN.{length, getD};
+ghost use Rattle.chart.specs.Format.{outside};
+ghost use Rattle.chart.specs.Checked.{reading};
+ghost use Rattle.mark_tables.specs.Tables.{Accepted};
+ghost use Rattle.answer_steps.specs.Tables.{Tabled};
+ghost use Rattle.answer_steps.specs.Words.{Beside};
+use crate::columns::fill_above;
+use crate::columns::fill_constructs;
+use crate::columns::fill_nodes;
+use crate::edges::fill_edges;
+use crate::tables::CONSTRUCTS;
+use crate::tables::FINISH;
+use crate::tables::MEMBERS;
+use crate::tables::NODES;
+use crate::tables::REGION;
+use crate::tables::RegionTable;
+use crate::tables::START;
+use answer_constructs::members::members_of;
+use chart::format::Chart;
+use mark_tables::load::frames;
+
+// A barrier at which the team begins or ends: of the outermost region `outer`, of a parallel's region its frame.
+fn frame_of(chart: Chart, outer: usize, frames: &[u8; Chart::BARRIERS]) -> u64
+    requires { ⌜ ((chart .region ≡ outside → ⊥) → chart .region < 64) × ((k : ℕ) → getD (now frames) k 0 < 192) ⌝ }
+    ensures { λ r. ⌜ r ≡ cond (eqb (chart .region) outside) outer (getD (now (frames .entry)) (chart .region) 0) ⌝ }
+{
+    let region = chart.region;
+    if region == Chart::OUTERMOST {
+        return outer as u64;
+    }
+    frames[region] as u64
+}
+
+// The single numbers.
+fn put_numbers(
+    chart: Chart,
+    members: u64,
+    begins: &[u8; Chart::BARRIERS],
+    ends: &[u8; Chart::BARRIERS],
+    table: &mut RegionTable,
+)
+    requires { ⌜ (1 ≤ chart .nodes) × ((chart .region ≡ outside → ⊥) → chart .region < 64) × (length (now table) ≡ 2037) × ((k : ℕ) → getD (now begins) k 0 < 192) × ((k : ℕ) → getD (now ends) k 0 < 192) ⌝ }
+    ensures { λ _. ⌜ (getD (now (table .exit)) 2032 0 ≡ members) × (getD (now (table .exit)) 2033 0 ≡ chart .constructs) × (getD (now (table .exit)) 2036 0 ≡ chart .nodes) ⌝ }
+    ensures { λ _. ⌜ (getD (now (table .exit)) 2034 0 ≡ cond (eqb (chart .region) outside) 0 (getD (now (begins .entry)) (chart .region) 0)) × (getD (now (table .exit)) 2035 0 ≡ cond (eqb (chart .region) outside) (chart .nodes - 1) (getD (now (ends .entry)) (chart .region) 0)) ⌝ }
+    ensures { λ _. ⌜ Beside 2032 2037 (now (table .entry)) (now (table .exit)) ⌝ }
+{
+    table[MEMBERS] = members;
+    table[CONSTRUCTS] = chart.constructs as u64;
+    table[START] = frame_of(chart, 0, begins);
+    table[FINISH] = frame_of(chart, chart.nodes - 1, ends);
+    table[NODES] = chart.nodes as u64;
+}
+
+// The table of the region that a chart is read for.
+pub fn fill_table(s: &[u8], chart: Chart, table: &mut RegionTable)
+    requires { ⌜ Accepted (now s) chart ⌝ }
+    ensures { λ _. ⌜ Tabled (reading (now (s .entry)) chart) (now (table .exit)) ⌝ }
+{
+    *table = [0u64; REGION];
+    let members = members_of(s, chart);
+    let mut above = [0u64; Chart::CONSTRUCTS];
+    fill_above(s, chart, &mut above);
+    fill_nodes(s, chart, members, &above, 0, table);
+    fill_nodes(s, chart, members, &above, 1, table);
+    fill_nodes(s, chart, members, &above, 2, table);
+    let mut begins = [0u8; Chart::BARRIERS];
+    let mut ends = [0u8; Chart::BARRIERS];
+    frames(s, chart, &mut begins, &mut ends);
+    fill_constructs(s, chart, &begins, &ends, 0, table);
+    fill_constructs(s, chart, &begins, &ends, 1, table);
+    fill_constructs(s, chart, &begins, &ends, 2, table);
+    fill_constructs(s, chart, &begins, &ends, 3, table);
+    fill_constructs(s, chart, &begins, &ends, 4, table);
+    put_numbers(chart, members, &begins, &ends, table);
+    fill_edges(s, chart, table);
+}

@@ -1,0 +1,102 @@
+// What a step reads: a table of the region, made once for a trace, and the table of the team.
+ghost use mathlib.Core.Path.{_≡_};
+ghost use Prim.Native.Nat.{_+_, _*_, _/_, _%_, _<_};
+ghost use lib.ListN.{length, getD};
+ghost use Rattle.lists.specs.Bits.{has as hasBit};
+use masks::bits::has;
+
+// The table of a region: columns of the nodes, with a place for each byte, then columns of the constructs, then single numbers.
+pub type RegionTable = [u64; REGION];
+
+// Four words of a node: the mask of the nodes that its edges lead to.
+pub const EDGES: usize = 0;
+// What a node is: PLAIN, BARRIER, OPENS or CLOSES.
+pub const ROLES: usize = 1024;
+// The construct that it opens or closes.
+pub const NUMBERS: usize = 1280;
+// The mask of the constructs around it, of this region or another.
+pub const INSIDES: usize = 1536;
+
+pub const KINDS: usize = 1792;
+
+pub const PARENTS: usize = 1840;
+
+pub const THREADS: usize = 1888;
+
+pub const BEGINS: usize = 1936;
+
+pub const ENDS: usize = 1984;
+// The mask of the region's constructs.
+pub const MEMBERS: usize = 2032;
+
+pub const CONSTRUCTS: usize = 2033;
+
+pub const START: usize = 2034;
+
+pub const FINISH: usize = 2035;
+
+pub const NODES: usize = 2036;
+
+pub const REGION: usize = 2037;
+
+pub const BARRIER: usize = 1;
+
+pub const OPENS: usize = 2;
+
+pub const CLOSES: usize = 3;
+
+// The table of a team: for each thread its node, its counts and the masks of the sections that it has taken; then the nodes chosen for a release
+// that is not yet whole, and how many they are.
+pub type TeamTable = [u64; TEAM];
+
+pub const THREAD: usize = 97;
+
+pub const COUNTS: usize = 1;
+
+pub const TAKEN: usize = 49;
+
+pub const CHOSEN: usize = 776;
+
+pub const PENDING: usize = 784;
+
+pub const TEAM: usize = 785;
+
+// A number of the region's table.
+pub fn at(table: &RegionTable, place: usize) -> usize
+    requires { ⌜ (length (now table) ≡ 2037) × (place < 2037) ⌝ }
+    ensures { λ r. ⌜ r ≡ getD (now (table .entry)) place 0 ⌝ }
+{
+    table[place] as usize
+}
+
+// Whether an edge leads from x to y.
+pub fn leads(table: &RegionTable, x: usize, y: usize) -> bool
+    requires { ⌜ (length (now table) ≡ 2037) × (x < 256) × (y < 256) ⌝ }
+    ensures { λ r. ⌜ r ≡ hasBit (getD (now (table .entry)) (4 * x + y / 64) 0) (y % 64) ⌝ }
+{
+    has(table[4 * x + y / 64], y % 64)
+}
+
+// The node of a thread.
+pub fn node_of(team: &TeamTable, t: usize) -> usize
+    requires { ⌜ (length (now team) ≡ 785) × (t < 8) ⌝ }
+    ensures { λ r. ⌜ r ≡ getD (now (team .entry)) (97 * t) 0 ⌝ }
+{
+    team[THREAD * t] as usize
+}
+
+// How often it has left the begin of c.
+pub fn count_of(team: &TeamTable, t: usize, c: usize) -> u64
+    requires { ⌜ (length (now team) ≡ 785) × (t < 8) × (c < 48) ⌝ }
+    ensures { λ r. ⌜ r ≡ getD (now (team .entry)) (97 * t + 1 + c) 0 ⌝ }
+{
+    team[THREAD * t + COUNTS + c]
+}
+
+// The sections that it has taken of c.
+pub fn taken_of(team: &TeamTable, t: usize, c: usize) -> u64
+    requires { ⌜ (length (now team) ≡ 785) × (t < 8) × (c < 48) ⌝ }
+    ensures { λ r. ⌜ r ≡ getD (now (team .entry)) (97 * t + 49 + c) 0 ⌝ }
+{
+    team[THREAD * t + TAKEN + c]
+}

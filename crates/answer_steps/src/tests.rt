@@ -1,0 +1,240 @@
+// The team rules as tests, each as the definition of like name has it (crate `theory_traces`, specs/Tests.antt).
+ghost use mathlib.Core.Path.{_≡_};
+ghost use mathlib.Core.Bool.{_&&_, _||_, not};
+ghost use Prim.Native.Nat.{_≤_, _<_};
+ghost use lib.Dec.{eqb, leb};
+ghost use lib.ListN.{length, getD};
+ghost use Rattle.chart.specs.Region.{Region, ordered};
+ghost use Rattle.theory_team.specs.State.{State};
+ghost use Rattle.theory_answers.specs.Answer.{inOrderedOf, isIn};
+ghost use Rattle.theory_traces.specs.Tests.{isFirst, noneOrdered, isUntaken, isSectionOf, allTaken, mayEnter, mayPass, mayLeave};
+ghost use Rattle.answer_steps.specs.Tables.{Tabled, Shows, Sound};
+use crate::tables::BEGINS;
+use crate::tables::CONSTRUCTS;
+use crate::tables::INSIDES;
+use crate::tables::KINDS;
+use crate::tables::MEMBERS;
+use crate::tables::NUMBERS;
+use crate::tables::OPENS;
+use crate::tables::PARENTS;
+use crate::tables::ROLES;
+use crate::tables::RegionTable;
+use crate::tables::THREADS;
+use crate::tables::TeamTable;
+use crate::tables::at;
+use crate::tables::count_of;
+use crate::tables::node_of;
+use crate::tables::taken_of;
+use chart::cursor::wide;
+use chart::format::Construct;
+use masks::bits::has;
+
+// No thread has left the begin of c as often as t is about to.
+fn is_first(team: &TeamTable, m: usize, t: usize, c: usize) -> bool
+    requires { ⌜ (length (now team) ≡ 785) × (m ≤ 8) × (t < 8) × (c < 48) ⌝ }
+    ensures { λ r. ⌜ ((σ : State) → Shows σ (now (team .entry)) → r ≡ isFirst m σ t c) ⌝ }
+{
+    let own = count_of(team, t, c);
+    let mut k = 0;
+    while k < m {
+        if own < count_of(team, k, c) {
+            return false;
+        }
+        k += 1;
+    }
+    true
+}
+
+// Node x is inside o, and o is an ordered of the do d.
+fn in_one(table: &RegionTable, x: usize, d: usize, o: usize) -> bool
+    requires { ⌜ ((R : Region) × Tabled R (now table) × (x < 256) × (o < getD (now table) 2033 0)) ⌝ }
+    ensures { λ r. ⌜ ((R : Region) → Tabled R (now (table .entry)) → r ≡ (isIn R ordered x o && eqb (R .parent o) d)) ⌝ }
+{
+    if at(table, KINDS + o) != wide(Construct::ORDERED) {
+        return false;
+    }
+    if at(table, PARENTS + o) != d {
+        return false;
+    }
+    if !has(table[INSIDES + x], o) {
+        return false;
+    }
+    has(table[MEMBERS], o)
+}
+
+// Node x is inside an ordered of the do d.
+fn in_ordered(table: &RegionTable, x: usize, d: usize) -> bool
+    requires { ⌜ ((R : Region) × Tabled R (now table) × (x < 256)) ⌝ }
+    ensures { λ r. ⌜ ((R : Region) → Tabled R (now (table .entry)) → r ≡ inOrderedOf R x d) ⌝ }
+{
+    let n = at(table, CONSTRUCTS);
+    let mut o = 0;
+    while o < n {
+        if in_one(table, x, d, o) {
+            return true;
+        }
+        o += 1;
+    }
+    false
+}
+
+// Thread k is t, or not inside an ordered of the do d, or in another instance of d.
+fn not_beside(table: &RegionTable, team: &TeamTable, t: usize, d: usize, k: usize) -> bool
+    requires { ⌜ Sound (now table) (now team) × (t < 8) × (d < 48) × (k < 8) ⌝ }
+    ensures { λ r. ⌜ ((R : Region) (σ : State) → Tabled R (now (table .entry)) → Shows σ (now (team .entry)) → r ≡ (eqb k t || (not (inOrderedOf R (σ .node k) d) || not (eqb (σ .encounters k d) (σ .encounters t d))))) ⌝ }
+{
+    if k == t {
+        return true;
+    }
+    if !in_ordered(table, node_of(team, k), d) {
+        return true;
+    }
+    count_of(team, k, d) != count_of(team, t, d)
+}
+
+// No thread but t is inside an ordered of the do d in the same instance of d.
+fn none_ordered(table: &RegionTable, team: &TeamTable, m: usize, t: usize, d: usize) -> bool
+    requires { ⌜ Sound (now table) (now team) × (m ≤ 8) × (t < 8) × (d < 48) ⌝ }
+    ensures { λ r. ⌜ ((R : Region) (σ : State) → Tabled R (now (table .entry)) → Shows σ (now (team .entry)) → r ≡ noneOrdered R m σ t d) ⌝ }
+{
+    let mut k = 0;
+    while k < m {
+        if !not_beside(table, team, t, d, k) {
+            return false;
+        }
+        k += 1;
+    }
+    true
+}
+
+// Thread t is not past the given instance of c, and has not taken the section x there.
+fn untaken_by(team: &TeamTable, c: usize, instance: u64, x: usize, t: usize) -> bool
+    requires { ⌜ (length (now team) ≡ 785) × (c < 48) × (x < 48) × (t < 8) ⌝ }
+    ensures { λ r. ⌜ ((σ : State) → Shows σ (now (team .entry)) → r ≡ (leb (σ .encounters t c) instance && (not (eqb (σ .encounters t c) instance) || not (σ .taken t c x)))) ⌝ }
+{
+    let own = count_of(team, t, c);
+    if instance < own {
+        return false;
+    }
+    if own != instance {
+        return true;
+    }
+    !has(taken_of(team, t, c), x)
+}
+
+// No thread is past that instance of c, and none has taken the section x there.
+pub fn is_untaken(team: &TeamTable, m: usize, c: usize, instance: u64, x: usize) -> bool
+    requires { ⌜ (length (now team) ≡ 785) × (m ≤ 8) × (c < 48) × (x < 48) ⌝ }
+    ensures { λ r. ⌜ ((σ : State) → Shows σ (now (team .entry)) → r ≡ isUntaken m σ c instance x) ⌝ }
+{
+    let mut t = 0;
+    while t < m {
+        if !untaken_by(team, c, instance, x, t) {
+            return false;
+        }
+        t += 1;
+    }
+    true
+}
+
+// x is a section of the sections construct c.
+fn is_section_of(table: &RegionTable, c: usize, x: usize) -> bool
+    requires { ⌜ ((R : Region) × Tabled R (now table) × (x < getD (now table) 2033 0)) ⌝ }
+    ensures { λ r. ⌜ ((R : Region) → Tabled R (now (table .entry)) → r ≡ isSectionOf R c x) ⌝ }
+{
+    let begin = at(table, BEGINS + x);
+    if at(table, ROLES + begin) != OPENS {
+        return false;
+    }
+    if at(table, NUMBERS + begin) != x {
+        return false;
+    }
+    if at(table, KINDS + x) != wide(Construct::SECTION) {
+        return false;
+    }
+    at(table, PARENTS + x) == c
+}
+
+// Where x is a section of c, it is taken in that instance.
+fn taken_if(
+    table: &RegionTable,
+    team: &TeamTable,
+    m: usize,
+    c: usize,
+    instance: u64,
+    x: usize,
+) -> bool
+    requires { ⌜ Sound (now table) (now team) × (m ≤ 8) × (c < 48) × (x < getD (now table) 2033 0) ⌝ }
+    ensures { λ r. ⌜ ((R : Region) (σ : State) → Tabled R (now (table .entry)) → Shows σ (now (team .entry)) → r ≡ (not (isSectionOf R c x) || not (isUntaken m σ c instance x))) ⌝ }
+{
+    if !is_section_of(table, c, x) {
+        return true;
+    }
+    !is_untaken(team, m, c, instance, x)
+}
+
+// All sections of c are taken in that instance.
+fn all_taken(table: &RegionTable, team: &TeamTable, m: usize, c: usize, instance: u64) -> bool
+    requires { ⌜ Sound (now table) (now team) × (m ≤ 8) × (c < 48) ⌝ }
+    ensures { λ r. ⌜ ((R : Region) (σ : State) → Tabled R (now (table .entry)) → Shows σ (now (team .entry)) → r ≡ allTaken R m σ c instance) ⌝ }
+{
+    let n = at(table, CONSTRUCTS);
+    let mut x = 0;
+    while x < n {
+        if !taken_if(table, team, m, c, instance, x) {
+            return false;
+        }
+        x += 1;
+    }
+    true
+}
+
+// Thread t, at the begin of c, may take an edge.
+pub fn may_enter(table: &RegionTable, team: &TeamTable, m: usize, t: usize, c: usize) -> bool
+    requires { ⌜ Sound (now table) (now team) × (m ≤ 8) × (t < 8) × (c < getD (now table) 2033 0) ⌝ }
+    ensures { λ r. ⌜ ((R : Region) (σ : State) → Tabled R (now (table .entry)) → Shows σ (now (team .entry)) → r ≡ mayEnter R m σ t c (R .kind c)) ⌝ }
+{
+    let kind = at(table, KINDS + c);
+    if kind == wide(Construct::SINGLE) {
+        return is_first(team, m, t, c);
+    }
+    if kind == wide(Construct::MASTER) {
+        return t == at(table, THREADS + c);
+    }
+    if kind == wide(Construct::ORDERED) {
+        return none_ordered(table, team, m, t, at(table, PARENTS + c));
+    }
+    if kind == wide(Construct::SECTIONS) {
+        return false;
+    }
+    kind != wide(Construct::PARALLEL)
+}
+
+// It may go straight to the end of c.
+pub fn may_pass(table: &RegionTable, team: &TeamTable, m: usize, t: usize, c: usize) -> bool
+    requires { ⌜ Sound (now table) (now team) × (m ≤ 8) × (t < 8) × (c < getD (now table) 2033 0) ⌝ }
+    ensures { λ r. ⌜ ((R : Region) (σ : State) → Tabled R (now (table .entry)) → Shows σ (now (team .entry)) → r ≡ mayPass R m σ t c (R .kind c)) ⌝ }
+{
+    let kind = at(table, KINDS + c);
+    if kind == wide(Construct::SINGLE) {
+        return !is_first(team, m, t, c);
+    }
+    if kind == wide(Construct::MASTER) {
+        return t != at(table, THREADS + c);
+    }
+    if kind == wide(Construct::SECTIONS) {
+        return all_taken(table, team, m, c, count_of(team, t, c) + 1);
+    }
+    kind == wide(Construct::DO)
+}
+
+// Thread t, at the end of c, may take an edge.
+pub fn may_leave(table: &RegionTable, team: &TeamTable, m: usize, t: usize, c: usize) -> bool
+    requires { ⌜ Sound (now table) (now team) × (m ≤ 8) × (t < 8) × (c < getD (now table) 2033 0) ⌝ }
+    ensures { λ r. ⌜ ((R : Region) (σ : State) → Tabled R (now (table .entry)) → Shows σ (now (team .entry)) → r ≡ mayLeave R m σ t c) ⌝ }
+{
+    if at(table, KINDS + c) != wide(Construct::SECTIONS) {
+        return true;
+    }
+    all_taken(table, team, m, c, count_of(team, t, c))
+}

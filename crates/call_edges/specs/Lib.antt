@@ -1,0 +1,4 @@
+pub mod Splicing
+pub mod Asking
+pub mod Inserting
+pub mod Removing

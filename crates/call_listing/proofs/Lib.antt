@@ -1,0 +1,12 @@
+pub mod Steps
+pub mod Bounds
+pub mod Storing
+pub mod Joining
+pub mod Begins
+pub mod Filling
+pub mod Ending
+pub mod Parts
+pub mod Calls
+pub mod Turns
+pub mod TablesLaws
+pub mod Rows

@@ -1,0 +1,4 @@
+pub mod Extent
+pub mod Stored
+pub mod Reads
+pub mod Chart

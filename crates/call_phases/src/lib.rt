@@ -1,0 +1,4 @@
+// Phases, as a call on slices.
+pub mod bytes;
+pub mod fill;
+pub mod writing;

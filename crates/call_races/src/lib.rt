@@ -1,0 +1,68 @@
+// Races as a call on slices (02, Note 9): for all pairs of a list of accesses, whether they race, and whether a lock keeps them apart. What the bytes
+// say about finished runs is in crate `theory_calls`, specs/RacesCorrect.antt.
+ghost use mathlib.Core.Path.{_≡_};
+ghost use mathlib.Core.List.{[], _∷_};
+ghost use lib.ListN.{length};
+ghost use Rattle.chart.specs.Checked.{reading};
+ghost use Rattle.mark_tables.specs.Tables.{Accepted};
+ghost use Rattle.answer_constructs.specs.Marks.{Marks};
+ghost use Rattle.answer_constructs.specs.declared.chains.Sets.{Sets};
+ghost use Rattle.output.specs.Output.{outputRows, writtenBy, leftBy};
+ghost use Rattle.theory_calls.specs.Access.{accessesRow};
+ghost use Rattle.theory_calls.specs.Races.{races as racesOf, racesWritten, racesLeft};
+use answer_constructs::marks::MaskTable;
+use answer_constructs::marks::ROWS;
+use answer_masks::Surveyed;
+use answer_masks::survey;
+use answer_races::bytes::put_races;
+use answer_races::list::bad_accesses;
+use answer_races::same_variable::RECORD;
+use chart::format::Chart;
+use chart::format::Refusal;
+use output::Written;
+use output::room_for;
+
+// Rows 20 and 11 and the bytes, of a chart whose nodes are marked.
+fn write_races(
+    s: &[u8],
+    chart: Chart,
+    marks: &MaskTable,
+    accesses: &[u8],
+    out: &mut [u8],
+) -> Written
+    requires { ⌜ Accepted (now s) chart × ((sets : Sets) × Marks (reading (now s) chart) (now marks) sets) ⌝ }
+    ensures { λ r.
+        let R = reading (now (s .entry)) chart in
+        let list = now (accesses .entry) in
+        let size = length (racesOf R list) in
+        ⌜ r ≡ writtenBy (outputRows (accessesRow R list ∷ []) (length (now (out .entry))) size []) size ⌝ }
+    ensures { λ _.
+        let R = reading (now (s .entry)) chart in
+        let list = now (accesses .entry) in
+        let result = racesOf R list in
+        ⌜ now (out .exit) ≡ leftBy (outputRows (accessesRow R list ∷ []) (length (now (out .entry))) (length result) []) result (now (out .entry)) ⌝ }
+{
+    if bad_accesses(s, chart, accesses) {
+        return Written::Refused(Refusal::ACCESSES);
+    }
+    let n = accesses.len() / RECORD;
+    match room_for(n * (n + 1) / 2, out.len()) {
+        Written::Refused(refusal) => Written::Refused(refusal),
+        Written::Bytes(size) => {
+            put_races(s, chart, marks, accesses, out);
+            Written::Bytes(size)
+        }
+    }
+}
+
+// The first of rows 1 to 10, 23, 20 and 11 that applies, or the bytes written.
+pub fn races(s: &[u8], region: usize, accesses: &[u8], out: &mut [u8]) -> Written
+    ensures { λ r. ⌜ r ≡ racesWritten (now (s .entry)) region (now (accesses .entry)) (now (out .entry)) ⌝ }
+    ensures { λ _. ⌜ now (out .exit) ≡ racesLeft (now (s .entry)) region (now (accesses .entry)) (now (out .entry)) ⌝ }
+{
+    let mut marks = [[0u64; Chart::NODES]; ROWS];
+    match survey(s, region, &mut marks) {
+        Surveyed::Refused(refusal) => Written::Refused(refusal),
+        Surveyed::Marked(chart, _) => write_races(s, chart, &marks, accesses, out),
+    }
+}

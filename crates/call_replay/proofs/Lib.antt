@@ -1,0 +1,10 @@
+pub mod Parts
+pub mod Sheets
+pub mod Releases
+pub mod Choices
+pub mod Counting
+pub mod Begun
+pub mod Results
+pub mod Calls
+pub mod Laws
+pub mod Left

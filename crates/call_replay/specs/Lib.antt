@@ -1,0 +1,4 @@
+pub mod Marks
+pub mod Playing
+pub mod Team
+pub mod Stored

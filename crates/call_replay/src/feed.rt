@@ -1,0 +1,185 @@
+// One entry of a trace.
+ghost use mathlib.Core.Path.{_≡_};
+ghost use mathlib.Core.Bool.{true, false};
+ghost use Prim.Native.Nat.{ℕ, _+_, _*_, _≤_, _<_};
+ghost use lib.Dec.{eqb};
+ghost use lib.ListN.{length, getD};
+ghost use Rattle.lists.specs.Range.{every};
+ghost use Rattle.chart.specs.Region.{Region};
+ghost use Rattle.theory_team.specs.State.{State, released};
+ghost use Rattle.theory_traces.specs.Decide.{allowed};
+ghost use Rattle.theory_traces.specs.Replay.{Play, gathered as isGathered, choose as chosenBy, feed as fedBy, atFinish};
+ghost use Rattle.answer_steps.specs.Tables.{Tabled, Shows};
+ghost use Rattle.call_replay.specs.Marks.{Kept};
+ghost use Rattle.call_replay.specs.Playing.{Playing, After};
+use crate::marks::Rows;
+use crate::marks::mark_state;
+use answer_steps::decide::decide;
+use answer_steps::effects::apply;
+use answer_steps::tables::BARRIER;
+use answer_steps::tables::CHOSEN;
+use answer_steps::tables::FINISH;
+use answer_steps::tables::NODES;
+use answer_steps::tables::PENDING;
+use answer_steps::tables::ROLES;
+use answer_steps::tables::RegionTable;
+use answer_steps::tables::TEAM;
+use answer_steps::tables::THREAD;
+use answer_steps::tables::TeamTable;
+use answer_steps::tables::at;
+use answer_steps::tables::leads;
+use answer_steps::tables::node_of;
+use theory_traces::Effect;
+use theory_traces::Thread;
+
+// Every thread is at x.
+fn all_at(team: &TeamTable, m: usize, x: usize) -> bool
+    requires { ⌜ (length (now team) ≡ 785) × (m ≤ 8) ⌝ }
+    ensures { λ r. ⌜ ((σ : State) → Shows σ (now (team .entry)) → r ≡ every m (λ k. eqb (σ .node k) x)) ⌝ }
+{
+    let mut k = 0;
+    while k < m {
+        if node_of(team, k) != x {
+            return false;
+        }
+        k += 1;
+    }
+    true
+}
+
+// All threads are at finish.
+pub fn at_finish(table: &RegionTable, team: &TeamTable, m: usize) -> bool
+    requires { ⌜ ((R : Region) × Tabled R (now table) × (length (now team) ≡ 785) × (m ≤ 8)) ⌝ }
+    ensures { λ r. ⌜ ((R : Region) (σ : State) → Tabled R (now (table .entry)) → Shows σ (now (team .entry)) → r ≡ atFinish R m σ) ⌝ }
+{
+    all_at(team, m, at(table, FINISH))
+}
+
+// All threads are at one barrier, not finish: the next entry belongs to a release.
+fn gathered(table: &RegionTable, team: &TeamTable, m: usize) -> bool
+    requires { ⌜ ((R : Region) × (σ : State) × Tabled R (now table) × Shows σ (now team) × (m ≤ 8)) ⌝ }
+    ensures { λ r. ⌜ ((R : Region) (σ : State) → Tabled R (now (table .entry)) → Shows σ (now (team .entry)) → r ≡ isGathered R m σ) ⌝ }
+{
+    let x = node_of(team, 0);
+    if at(table, ROLES + x) != BARRIER {
+        return false;
+    }
+    if x == at(table, FINISH) {
+        return false;
+    }
+    all_at(team, m, x)
+}
+
+// Where thread t goes in a release: to the node chosen, if it is one of the team.
+fn next_node(team: &TeamTable, m: usize, t: usize) -> u64
+    requires { ⌜ (length (now team) ≡ 785) × (m ≤ 8) × (t < 8) ⌝ }
+    ensures { λ r. ⌜ (t < m → r ≡ getD (now (team .entry)) (776 + t) 0) × (m ≤ t → r ≡ getD (now (team .entry)) (97 * t) 0) ⌝ }
+{
+    if t < m {
+        return team[CHOSEN + t];
+    }
+    team[THREAD * t]
+}
+
+// The release: each thread goes to the node chosen for it, every count is 0 again and nothing is taken.
+fn release(team: &mut TeamTable, m: usize)
+    requires { ⌜ (length (now team) ≡ 785) × (m ≤ 8) ⌝ }
+    requires { ⌜ ((t : ℕ) → t < m → getD (now team) (776 + t) 0 < 256) ⌝ }
+    ensures { λ _. ⌜ ((σ : State) → Shows σ (now (team .entry)) → Shows (released m σ (λ t. getD (now (team .entry)) (776 + t) 0)) (now (team .exit))) ⌝ }
+    ensures { λ _. ⌜ getD (now (team .exit)) 784 0 ≡ 0 ⌝ }
+{
+    let mut fresh = [0u64; TEAM];
+    let mut t = 0;
+    while t < Thread::MOST {
+        fresh[THREAD * t] = next_node(team, m, t);
+        t += 1;
+    }
+    *team = fresh;
+}
+
+// An entry of a release: the next thread's, along an edge. With the last the release takes effect.
+fn choose(
+    table: &RegionTable,
+    team: &mut TeamTable,
+    m: usize,
+    t: usize,
+    v: usize,
+    rows: Rows,
+    out: &mut [u8],
+) -> bool
+    requires { ⌜ ((R : Region) × (P : Play) × Tabled R (now table) × Playing (R .nodes) m rows P (now team) (now out) × (m ≤ 8) × (v < 256) × (rows .count * R .nodes ≤ length (now out))) ⌝ }
+    ensures { λ r. ⌜ ((R : Region) (P : Play) → Tabled R (now (table .entry)) → Playing (R .nodes) m rows P (now (team .entry)) (now (out .entry)) → After (R .nodes) m rows P (chosenBy R m P t v) r (now (team .exit)) (now (out .exit)) × Kept (rows .count * R .nodes) (now (out .entry)) (now (out .exit))) ⌝ }
+{
+    let pending = team[PENDING] as usize;
+    if t != pending {
+        return false;
+    }
+    if !leads(table, node_of(team, 0), v) {
+        return false;
+    }
+    team[CHOSEN + pending] = v as u64;
+    if pending + 1 == m {
+        release(team, m);
+        mark_state(team, m, at(table, NODES), rows, out);
+        return true;
+    }
+    team[PENDING] = (pending + 1) as u64;
+    true
+}
+
+// Whether the rules allow it.
+fn is_allowed(effect: Effect) -> bool
+    ensures { λ r. ⌜ r ≡ allowed effect ⌝ }
+{
+    match effect {
+        Effect::None => false,
+        Effect::Moves => true,
+        Effect::Leaves(_) => true,
+        Effect::Takes(_, _) => true,
+        Effect::TakesNext(_, _) => true,
+    }
+}
+
+// An entry of one thread.
+fn step(
+    table: &RegionTable,
+    team: &mut TeamTable,
+    m: usize,
+    t: usize,
+    v: usize,
+    rows: Rows,
+    out: &mut [u8],
+) -> bool
+    requires { ⌜ ((R : Region) × (P : Play) × Tabled R (now table) × Playing (R .nodes) m rows P (now team) (now out) × (m ≤ 8) × (v < 256) × (rows .count * R .nodes ≤ length (now out))) ⌝ }
+    requires { ⌜ ((t c : ℕ) → t < 8 → c < 48 → getD (now team) (97 * t + 1 + c) 0 + 1 < 18446744073709551616) ⌝ }
+    ensures { λ r. ⌜ ((R : Region) (P : Play) → Tabled R (now (table .entry)) → Playing (R .nodes) m rows P (now (team .entry)) (now (out .entry)) → isGathered R m (P .state) ≡ false → After (R .nodes) m rows P (fedBy R m P t v) r (now (team .exit)) (now (out .exit)) × Kept (rows .count * R .nodes) (now (out .entry)) (now (out .exit))) ⌝ }
+{
+    let effect = decide(table, team, m, t, v);
+    if !is_allowed(effect) {
+        return false;
+    }
+    apply(team, t, v, effect);
+    team[PENDING] = 0;
+    mark_state(team, m, at(table, NODES), rows, out);
+    true
+}
+
+// The entry of thread t, to v: whether the team rules allow it. A forbidden one changes nothing.
+pub fn feed(
+    table: &RegionTable,
+    team: &mut TeamTable,
+    m: usize,
+    t: usize,
+    v: usize,
+    rows: Rows,
+    out: &mut [u8],
+) -> bool
+    requires { ⌜ ((R : Region) × (P : Play) × Tabled R (now table) × Playing (R .nodes) m rows P (now team) (now out) × (m ≤ 8) × (v < 256) × (rows .count * R .nodes ≤ length (now out))) ⌝ }
+    requires { ⌜ ((t c : ℕ) → t < 8 → c < 48 → getD (now team) (97 * t + 1 + c) 0 + 1 < 18446744073709551616) ⌝ }
+    ensures { λ r. ⌜ ((R : Region) (P : Play) → Tabled R (now (table .entry)) → Playing (R .nodes) m rows P (now (team .entry)) (now (out .entry)) → After (R .nodes) m rows P (fedBy R m P t v) r (now (team .exit)) (now (out .exit)) × Kept (rows .count * R .nodes) (now (out .entry)) (now (out .exit))) ⌝ }
+{
+    if gathered(table, team, m) {
+        return choose(table, team, m, t, v, rows, out);
+    }
+    step(table, team, m, t, v, rows, out)
+}

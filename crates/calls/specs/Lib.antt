@@ -1,4 +1,0 @@
-pub mod Bytes
-pub mod Pair
-pub mod Phases
-pub mod Sheet

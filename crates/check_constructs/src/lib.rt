@@ -1,0 +1,5 @@
+// Row 6 of the refusals, over the constructs.
+pub mod alone;
+pub mod enclosing;
+pub mod nesting;
+pub mod stray;

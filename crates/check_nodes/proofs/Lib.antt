@@ -1,0 +1,4 @@
+pub mod Alone
+pub mod Outer
+pub mod Counted
+pub mod Framing

@@ -1,0 +1,3 @@
+pub mod Parts
+pub mod Counted
+pub mod Framed

@@ -1,2 +1,0 @@
-pub mod Fan
-pub mod Eights

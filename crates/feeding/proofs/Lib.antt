@@ -1,4 +1,0 @@
-pub mod Feeding
-pub mod Sowing
-pub mod Storing
-pub mod Writing

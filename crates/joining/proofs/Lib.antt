@@ -1,2 +1,0 @@
-pub mod Blanks
-pub mod Joining

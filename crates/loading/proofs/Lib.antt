@@ -1,4 +1,0 @@
-pub mod Accepted
-pub mod Cutting
-pub mod Loading
-pub mod Rows

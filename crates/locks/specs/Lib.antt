@@ -1,4 +1,0 @@
-pub mod Locks
-pub mod LocksLaws
-pub mod Known
-pub mod LockedRun

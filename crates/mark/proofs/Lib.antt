@@ -1,0 +1,4 @@
+pub mod Blanks
+pub mod JoiningLaws
+pub mod Rising
+pub mod Searching

@@ -1,0 +1,53 @@
+-- The barriers that are joined to one of them, as the masks of all nodes tell when no path passed a barrier. Row 10 of the refusals is
+-- then a matter of these barriers and of the masks, with no further search.
+-- Assumes nothing.
+use mathlib.Core.Path.{_≡_}
+use mathlib.Core.Bool.{Bool, true, false, _&&_, _||_, not}
+use mathlib.Core.List.{List}
+use Prim.Native.Nat.{ℕ, _-_, _≤_, _<_}
+use lib.Dec.{eqb}
+use lib.ListN.{length, getD}
+use Rattle.lists.specs.Mask.{Has, Sub}
+use Rattle.lists.specs.Range.{any}
+use Rattle.chart.specs.Region.{Region}
+use Rattle.theory_paths.specs.Found.{Reached}
+use Rattle.theory_paths.specs.Phases.{Direction, forward, backward, barriers, barrierAt}
+use Rattle.mark_tables.specs.Tables.{leadsAny}
+
+-- By the mask of barrier b a path past no barrier leads there from barrier c; against the masks: by that of c, from b to c.
+abbrev pub Told : Bool → List ℕ → List ℕ → ℕ → ℕ → ℕ → Type 0
+Told false masks nodes total b c = (b < total) × Has (getD masks (getD nodes b 0) 0) c
+Told true masks nodes total b c = Has (getD masks (getD nodes c 0) 0) b
+
+-- Barrier b is one of the first, or T joins it to one that is joined to them.
+pub data Joined (T : ℕ → ℕ → Type 0) (first : ℕ) : ℕ → Type 0 where
+  own : {b : ℕ} → Has first b → Joined T first b
+  more : {b c : ℕ} → Joined T first c → T b c → Joined T first b
+
+-- What a pass over the barriers makes of those joined before, when it has come to the pairs with D: what T joins to one of them is joined.
+pub record Passed (T D : ℕ → ℕ → Type 0) (before all : ℕ) : Type 0 where
+  pub most : before ≤ all
+  pub keeps : Sub before all
+  pub sound : (b : ℕ) → Has all b → Joined T before b
+  pub done : (b c : ℕ) → D b c → Has before c → T b c → Has all b
+
+-- One of the nodes, other than the source, is not led to from there.
+abbrev pub lost : Direction → Region → ℕ → Bool
+lost d R source = any (R .nodes) (λ x. not (eqb x source) && not (leadsAny d R source x))
+
+-- One of the barriers, other than the source, is not led to from there; both by their numbers.
+abbrev pub lostBarrier : Direction → Region → ℕ → Bool
+lostBarrier d R source = any (length (barriers R)) (λ b. not (eqb b source) && not (leadsAny d R (barrierAt R source) (barrierAt R b)))
+
+-- One of the first n nodes, on which no stop stands, has 0.
+abbrev pub missing : List ℕ → List ℕ → ℕ → Bool
+missing stops values n = any n (λ x. eqb (getD stops x 0) 0 && eqb (getD values x 0) 0)
+
+-- Numbers that tell of the nodes with P whether a path leads there from a source, 0 for none: masks do, and levels.
+pub record Reaches (E : ℕ → ℕ → Type 0) (P : ℕ → Type 0) (sources : List ℕ) (total : ℕ) (values : List ℕ) : Type 0 where
+  pub some : (x : ℕ) → P x → (getD values x 0 ≡ 0 → ⊥) → (b : ℕ) × (b < total) × Reached E P sources b x
+  pub none : (b x : ℕ) → b < total → P x → Reached E P sources b x → getD values x 0 ≡ 0 → ⊥
+
+-- So it is forward from the first barrier, or backward from the last.
+abbrev pub lostIn : Region → Bool
+lostIn R = lost forward R (barrierAt R 0) || lost backward R (barrierAt R (length (barriers R) - 1))

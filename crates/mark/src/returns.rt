@@ -1,0 +1,90 @@
+// Which constructs return: one search from their ends, past no barrier.
+ghost use mathlib.Core.Path.{_≡_};
+ghost use mathlib.Core.Bool.{true, cond};
+ghost use mathlib.Core.List.{List};
+ghost use Prim.Native.Nat.{ℕ, _^_, _≤_, _<_};
+ghost use lib.Bits.{bitOr};
+ghost use lib.ListN.{getD};
+ghost use Rattle.lists.specs.Mask.{maskOf};
+ghost use Rattle.lists.specs.Bits.{has as Bits·has};
+ghost use Rattle.chart.specs.Format.{decode};
+ghost use Rattle.chart.specs.Scope.{beginNode, endNode};
+ghost use Rattle.chart.specs.Checked.{reading};
+ghost use Rattle.check_nodes.specs.Framed.{Framed};
+ghost use Rattle.theory_paths.specs.Phases.{returning};
+ghost use Rattle.mark_tables.specs.Tables.{Accepted, Arranged, Handed, Stops};
+use chart::cursor::wide;
+use chart::format::Chart;
+use masks::bits::has;
+use search::edges::Parts;
+use search::search::ahead;
+
+// One bit more, where the mask has it.
+fn add_bit(mask: u64, c: usize, all: u64) -> u64
+    requires { ⌜ c < 64 ⌝ }
+    ensures { λ r. ⌜ r ≡ cond (Bits·has mask c) (bitOr (2 ^ c) all) all ⌝ }
+{
+    if has(mask, c) {
+        return (1 << c) | all;
+    }
+    all
+}
+
+// Bit c of the mask of node c of the list, for each of the first n.
+fn diagonal(masks: &[u64; Chart::NODES], nodes: &[u8; Chart::BARRIERS], n: usize) -> u64
+    requires { ⌜ n ≤ 64 ⌝ }
+    requires { ⌜ ((c : ℕ) → getD (now nodes) c 0 < 192) ⌝ }
+    ensures { λ r. ⌜ r ≡ maskOf (λ c. Bits·has (getD (now (masks .entry)) (getD (now (nodes .entry)) c 0) 0) c) n ⌝ }
+{
+    let mut all = 0;
+    let mut c = 0;
+    while c < n {
+        all = add_bit(masks[wide(nodes[c])], c, all);
+        c += 1;
+    }
+    all
+}
+
+// Whether each of the first n constructs begins before it ends, by the numbers of the nodes.
+fn all_before(begins: &[u8; Chart::BARRIERS], ends: &[u8; Chart::BARRIERS], n: usize) -> bool
+    requires { ⌜ n ≤ 64 ⌝ }
+    ensures { λ r. ⌜ (r ≡ true → (c : ℕ) → c < n → getD (now (begins .entry)) c 0 < getD (now (ends .entry)) c 0) ⌝ }
+{
+    let mut c = 0;
+    while c < n {
+        if ends[c] <= begins[c] {
+            return false;
+        }
+        c += 1;
+    }
+    true
+}
+
+// The mask of the constructs that return, given where each begins and ends. Where no edge falls between nodes that are no barriers, no path
+// leads back.
+pub fn returns(
+    s: &[u8],
+    chart: Chart,
+    begins: &[u8; Chart::BARRIERS],
+    ends: &[u8; Chart::BARRIERS],
+    edges: &[[u8; Chart::EDGES]; Parts::ROWS],
+    places: &[usize; Chart::PLACES],
+    parts: Parts,
+) -> u64
+    requires { ⌜ Accepted (now s) chart × Framed (decode (now s)) beginNode (now begins) × Framed (decode (now s)) endNode (now ends) ⌝ }
+    requires { ⌜ Handed (chart .region) (decode (now s)) (now edges) (now places) (parts .ups) (parts .low) (parts .ins) × ((stops : List ℕ) × (Arranged (reading (now s) chart) (now edges) (now places) stops (parts .ups) (parts .low) (parts .ins) × Stops (reading (now s) chart) stops)) ⌝ }
+    ensures { λ r. ⌜ r ≡ returning (reading (now (s .entry)) chart) ⌝ }
+{
+    let n = chart.constructs;
+    if n == 0 {
+        return 0;
+    }
+    if parts.low == Chart::EDGES {
+        if all_before(begins, ends, n) {
+            return 0;
+        }
+    }
+    let mut masks = [0u64; Chart::NODES];
+    ahead(edges, places, parts, ends, n, &mut masks);
+    diagonal(&masks, begins, n)
+}

@@ -1,0 +1,134 @@
+-- The entrance: what the two searches say about row 10, and an answer read backwards.
+-- Assumes nothing.
+use mathlib.Core.Path.{_≡_, refl, ap, sym, _∙_}
+use mathlib.Core.Logic.{⊎-elim}
+use mathlib.Core.Bool.{Bool, true, false, _||_}
+use mathlib.Core.List.{List}
+use mathlib.Core.Option.{Option, none, some}
+use Prim.Native.Nat.{ℕ, _-_, _≤_, _<_}
+use native.Mathlib.Omega.{arith}
+use lib.ListN.{length, getD}
+use Rattle.lists.specs.Truth.{bad, or-cases, or-left, or-right, or-neither, neither-or}
+use Rattle.chart.specs.Format.{outside, decode}
+use Rattle.chart.specs.Region.{Region}
+use Rattle.chart.specs.Reading.{region, regionOf}
+use Rattle.chart.specs.Refusal.{firstOf}
+use Rattle.chart.specs.Checked.{countsOf, checked, reading}
+use Rattle.chart.specs.declared.format.Chart.{Chart}
+use Rattle.chart.specs.declared.format.Refusal.{Refusal}
+use Rattle.chart.specs.declared.format.Checked.the-variants.{Passed}
+use Rattle.chart.proofs.RegionFacts.{start-outer, finish-outer}
+use Rattle.check_chart.proofs.Outcome.{passed-none}
+use Rattle.theory_paths.specs.Admission.{badPaths, admitRows}
+use Rattle.theory_paths.specs.Phases.{forward, backward, barriers, barrierAt}
+use Rattle.mark_tables.specs.Tables.{Accepted, Barriers}
+use Rattle.mark_tables.proofs.Accepted.{accepted, well-formed}
+use Rattle.mark_tables.proofs.Loading.{barriers-most, barriers-below}
+use Rattle.mark_tables.proofs.Rows.{refused-paths, admits}
+use Rattle.mark.specs.Joined.{lost, lostBarrier, lostIn}
+use Rattle.mark.proofs.JoiningLaws.{some-barrier, barrier-lost, both-ways}
+use Rattle.mark_regions.specs.Entered.{entered}
+use Rattle.mark_regions.specs.declared.outermost.Entered.the-variants.{Marked, Refused}
+
+pub entered-refused : (o : Option ℕ) (counts : Chart) (barriers : ℕ) {refusal : Refusal} → entered o counts barriers ≡ Refused refusal → o ≡ some (refusal .number)
+unfolding entered
+entered-refused none counts barriers h = absurd (bad (cc))
+entered-refused (some number) counts barriers {refusal} h = ap some (ap (λ (r : Refusal). r .number) same)
+  where
+    same : record { number = number } ≡ refusal
+    same = cc
+
+pub entered-marked : (o : Option ℕ) (counts : Chart) (barriers : ℕ) {chart : Chart} {total : ℕ} → entered o counts barriers ≡ Marked chart total → o ≡ none
+unfolding entered
+entered-marked none counts barriers h = refl
+entered-marked (some number) counts barriers h = absurd (bad (cc))
+
+pub entered-counts : (o : Option ℕ) (counts : Chart) (barriers : ℕ) {chart : Chart} {total : ℕ} → entered o counts barriers ≡ Marked chart total → counts ≡ chart
+unfolding entered
+entered-counts none counts barriers h = cc
+entered-counts (some number) counts barriers h = absurd (bad (cc))
+
+-- marked as two answers that are one
+pub marked-same : {a b : Chart} {m n : ℕ} → Marked a m ≡ Marked b n → (P : Chart → ℕ → Type 0) → P a m → P b n
+marked-same {a} {b} {m} {n} e P p =
+    let q : a ≡ b = cc in
+    let r : m ≡ n = cc in
+    rw (← q, ← r) p
+
+-- the barriers of an accepted chart
+
+module _ {s : List ℕ} {chart : Chart} (A : Accepted s chart) {nodes : List ℕ} {total : ℕ} (B : Barriers (reading s chart) nodes total) where
+  pub few : total ≤ 64
+  few = omega (arith, barriers-most s chart A, B .count)
+
+  pub not-none : 0 < total
+  not-none = omega (arith, some-barrier (reading s chart) (well-formed s chart A), B .count)
+
+  pub nodes-below : (b : ℕ) → getD nodes b 0 < 192
+  nodes-below b = omega (arith, B .at b, barriers-below s chart A b)
+
+-- row 10, of a chart that is read for its outermost region
+
+module _ (s : List ℕ) (chart : Chart) (h : checked s ≡ Passed chart) where
+  abbrev R : Region
+  R = reading s chart
+
+  A : Accepted s chart
+  A = accepted s chart h
+
+  same : countsOf s ≡ chart
+  unfolding checked
+  same = passed-none _ (countsOf s) chart h .1
+
+  read-whole : chart .region ≡ outside
+  unfolding countsOf
+  read-whole = sym (ap (λ (k : Chart). k .region) same)
+
+  outermost : R ≡ region (decode s)
+  outermost = ap (λ (p : ℕ). regionOf p (decode s)) read-whole
+
+  bad-paths : badPaths (region (decode s)) ≡ lostIn R
+  bad-paths =
+      sym (ap badPaths outermost)
+      ∙ both-ways R (well-formed s chart A) (start-outer (decode s) (chart .region) read-whole) (finish-outer (decode s) (chart .region) read-whole)
+
+  module _ {nodes : List ℕ} {total : ℕ} (N : Barriers (reading s chart) nodes total) where
+    abbrev ahead : Bool
+    ahead = lost forward (reading s chart) (barrierAt (reading s chart) 0)
+
+    abbrev apart : Bool
+    apart = lostBarrier backward (reading s chart) (total - 1)
+
+    back : lost backward R (barrierAt R (total - 1)) ≡ true → firstOf (admitRows s) ≡ some 10
+    back b = refused-paths s chart h (bad-paths ∙ or-right ahead _ (rw (N .count) at b))
+
+    -- a barrier that does not reach the last one is a node that does not
+    last : apart ≡ true → lost backward R (barrierAt R (total - 1)) ≡ true
+    last = let some = not-none A N in barrier-lost (well-formed s chart A) backward nodes N (total - 1) (omega arith)
+
+    pub unreached : (ahead || apart) ≡ true → firstOf (admitRows s) ≡ some 10
+    unreached f = ⊎-elim (λ a. refused-paths s chart h (bad-paths ∙ or-left ahead _ a)) (λ b. back (last b)) (or-cases ahead apart f)
+
+    -- with what the search backward says of the nodes that are no barriers
+    module _ {r : Bool} (e : (apart || r) ≡ lost backward (reading s chart) (barrierAt (reading s chart) (total - 1))) where
+      pub stuck : r ≡ true → firstOf (admitRows s) ≡ some 10
+      stuck t = back (sym e ∙ or-right apart r t)
+
+      pub connects : (ahead || apart) ≡ false → r ≡ false → firstOf (admitRows s) ≡ none
+      connects f t =
+          let (a, b) = or-neither ahead apart f in
+          admits s chart h (bad-paths ∙ neither-or ahead _ a (rw (N .count) at (sym e ∙ neither-or apart r b t)))
+
+  -- the answer of the entrance
+
+  pub refuses : (number : ℕ) → firstOf (admitRows s) ≡ some number
+      → Refused (record { number = number }) ≡ entered (firstOf (admitRows s)) (countsOf s) (length (barriers (region (decode s))))
+  unfolding entered
+  refuses number e = rw e
+
+  pub marks : (total : ℕ) → total ≡ length (barriers (reading s chart)) → firstOf (admitRows s) ≡ none
+      → Marked chart total ≡ entered (firstOf (admitRows s)) (countsOf s) (length (barriers (region (decode s))))
+  unfolding entered
+  marks total q e =
+      let n : total ≡ length (barriers (region (decode s))) = q ∙ ap (λ (r : Region). length (barriers r)) outermost in
+      rw (e, ← n, same)

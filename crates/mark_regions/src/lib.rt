@@ -1,0 +1,4 @@
+// A region entered: refused, or marked.
+pub mod entrance;
+pub mod inner;
+pub mod outermost;

@@ -1,0 +1,73 @@
+// Rows 1 to 10 of the refusals, and the masks of the outermost region of a chart that none of them refuses, with the fewest edges from a
+// barrier to each node that is none.
+ghost use mathlib.Core.Path.{_≡_};
+ghost use Prim.Native.Nat.{ℕ};
+ghost use lib.ListN.{length, replicate};
+ghost use Rattle.chart.specs.Format.{decode};
+ghost use Rattle.chart.specs.Reading.{region};
+ghost use Rattle.chart.specs.Refusal.{firstOf};
+ghost use Rattle.chart.specs.Checked.{countsOf, checked};
+ghost use Rattle.chart.specs.declared.format.Checked.the-variants.{Passed};
+ghost use Rattle.theory_paths.specs.Admission.{admitRows};
+ghost use Rattle.theory_paths.specs.Phases.{barriers as barriersOf};
+ghost use Rattle.mark_regions.specs.Entered.{entered, Entry};
+ghost use Rattle.mark_regions.specs.declared.outermost.Entered.the-variants.{Marked};
+use chart::format::Chart;
+use chart::format::Checked;
+use chart::format::Refusal;
+use check_chart::check::check;
+use mark::boundaries::fill_ends;
+use mark::boundaries::fill_starts;
+use mark_tables::tables::load_tables;
+use search::edges::Parts;
+
+// A chart whose nodes are marked and how many barriers it has, or the first row that applies.
+pub enum Entered {
+    Marked(Chart, usize),
+    Refused(Refusal),
+}
+
+// Row 10 and the masks, of a chart that rows 1 to 9 let pass.
+fn enter_chart(
+    s: &[u8],
+    chart: Chart,
+    starts: &mut [u64; Chart::NODES],
+    ends: &mut [u64; Chart::NODES],
+    levels: &mut [u8; Chart::NODES],
+) -> Entered
+    requires { ⌜ (checked (now s) ≡ Passed chart) × (now starts ≡ replicate 192 0) × (now ends ≡ replicate 192 0) ⌝ }
+    ensures { λ r. ⌜ r ≡ entered (firstOf (admitRows (now (s .entry)))) (countsOf (now (s .entry))) (length (barriersOf (region (decode (now (s .entry)))))) ⌝ }
+    ensures { λ r. ⌜ ((chart : Chart) (total : ℕ) → r ≡ Marked chart total → Entry (now (s .entry)) chart total (now (starts .exit)) (now (ends .exit)) (now (levels .exit))) ⌝ }
+{
+    let mut edges = [[0u8; Chart::EDGES]; Parts::ROWS];
+    let mut places = [0usize; Chart::PLACES];
+    let mut stops = [0u8; Chart::NODES];
+    let mut nodes = [0u8; Chart::BARRIERS];
+    let extent = load_tables(s, chart, &mut edges, &mut places, &mut stops, &mut nodes);
+    if fill_starts(&edges, &places, &stops, &nodes, extent, starts, levels) {
+        return Entered::Refused(Refusal::PATHS);
+    }
+    if fill_ends(&edges, &nodes, extent, ends) {
+        return Entered::Refused(Refusal::PATHS);
+    }
+    Entered::Marked(chart, extent.barriers)
+}
+
+// The first of rows 1 to 10 that applies, or the masks and levels of all nodes, of the outermost region.
+pub fn enter_outermost(
+    s: &[u8],
+    starts: &mut [u64; Chart::NODES],
+    ends: &mut [u64; Chart::NODES],
+    levels: &mut [u8; Chart::NODES],
+) -> Entered
+    requires { ⌜ (now starts ≡ replicate 192 0) × (now ends ≡ replicate 192 0) ⌝ }
+    ensures { λ r. ⌜ r ≡ entered (firstOf (admitRows (now (s .entry)))) (countsOf (now (s .entry))) (length (barriersOf (region (decode (now (s .entry)))))) ⌝ }
+    ensures { λ r. ⌜ ((chart : Chart) (total : ℕ) → r ≡ Marked chart total → Entry (now (s .entry)) chart total (now (starts .exit)) (now (ends .exit)) (now (levels .exit))) ⌝ }
+{
+    let mut begin_nodes = [0u8; Chart::BARRIERS];
+    let mut end_nodes = [0u8; Chart::BARRIERS];
+    match check(s, &mut begin_nodes, &mut end_nodes) {
+        Checked::Refused(refusal) => Entered::Refused(refusal),
+        Checked::Passed(chart) => enter_chart(s, chart, starts, ends, levels),
+    }
+}

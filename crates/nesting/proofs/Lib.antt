@@ -1,2 +1,0 @@
-pub mod Stray
-pub mod Table

@@ -1,4 +1,0 @@
-pub mod Phases
-pub mod PhasesLaws
-pub mod Counted
-pub mod NearestLaws

@@ -1,5 +1,0 @@
-pub mod Constructs
-pub mod Masters
-pub mod Membership
-pub mod Facts
-pub mod Nodes

@@ -1,5 +1,0 @@
-pub mod Filling
-pub mod Around
-pub mod Roles
-pub mod Marking
-pub mod Whole

@@ -1,0 +1,207 @@
+// The search, from up to 64 sources at once: for each node a mask with a bit for each source from which a path leads there, and forward
+// the fewest edges on such a path. What the sources' edges lead to is closed by sweeps along the edges between nodes that may be passed,
+// forward or with the edges turned round. The fewest edges are swept or searched, breadth first; where all paths begin at one source, they
+// tell its masks, and no sweep is needed. Masks are 0 when a search gets them: its caller has just made them, and clearing them again costs.
+ghost use mathlib.Core.Path.{_≡_};
+ghost use mathlib.Core.Bool.{true};
+ghost use mathlib.Core.List.{List};
+ghost use Prim.Native.Nat.{ℕ, _+_, _≤_, _<_};
+ghost use lib.ListN.{getD, length, replicate};
+ghost use Rattle.theory_paths.specs.Graph.{Listed, Places};
+ghost use Rattle.theory_paths.specs.Found.{Clear, Leveled};
+ghost use Rattle.search.specs.Parts.{row, Split};
+ghost use Rattle.search.specs.Levels.{Each, Begins};
+ghost use Rattle.search.specs.Search.{Ready, Standing, Sown, Spread, Cleared, Marked, Lone, Settled};
+use crate::close::close;
+use crate::edges::Extent;
+use crate::edges::Parts;
+use crate::nearest::fewest;
+use crate::sources::clear;
+use crate::sources::feed;
+use crate::sources::sow;
+use crate::sources::stand;
+use crate::telling::show;
+use chart::cursor::wide;
+use chart::format::Chart;
+
+// The bits of the sources, at the nodes to which their edges lead, and levels to start from.
+fn depart(
+    edges: &[[u8; Chart::EDGES]; Parts::ROWS],
+    places: &[usize; Chart::PLACES],
+    sources: &[u8; Chart::BARRIERS],
+    total: usize,
+    masks: &mut [u64; Chart::NODES],
+    levels: &mut [u8; Chart::NODES],
+)
+    requires { ⌜ (total ≤ 64) × (now masks ≡ replicate 192 0) × ((ups : ℕ) × (low : ℕ) × (ins : ℕ) × Ready (now edges) (now places) ups low ins) ⌝ }
+    requires { ⌜ ((b : ℕ) → getD (now sources) b 0 < 192) ⌝ }
+    ensures { λ _. ⌜ ((e : ℕ) (stops : List ℕ) (ups low ins : ℕ) → Split (now (edges .entry)) e stops ups low ins → Places (row (now (edges .entry)) 0) e (now (places .entry)) → Sown (Listed (row (now (edges .entry)) 0) (row (now (edges .entry)) 1) e) (now (sources .entry)) total (now (masks .exit))) ⌝ }
+    ensures { λ _. ⌜ Each Begins (now (masks .exit)) (now (levels .exit)) ⌝ }
+{
+    sow(&edges[Parts::TO], places, sources, total, masks, levels);
+}
+
+// On from there, past no stop.
+fn proceed(edges: &[[u8; Chart::EDGES]; Parts::ROWS], parts: Parts, masks: &mut [u64; Chart::NODES])
+    requires { ⌜ ((e : ℕ) × (stops : List ℕ) × Split (now edges) e stops (parts .ups) (parts .low) (parts .ins)) ⌝ }
+    requires { ⌜ (length (now masks) ≡ 192) × ((y : ℕ) → getD (now masks) y 0 < 18446744073709551616) ⌝ }
+    ensures { λ _. ⌜ ((e : ℕ) (stops sources : List ℕ) (total : ℕ) → Split (now (edges .entry)) e stops (parts .ups) (parts .low) (parts .ins) → Sown (Listed (row (now (edges .entry)) 0) (row (now (edges .entry)) 1) e) sources total (now (masks .entry)) → Spread (Listed (row (now (edges .entry)) 0) (row (now (edges .entry)) 1) e) stops sources total (now (masks .exit))) ⌝ }
+{
+    close(
+        &edges[Parts::PLAIN_FROM],
+        &edges[Parts::PLAIN_TO],
+        parts.ups,
+        parts.low,
+        false,
+        masks,
+    );
+}
+
+// Forward, from any sources.
+pub fn ahead(
+    edges: &[[u8; Chart::EDGES]; Parts::ROWS],
+    places: &[usize; Chart::PLACES],
+    parts: Parts,
+    sources: &[u8; Chart::BARRIERS],
+    total: usize,
+    masks: &mut [u64; Chart::NODES],
+)
+    requires { ⌜ (total ≤ 64) × (now masks ≡ replicate 192 0) × Ready (now edges) (now places) (parts .ups) (parts .low) (parts .ins) ⌝ }
+    requires { ⌜ ((b : ℕ) → getD (now sources) b 0 < 192) ⌝ }
+    ensures { λ _. ⌜ ((e : ℕ) (stops : List ℕ) → Split (now (edges .entry)) e stops (parts .ups) (parts .low) (parts .ins) → Places (row (now (edges .entry)) 0) e (now (places .entry)) → Spread (Listed (row (now (edges .entry)) 0) (row (now (edges .entry)) 1) e) stops (now (sources .entry)) total (now (masks .exit))) ⌝ }
+{
+    let mut levels = [0u8; Chart::NODES];
+    depart(edges, places, sources, total, masks, &mut levels);
+    proceed(edges, parts, masks);
+}
+
+// Backward, from the stops.
+fn behind(
+    edges: &[[u8; Chart::EDGES]; Parts::ROWS],
+    parts: Parts,
+    sources: &[u8; Chart::BARRIERS],
+    total: usize,
+    masks: &mut [u64; Chart::NODES],
+)
+    requires { ⌜ (total ≤ 64) × (now masks ≡ replicate 192 0) × ((b : ℕ) → getD (now sources) b 0 < 192) ⌝ }
+    requires { ⌜ ((e : ℕ) × (stops : List ℕ) × Split (now edges) e stops (parts .ups) (parts .low) (parts .ins)) ⌝ }
+    ensures { λ _. ⌜ ((e : ℕ) (stops : List ℕ) → Split (now (edges .entry)) e stops (parts .ups) (parts .low) (parts .ins) → Standing stops (now (sources .entry)) total → Spread (Listed (row (now (edges .entry)) 1) (row (now (edges .entry)) 0) e) stops (now (sources .entry)) total (now (masks .exit))) ⌝ }
+{
+    let mut own = [0u64; Chart::NODES];
+    stand(sources, total, &mut own);
+    feed(
+        &edges[Parts::STOP_TO],
+        &edges[Parts::STOP_FROM],
+        0,
+        parts.ins,
+        &own,
+        masks,
+    );
+    close(
+        &edges[Parts::PLAIN_TO],
+        &edges[Parts::PLAIN_FROM],
+        parts.ups,
+        parts.low,
+        true,
+        masks,
+    );
+}
+
+// Whether all paths begin at the first source: there are two, and no edge leaves the second.
+fn lone(places: &[usize; Chart::PLACES], sources: &[u8; Chart::BARRIERS], total: usize) -> bool
+    requires { ⌜ ((b : ℕ) → getD (now sources) b 0 < 192) ⌝ }
+    ensures { λ r. ⌜ (r ≡ true → Lone (now (places .entry)) (now (sources .entry)) total) ⌝ }
+{
+    if total != 2 {
+        return false;
+    }
+    let second = wide(sources[1]);
+    places[second] == places[second + 1]
+}
+
+// On from there where all paths begin at the first source: its bit is where there is a level. The two stops keep what the edges brought,
+// since their levels say nothing.
+fn settle(
+    sources: &[u8; Chart::BARRIERS],
+    levels: &[u8; Chart::NODES],
+    masks: &mut [u64; Chart::NODES],
+)
+    requires { ⌜ ((b : ℕ) → getD (now sources) b 0 < 192) ⌝ }
+    requires { ⌜ length (now masks) ≡ 192 ⌝ }
+    ensures { λ _. ⌜ Settled (now (sources .entry)) (now (levels .entry)) (now (masks .entry)) (now (masks .exit)) ⌝ }
+{
+    let first = wide(sources[0]);
+    let second = wide(sources[1]);
+    let at_first = masks[first];
+    let at_second = masks[second];
+    show(levels, masks);
+    masks[first] = at_first;
+    masks[second] = at_second;
+}
+
+// On from there, by the levels where they tell the masks.
+fn onward(
+    edges: &[[u8; Chart::EDGES]; Parts::ROWS],
+    places: &[usize; Chart::PLACES],
+    extent: Extent,
+    sources: &[u8; Chart::BARRIERS],
+    levels: &[u8; Chart::NODES],
+    masks: &mut [u64; Chart::NODES],
+)
+    requires { ⌜ (extent .barriers ≤ 64) × ((b : ℕ) → getD (now sources) b 0 < 192) ⌝ }
+    requires { ⌜ ((e : ℕ) × (stops : List ℕ) × Split (now edges) e stops (extent .parts .ups) (extent .parts .low) (extent .parts .ins) × Sown (Listed (row (now edges) 0) (row (now edges) 1) e) (now sources) (extent .barriers) (now masks)) ⌝ }
+    ensures { λ _. ⌜ ((e : ℕ) (stops : List ℕ) → Split (now (edges .entry)) e stops (extent .parts .ups) (extent .parts .low) (extent .parts .ins) → Places (row (now (edges .entry)) 0) e (now (places .entry)) → Standing stops (now (sources .entry)) (extent .barriers) → Sown (Listed (row (now (edges .entry)) 0) (row (now (edges .entry)) 1) e) (now (sources .entry)) (extent .barriers) (now (masks .entry)) → Leveled (Listed (row (now (edges .entry)) 0) (row (now (edges .entry)) 1) e) (Clear stops) (Clear stops) (now (sources .entry)) (extent .barriers) (now (levels .entry)) → Spread (Listed (row (now (edges .entry)) 0) (row (now (edges .entry)) 1) e) stops (now (sources .entry)) (extent .barriers) (now (masks .exit))) ⌝ }
+    ensures { λ _. ⌜ length (now (masks .exit)) ≡ 192 ⌝ }
+{
+    if lone(places, sources, extent.barriers) {
+        settle(sources, levels, masks);
+        return;
+    }
+    proceed(edges, extent.parts, masks);
+}
+
+// From the stops: the masks of the nodes that may be passed and their levels, and the masks of all nodes.
+pub fn starts(
+    edges: &[[u8; Chart::EDGES]; Parts::ROWS],
+    places: &[usize; Chart::PLACES],
+    extent: Extent,
+    nodes: &[u8; Chart::BARRIERS],
+    masks: &mut [u64; Chart::NODES],
+    levels: &mut [u8; Chart::NODES],
+    all: &mut [u64; Chart::NODES],
+)
+    requires { ⌜ (extent .barriers ≤ 64) × (now masks ≡ replicate 192 0) × Ready (now edges) (now places) (extent .parts .ups) (extent .parts .low) (extent .parts .ins) ⌝ }
+    requires { ⌜ ((b : ℕ) → getD (now nodes) b 0 < 192) ⌝ }
+    ensures { λ _. ⌜ ((e : ℕ) (stops : List ℕ) → Split (now (edges .entry)) e stops (extent .parts .ups) (extent .parts .low) (extent .parts .ins) → Places (row (now (edges .entry)) 0) e (now (places .entry)) → Standing stops (now (nodes .entry)) (extent .barriers) → Marked (Listed (row (now (edges .entry)) 0) (row (now (edges .entry)) 1) e) stops (now (nodes .entry)) (extent .barriers) (now (masks .exit)) (now (all .exit)) × Leveled (Listed (row (now (edges .entry)) 0) (row (now (edges .entry)) 1) e) (Clear stops) (Clear stops) (now (nodes .entry)) (extent .barriers) (now (levels .exit))) ⌝ }
+{
+    let total = extent.barriers;
+    let parts = extent.parts;
+    depart(edges, places, nodes, total, masks, levels);
+    fewest(edges, places, extent, nodes, levels);
+    onward(edges, places, extent, nodes, levels, masks);
+    *all = *masks;
+    clear(nodes, total, masks);
+    feed(
+        &edges[Parts::STOP_FROM],
+        &edges[Parts::STOP_TO],
+        0,
+        parts.ins,
+        masks,
+        all,
+    );
+}
+
+// The masks of the nodes that may be passed, backward: along the edges turned round.
+pub fn ends(
+    edges: &[[u8; Chart::EDGES]; Parts::ROWS],
+    extent: Extent,
+    nodes: &[u8; Chart::BARRIERS],
+    masks: &mut [u64; Chart::NODES],
+)
+    requires { ⌜ (extent .barriers ≤ 64) × (now masks ≡ replicate 192 0) × ((b : ℕ) → getD (now nodes) b 0 < 192) ⌝ }
+    requires { ⌜ ((e : ℕ) × (stops : List ℕ) × Split (now edges) e stops (extent .parts .ups) (extent .parts .low) (extent .parts .ins)) ⌝ }
+    ensures { λ _. ⌜ ((e : ℕ) (stops : List ℕ) → Split (now (edges .entry)) e stops (extent .parts .ups) (extent .parts .low) (extent .parts .ins) → Standing stops (now (nodes .entry)) (extent .barriers) → Cleared (Listed (row (now (edges .entry)) 1) (row (now (edges .entry)) 0) e) stops (now (nodes .entry)) (extent .barriers) (now (masks .exit))) ⌝ }
+{
+    behind(edges, extent.parts, nodes, extent.barriers, masks);
+    clear(nodes, extent.barriers, masks);
+}
