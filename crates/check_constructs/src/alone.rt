@@ -35,7 +35,7 @@ pub fn bad_construct(construct: Construct, c: usize) -> bool
     if kind < Construct::SINGLE {
         return true;
     }
-    if Construct::PARALLEL < kind {
+    if Construct::KINDS < kind as usize {
         return true;
     }
     if bad_parent(construct.parent, c) {

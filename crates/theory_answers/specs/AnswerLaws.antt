@@ -15,7 +15,7 @@ use Rattle.lists.specs.Means.{both-of, either-of, not-of, unless, some-of, equa
 use Rattle.lists.specs.Range.{any}
 use Rattle.chart.specs.Format.{decode}
 use Rattle.chart.specs.Region.{Role, plain, barrier, opens, closes, Kind, Kind-discrete, single, master, ordered, section, Region}
-use Rattle.chart.specs.Reading.{region}
+use Rattle.chart.specs.Reading.{regionOf}
 use Rattle.chart.specs.InOrdered.{InOrdered}
 use Rattle.chart.specs.InSection.{InSection}
 use Rattle.chart.specs.WellFormed.{WellFormed}
@@ -251,7 +251,7 @@ any-masters R z a b = (
   λ ((c, x), (d, y)). (c, (d, ((x, y), z c ∙ sym (z d)))),
 )
 
--- so it is in a chart of edition 1: rule 2 in 01's words
-pub chart-masters : (s : List ℕ) → decode s .trailer .edition ≡ 1 → (a b : ℕ) → let R = region (decode s) in
+-- so it is in each region of a chart of edition 1: rule 2 in 01's words
+pub chart-masters : (s : List ℕ) → decode s .trailer .edition ≡ 1 → (p a b : ℕ) → let R = regionOf p (decode s) in
     Excludes R a b by-master ↔ (((c : ℕ) × In R master a c) × ((d : ℕ) × In R master b d))
-chart-masters s e = any-masters (region (decode s)) (no-filter s (λ q. omega arith))
+chart-masters s e p = any-masters (regionOf p (decode s)) (no-filter s (λ q. omega arith))

@@ -1,5 +1,5 @@
--- The answers that 01 stars ("Charts with known answers"), answers in regions inside regions (02, Note 12) and for teams of one size (02, Note
--- 10): one list, and one proof over the definitions, from the bytes of each chart on.
+-- The answers that 01 stars ("Charts with known answers"): one list (`starred`), and one proof over the definitions, from the bytes of each chart on.
+-- A second list (`further`) has answers in regions inside regions (02, Note 12) and for teams of one size (02, Note 10).
 -- Assumes nothing.
 use mathlib.Core.Path.{_≡_, refl}
 use mathlib.Core.List.{List, [], _∷_, _++_, map}
@@ -130,6 +130,7 @@ pub record Entry : Type 0 where
   pub b : ℕ
   pub gives : ℕ
 
+-- The 11 answers that 01 stars.
 unfoldable pub starred : List Entry
 starred =
     record { bytes = chartK; named = outside; teams = Any; a = 1; b = 3; gives = 0 }
@@ -143,7 +144,12 @@ starred =
     ∷ record { bytes = chartD (edge 5 6 ∷ []); named = outside; teams = Any; a = 2; b = 3; gives = 0 }
     ∷ record { bytes = chartD (edge 5 1 ∷ edge 5 6 ∷ []); named = outside; teams = Any; a = 3; b = 3; gives = 0 }
     ∷ record { bytes = chartB; named = outside; teams = Any; a = 2; b = 2; gives = 3 }
-    ∷ record { bytes = chartT []; named = outside; teams = Any; a = 4; b = 4; gives = 3 }
+    ∷ []
+
+-- Answers that 02 gives: of regions, and of sizes.
+unfoldable pub further : List Entry
+further =
+    record { bytes = chartT []; named = outside; teams = Any; a = 4; b = 4; gives = 3 }
     ∷ record { bytes = chartT []; named = outside; teams = Any; a = 3; b = 3; gives = 3 }
     ∷ record { bytes = chartT []; named = 1; teams = Any; a = 4; b = 4; gives = 3 }
     ∷ record { bytes = chartT []; named = 1; teams = Any; a = 3; b = 3; gives = 0 }
@@ -169,7 +175,7 @@ starred =
 unfoldable pub computed : Entry → Option ℕ × ℕ
 computed e = (firstOf (regionRows (e .bytes) (e .named)), answerFor (regionOf (e .named) (decode (e .bytes))) (e .teams) (e .a) (e .b))
 
--- Every chart of the list is admitted and has the region, and every answer is 01's or 02's.
+-- Every chart of the lists is admitted and has the region, and every answer is 01's or 02's.
 pub starred-answers : map computed starred ≡ map (λ e. (none, e .gives)) starred
 unfolding starred computed answerIn lacksThread answer bothInSection bothInOrdereds bothInSingle bothInMasters noCommonPhase noCommon inOrderedOf inSection isIn returns isBoundary
     regionRows badRegion admitRows badPaths cutOff reachesAny reachesFree reaches marks marks? chartRows tableRows trailerRows firstOf badEdges joinsSections framesSection badEdgeAt rises badEdge badBarriers
@@ -177,3 +183,11 @@ unfolding starred computed answerIn lacksThread answer bothInSection bothInOrder
     misnested misplaced wronglyAbove excluded sameCritical mayEnclose enclosesNear roleIn keptIn liesWithin countsIn regionAt isParallel edgeIn insideAt frameOf scopeAt liesAt parentOf encloses scope liesIn kindOf
     constructAt edgeAt nodeAt decode lastTrailer records trailerOf constructOf constructWidth constructBytes edgeOf nodeOf field tab any count first is
 starred-answers = refl
+
+pub further-answers : map computed further ≡ map (λ e. (none, e .gives)) further
+unfolding further computed answerIn lacksThread answer bothInSection bothInOrdereds bothInSingle bothInMasters noCommonPhase noCommon inOrderedOf inSection isIn returns isBoundary
+    regionRows badRegion admitRows badPaths cutOff reachesAny reachesFree reaches marks marks? chartRows tableRows trailerRows firstOf badEdges joinsSections framesSection badEdgeAt rises badEdge badBarriers
+    tooManyIn barrierOf isBarrier badFrames badFrame framesIn badConstructs strayNode badAlone badConstruct foreignNumber badNodes badNodeAt badOuter badNode badLengths badCounts badMarks badEdition
+    misnested misplaced wronglyAbove excluded sameCritical mayEnclose enclosesNear roleIn keptIn liesWithin countsIn regionAt isParallel edgeIn insideAt frameOf scopeAt liesAt parentOf encloses scope liesIn kindOf
+    constructAt edgeAt nodeAt decode lastTrailer records trailerOf constructOf constructWidth constructBytes edgeOf nodeOf field tab any count first is
+further-answers = refl

@@ -11,6 +11,9 @@ returns : tie.Need-returns
 unfolding badConstruct
 returns c = rw (lt-ltb _ _ (c .if1 .taken))
 
+cast-if2 : tie.Need-cast-if2
+cast-if2 c = search needs
+
 returns-2 : tie.Need-returns-2
 unfolding badConstruct
 returns-2 c = rw (le-ltb _ _ (c .before .if1 .left), lt-ltb _ _ (c .if2 .taken))
@@ -62,6 +65,7 @@ bad-construct-spec =
     tie.close
     (tie.spec
     returns
+    cast-if2
     returns-2
     bad-parent-requires
     returns-3
