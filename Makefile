@@ -1,22 +1,25 @@
-# make            prove the library and build it: target/staticlib/libbohrali.a, target/lib/libbohrali.so
-# make demo       the same, then show a chart's answers and judge claims on it
+# make            prove the library and build it, and the command: target/staticlib/libbohrali.a, target/lib/libbohrali.so, target/bin/bohrali
+# make demo       the same, then show both: charts of the paper from C, and the command on examples/playtest
 # make test       the gate: all proofs, must-fail edits and tests
 # make frontend   the gcc plugin that writes control flow, and the wrappers bohrali-gcc, bohrali-g++, bohrali-gfortran: target/frontend
+# make mutants    the other wrong programs that the prover must refuse (tests/mutants)
 # make bench      the library's times by those of hand-written Rust
 # make bench-against BEFORE=path/to/libbohrali.a    by those of another build of it
-# make install    header, archive, shared library and bohrali.pc, and the front end if it is built, below PREFIX
+# make install    command and man page, header, archive, shared library and bohrali.pc, and the front end if it is built, below PREFIX
 PREFIX ?= /usr/local
-VERSION := 1.0.0
+VERSION := 2.0.0
 SONAME := libbohrali.so.$(firstword $(subst ., ,$(VERSION)))
 ARCHIVE := target/staticlib/libbohrali.a
 REPLAY := target/bin/replay_trace
 SHARED := target/lib/libbohrali.so.$(VERSION)
+COMMAND := target/bin/bohrali
 SOURCES := crates.txt $(wildcard crates/*/src/*.rt crates/*/specs/*.antt)
+RUST := rust/Cargo.toml rust/Cargo.lock $(wildcard rust/bohrali/src/*.rs rust/bohrali/build.rs $(foreach x,region witness frontend tool,rust/$(x)/Cargo.toml rust/$(x)/src/*.rs rust/$(x)/src/*/*.rs))
 CFLAGS ?= -O2 -Wall -Wextra -Werror
 
-.PHONY: all demo test frontend bench bench-against install clean
+.PHONY: all demo test frontend mutants bench bench-against install clean
 
-all: $(ARCHIVE) $(SHARED)
+all: $(ARCHIVE) $(SHARED) $(COMMAND)
 
 $(ARCHIVE): $(SOURCES)
 	rt staticlib bohrali
@@ -25,6 +28,11 @@ $(ARCHIVE): $(SOURCES)
 $(REPLAY): $(SOURCES)
 	rt check replay_trace
 	touch $@
+
+# The command stands beside the proved program that replays traces.
+$(COMMAND): $(ARCHIVE) $(REPLAY) $(RUST)
+	cd rust && cargo build --offline --locked --quiet --release -p tool
+	install -D rust/target/release/bohrali $@
 
 # The archive as one shared object. Code that is not position-independent fails the link (text), and so does a name that nothing defines (defs).
 $(SHARED): $(ARCHIVE) bohrali.map
@@ -42,12 +50,17 @@ demo: all target/judge
 	target/judge charts/figure-2b.chart 4 5 7 8
 	@echo "One claim more, which is false:"
 	target/judge charts/figure-2b.chart 4 5 7 8 4 8 || test $$? -eq 1
+	@echo "A small simulator, built without the locks that can go:"
+	$(MAKE) --no-print-directory -C examples/playtest BOHRALI=$(abspath $(COMMAND)) demo
 
 test:
 	.ci/run
 
 frontend:
 	$(MAKE) -C frontend/gcc
+
+mutants:
+	tests/mutants.sh
 
 bench: $(ARCHIVE) $(REPLAY)
 	cd rust && cargo run --offline --locked --quiet --release -p bench
@@ -56,17 +69,20 @@ bench-against: $(ARCHIVE)
 	@test -f "$(BEFORE)" || { echo "BEFORE names the archive to measure against"; exit 1; }
 	cd rust && BOHRALI_BEFORE=$(abspath $(BEFORE)) cargo run --offline --locked --quiet --release -p bench --features before --bin against
 
-install: $(ARCHIVE) $(SHARED)
+install: $(ARCHIVE) $(SHARED) $(COMMAND) $(REPLAY)
 	install -d $(DESTDIR)$(PREFIX)/include $(DESTDIR)$(PREFIX)/lib/pkgconfig
 	install -m 644 include/bohrali.h $(DESTDIR)$(PREFIX)/include
 	install -m 644 $(ARCHIVE) $(DESTDIR)$(PREFIX)/lib
 	install -m 755 $(SHARED) $(DESTDIR)$(PREFIX)/lib
 	cp -P target/lib/$(SONAME) target/lib/libbohrali.so $(DESTDIR)$(PREFIX)/lib
+	sed -e 's|@PREFIX@|$(PREFIX)|' -e 's|2.0.0|$(VERSION)|' bohrali.pc.in > $(DESTDIR)$(PREFIX)/lib/pkgconfig/bohrali.pc
 	if [ -d target/frontend ]; then \
 	    install -d $(DESTDIR)$(PREFIX)/bin $(DESTDIR)$(PREFIX)/lib/bohrali && \
 	    install -m 755 target/frontend/bohrali-* $(DESTDIR)$(PREFIX)/bin && \
 	    install -m 644 target/frontend/flow-*.so $(DESTDIR)$(PREFIX)/lib/bohrali; fi
-	sed -e 's|@PREFIX@|$(PREFIX)|' -e 's|@VERSION@|$(VERSION)|' bohrali.pc.in > $(DESTDIR)$(PREFIX)/lib/pkgconfig/bohrali.pc
+	install -D $(COMMAND) $(DESTDIR)$(PREFIX)/bin/bohrali
+	install -D $(REPLAY) $(DESTDIR)$(PREFIX)/libexec/bohrali/replay_trace
+	install -D -m 644 docs/bohrali.1 $(DESTDIR)$(PREFIX)/share/man/man1/bohrali.1
 
 clean:
-	rm -rf target rust/target
+	rm -rf target rust/target examples/playtest/build

@@ -12,10 +12,14 @@
  * during the call, nor `buffer`, in which a chart is changed. Calls share nothing, so any number of
  * threads may make them.
  *
- * The first word of a constant says what it is: LEAST and MOST are limits, BYTES sizes, TRAILER
- * fields of the trailer, NODE and CONSTRUCT kinds, REGION numbers of regions, ANSWER answers,
- * DISTANCE distances, ACCESS what is done to a variable, RACE races, LOCK whether a lock can be
- * dropped, REFUSED refusals.
+ * Below stand, each under a heading: charts, listings, limits and sizes, kinds, answers, distances,
+ * accesses and races, locks, traces, refusals; then the calls, in the order in which one needs
+ * them.
+ *
+ * The first word of a constant says what it is: VERSION is the version, LEAST and MOST are limits,
+ * BYTES sizes, TRAILER fields of the trailer, NODE and CONSTRUCT kinds, REGION numbers of regions,
+ * ANSWER answers, DISTANCE distances, ACCESS what is done to a variable, RACE races, LOCK whether a
+ * lock can be dropped, REFUSED refusals.
  */
 #ifndef BOHRALI_H
 #define BOHRALI_H
@@ -23,9 +27,17 @@
 #include <stddef.h>
 #include <stdint.h>
 
+/* The version of this header and of the library that it belongs to. The first number goes up where
+ * a call changes its arguments or its answers, and with it the name of the shared library. */
+#define BOHRALI_VERSION_MAJOR 2
+#define BOHRALI_VERSION_MINOR 0
+#define BOHRALI_VERSION_PATCH 0
+
 #ifdef __cplusplus
 extern "C" {
 #endif
+
+/* ==== Charts ================================================================================== */
 
 /* The chart: node records, edge records, construct records and the trailer, one after the other.
  * Fields of two bytes are unsigned and little-endian. Nodes and constructs are numbered from 0 in
@@ -115,6 +127,8 @@ extern "C" {
  * implies, as after a single, a do or a sections without NOWAIT, is a barrier node like any other.
  */
 
+/* ==== Listings ================================================================================ */
+
 /* The listing: the shape of a region as text, for those who have no compiler to write a chart. It
  * is a row of items, one straight after the other, with no blank or line end between them:
  *
@@ -137,6 +151,8 @@ extern "C" {
  * the closing brace, the barrier that follows a construct next. Names and tags are 0. Each node
  * leads to the next one of its row, and the last node of a row to what follows the row; an edge
  * that would be there twice, as in i{}{}, is written once. */
+
+/* ==== Limits and sizes ======================================================================== */
 
 /* Limits of a chart. Barriers are counted in each region by itself, its Start and Finish included,
  * and so are never fewer than 2. */
@@ -180,6 +196,8 @@ extern "C" {
 #define BOHRALI_TRAILER_EDITION_2 2
 #define BOHRALI_TRAILER_CLOSING 0x434F
 
+/* ==== Kinds =================================================================================== */
+
 /* Kinds of nodes. */
 enum bohrali_node_kind {
     BOHRALI_NODE_PLAIN = 0,   /* any other code */
@@ -205,6 +223,8 @@ enum bohrali_construct_kind {
 
 /* In place of a parallel's number: the outermost region. */
 #define BOHRALI_REGION_OUTERMOST 255
+
+/* ==== Answers ================================================================================= */
 
 /* Answers for two nodes of a region, which may be equal and are no barriers: can two threads of the
  * region's team be at them together, in a run that finishes? The team may have any size; the calls
@@ -253,8 +273,12 @@ enum bohrali_answer {
  * again, or is asked once of a chart with all the edges that may ever be added, and then holds
  * until they are. */
 
+/* ==== Distances =============================================================================== */
+
 /* In place of a node's distance: it is a barrier or outside the region. No distance is over 190. */
 #define BOHRALI_DISTANCE_AT_BARRIER 255
+
+/* ==== Accesses and races ====================================================================== */
 
 /* An access to a variable, BOHRALI_BYTES_ACCESS bytes:
  *     0  node        where it is made, a node of the region that is no barrier
@@ -280,6 +304,8 @@ enum bohrali_race {
     BOHRALI_RACE_SYNCHRONIZATION = 1, /* both nodes are inside criticals of a common name */
     BOHRALI_RACE_DATA = 2             /* a possible data race: all else */
 };
+
+/* ==== Locks =================================================================================== */
 
 /* Whether the lock of a critical can be dropped. What is asked is what runs without any locks do,
  * in which a thread goes into a critical whenever it comes to its begin: does one have two threads
@@ -314,6 +340,8 @@ enum bohrali_lock {
  * the region, or inside a deeper one. */
 #define BOHRALI_LOCK_NO_CRITICAL 255
 
+/* ==== Traces ================================================================================== */
+
 /* A trace: a recorded run, BOHRALI_BYTES_ENTRY bytes an entry:
  *     0  thread      the number of a thread of the team, from 0
  *     1  node        the node that it steps to
@@ -321,6 +349,8 @@ enum bohrali_lock {
  * for each thread, in the order of their numbers, and takes effect with the last of these. Each
  * other entry is one step of one thread. The program replay_trace tells of any trace what becomes
  * of it, and which pairs of nodes it meets. */
+
+/* ==== Refusals ================================================================================ */
 
 /* Refusals. A call returns the first that applies, negated, and then has written nothing. Each is
  * checked over the whole chart, or the whole list, before the next, in the order of their numbers
@@ -334,7 +364,7 @@ enum bohrali_refusal {
     BOHRALI_REFUSED_LENGTHS = 4,   /* length or a distance of the trailer differs from what the
                                       edition asks */
     BOHRALI_REFUSED_NODE = 5,      /* a node's kind or construct number; a barrier that names what
-                                      is no parallel, or first or last node naming one */
+                                      is no parallel, or that names one as first or last node */
     BOHRALI_REFUSED_CONSTRUCT = 6, /* a construct's kind, parent or name, a filter on a kind that is
                                       not masked, the nesting, or a node or construct wrongly in a
                                       sections */
@@ -363,6 +393,8 @@ enum bohrali_refusal {
                                       parallel */
 };
 
+/* ==== Calls: a chart ========================================================================== */
+
 /* Whether the bytes are a chart. Returns nodes + 256 * barriers + 65536 * phases, barriers and
  * phases those of the outermost region, or a refusal 1 to 10, negated. A phase is a pair (start,
  * end) that some node has; equal pairs count once. */
@@ -375,6 +407,99 @@ int64_t bohrali_admit(const uint8_t *chart, size_t chart_len);
  * Start and Finish counted; 11. Bytes past the chart keep their values. Any text may be handed
  * over; BOHRALI_MOST_CHART_BYTES are room enough for the chart of any. */
 int64_t bohrali_listing(const uint8_t *text, size_t text_len, uint8_t *out, size_t out_len);
+
+/* ==== Calls: answers ========================================================================== */
+
+/* Judges a list of claims about a region, each a pair of bytes: two node numbers, of which it is
+ * claimed that two threads of the region's team are never there together, in a run that finishes.
+ * Returns 0 where the list passes: no team, of any size, has a run that finishes and brings two
+ * threads to the two nodes of a pair together. Otherwise the index, from 0, of the first pair for
+ * which some team has such a run, plus 1; or a refusal 1 to 10, 23, 12 or 13, negated. An empty
+ * list passes where chart and region are not refused. */
+int64_t bohrali_judge(const uint8_t *chart, size_t chart_len, size_t region, const uint8_t *claims,
+                      size_t claims_len);
+
+/* The same for teams of just `size` threads: the list passes where no team of that size has such a
+ * run, and fails at the first pair for which one has. Refusals are 1 to 10, 23, 12, 13 and 21; an
+ * empty list passes where chart, region and size are not refused. */
+int64_t bohrali_judge_sized(const uint8_t *chart, size_t chart_len, size_t region, size_t size,
+                            const uint8_t *claims, size_t claims_len);
+
+/* The answer for nodes a and b of a region: 0 to 5, or a refusal 1 to 10, 23 or 13, negated. Any
+ * numbers may be handed over; the order of the two nodes does not matter. */
+int64_t bohrali_pair(const uint8_t *chart, size_t chart_len, size_t region, size_t a, size_t b);
+
+/* The same for teams of just `size` threads: 0 to 7, or a refusal 1 to 10, 23, 13 or 21,
+ * negated. */
+int64_t bohrali_pair_sized(const uint8_t *chart, size_t chart_len, size_t region, size_t size,
+                           size_t a, size_t b);
+
+/* Writes for each node a, by rising number, a row with a byte for each node b: the answer for a and
+ * b in a region, or BOHRALI_ANSWER_AT_BARRIER, also where a or b is outside the region. Byte
+ * a * nodes + b is that of a and b. Returns the number of bytes written, nodes * nodes, with the
+ * nodes of the whole chart, or a refusal 1 to 10, 23 or 11, negated. Bytes past the result keep
+ * their values. */
+int64_t bohrali_sheet(const uint8_t *chart, size_t chart_len, size_t region, uint8_t *out,
+                      size_t out_len);
+
+/* The same for teams of just `size` threads, with the answers of bohrali_pair_sized and
+ * BOHRALI_ANSWER_AT_BARRIER where bohrali_sheet has it. Refusals are 1 to 10, 23, 11 and 21. */
+int64_t bohrali_sheet_sized(const uint8_t *chart, size_t chart_len, size_t region, size_t size,
+                            uint8_t *out, size_t out_len);
+
+/* ==== Calls: locks and races ================================================================== */
+
+/* Writes for each construct of the chart, by rising number, one byte: whether its lock can be
+ * dropped in a region, BOHRALI_LOCK_.., for teams of any size. Returns the number of bytes written,
+ * one for each construct of the whole chart, also for those that are not the region's and for other
+ * kinds, or a refusal 1 to 10, 23 or 11, negated. BOHRALI_MOST_CONSTRUCTS are room enough for any
+ * chart. Bytes past the result keep their values. */
+int64_t bohrali_locks(const uint8_t *chart, size_t chart_len, size_t region, uint8_t *out,
+                      size_t out_len);
+
+/* The same for teams of just `size` threads. Refusals are 1 to 10, 23, 11 and 21. */
+int64_t bohrali_locks_sized(const uint8_t *chart, size_t chart_len, size_t region, size_t size,
+                            uint8_t *out, size_t out_len);
+
+/* Writes the races of all pairs of a list of accesses to variables in a region: for each access, in
+ * the order of the list, a byte (BOHRALI_RACE_..) for it and each access from itself on. So the
+ * first byte is that of the first access with itself, made by two threads, and for n accesses there
+ * are n * (n + 1) / 2 bytes. Returns the number of bytes written, 0 for an empty list, or a refusal
+ * 1 to 10, 23, 20 or 11, negated. Bytes past the result keep their values. */
+int64_t bohrali_races(const uint8_t *chart, size_t chart_len, size_t region,
+                      const uint8_t *accesses, size_t accesses_len, uint8_t *out, size_t out_len);
+
+/* ==== Calls: what the answers are read off ==================================================== */
+
+/* Writes for each node, by rising number, its starts and its ends in a region: two masks of 8 bytes
+ * each, little-endian, with bit b for barrier b of the region. Barriers, and nodes outside the
+ * region, have no starts and no ends: 16 bytes of 0. Returns the number of bytes written, 16 for
+ * each node of the whole chart, or a refusal 1 to 10, 23 or 11, negated. Bytes past the result keep
+ * their values. */
+int64_t bohrali_phases(const uint8_t *chart, size_t chart_len, size_t region, uint8_t *out,
+                       size_t out_len);
+
+/* Writes for each node, by rising number, one byte: its distance in a region, the fewest edges on a
+ * barrier-free path that leads to it from a start of it, or BOHRALI_DISTANCE_AT_BARRIER where it is
+ * a barrier or outside the region. Every barrier-free path from a barrier to the node has at least
+ * so many edges. Returns the number of bytes written, one for each node of the whole chart, or a
+ * refusal 1 to 10, 23 or 11, negated. Bytes past the result keep their values. */
+int64_t bohrali_distances(const uint8_t *chart, size_t chart_len, size_t region, uint8_t *out,
+                          size_t out_len);
+
+/* ==== Calls: runs ============================================================================= */
+
+/* Whether a trace shows that two threads can be at nodes a and b of a region together, in a run
+ * that finishes. Returns 1 where it is such a run of a team of `size` threads, 1 to
+ * BOHRALI_MOST_THREADS: every entry is a step of the region's team, all threads are at the region's
+ * Finish in the end, and before the first entry or after some entry two different threads stand at
+ * a and b. Returns 0 where it is not, or a refusal 1 to 10, 23, 13 or 22, negated. 1 shows that the
+ * answer for a and b is 0, for teams of any size and of this one; 0 shows nothing, since another
+ * trace may. Any numbers may be handed over; the order of the two nodes does not matter. */
+int64_t bohrali_witnessed(const uint8_t *chart, size_t chart_len, size_t region, size_t size,
+                          const uint8_t *trace, size_t trace_len, size_t a, size_t b);
+
+/* ==== Calls: a chart changed ================================================================== */
 
 /* Puts the edge (from, to) into the chart that the first chart_len bytes of a buffer are, where the
  * chart with that edge is admitted too. That chart has the edge's record in its place among the
@@ -408,89 +533,6 @@ int64_t bohrali_insert_edge(uint8_t *buffer, size_t buffer_len, size_t chart_len
  * over: one that no node has, also one over 255, is no edge's, so 19. */
 int64_t bohrali_remove_edge(uint8_t *buffer, size_t buffer_len, size_t chart_len, size_t from,
                             size_t to);
-
-/* The answer for nodes a and b of a region: 0 to 5, or a refusal 1 to 10, 23 or 13, negated. Any
- * numbers may be handed over; the order of the two nodes does not matter. */
-int64_t bohrali_pair(const uint8_t *chart, size_t chart_len, size_t region, size_t a, size_t b);
-
-/* The same for teams of just `size` threads: 0 to 7, or a refusal 1 to 10, 23, 13 or 21,
- * negated. */
-int64_t bohrali_pair_sized(const uint8_t *chart, size_t chart_len, size_t region, size_t size,
-                           size_t a, size_t b);
-
-/* Writes for each node, by rising number, one byte: its distance in a region, the fewest edges on a
- * barrier-free path that leads to it from a start of it, or BOHRALI_DISTANCE_AT_BARRIER where it is
- * a barrier or outside the region. Every barrier-free path from a barrier to the node has at least
- * so many edges. Returns the number of bytes written, one for each node of the whole chart, or a
- * refusal 1 to 10, 23 or 11, negated. Bytes past the result keep their values. */
-int64_t bohrali_distances(const uint8_t *chart, size_t chart_len, size_t region, uint8_t *out,
-                          size_t out_len);
-
-/* Judges a list of claims about a region, each a pair of bytes: two node numbers, of which it is
- * claimed that two threads of the region's team are never there together, in a run that finishes.
- * Returns 0 where the list passes: no team, of any size, has a run that finishes and brings two
- * threads to the two nodes of a pair together. Otherwise the index, from 0, of the first pair for
- * which some team has such a run, plus 1; or a refusal 1 to 10, 23, 12 or 13, negated. An empty
- * list passes where chart and region are not refused. */
-int64_t bohrali_judge(const uint8_t *chart, size_t chart_len, size_t region, const uint8_t *claims,
-                      size_t claims_len);
-
-/* The same for teams of just `size` threads: the list passes where no team of that size has such a
- * run, and fails at the first pair for which one has. Refusals are 1 to 10, 23, 12, 13 and 21; an
- * empty list passes where chart, region and size are not refused. */
-int64_t bohrali_judge_sized(const uint8_t *chart, size_t chart_len, size_t region, size_t size,
-                            const uint8_t *claims, size_t claims_len);
-
-/* Writes for each construct of the chart, by rising number, one byte: whether its lock can be
- * dropped in a region, BOHRALI_LOCK_.., for teams of any size. Returns the number of bytes written,
- * one for each construct of the whole chart, also for those that are not the region's and for other
- * kinds, or a refusal 1 to 10, 23 or 11, negated. BOHRALI_MOST_CONSTRUCTS are room enough for any
- * chart. Bytes past the result keep their values. */
-int64_t bohrali_locks(const uint8_t *chart, size_t chart_len, size_t region, uint8_t *out,
-                      size_t out_len);
-
-/* The same for teams of just `size` threads. Refusals are 1 to 10, 23, 11 and 21. */
-int64_t bohrali_locks_sized(const uint8_t *chart, size_t chart_len, size_t region, size_t size,
-                            uint8_t *out, size_t out_len);
-
-/* Writes for each node, by rising number, its starts and its ends in a region: two masks of 8 bytes
- * each, little-endian, with bit b for barrier b of the region. Barriers, and nodes outside the
- * region, have no starts and no ends: 16 bytes of 0. Returns the number of bytes written, 16 for
- * each node of the whole chart, or a refusal 1 to 10, 23 or 11, negated. Bytes past the result keep
- * their values. */
-int64_t bohrali_phases(const uint8_t *chart, size_t chart_len, size_t region, uint8_t *out,
-                       size_t out_len);
-
-/* Writes the races of all pairs of a list of accesses to variables in a region: for each access, in
- * the order of the list, a byte (BOHRALI_RACE_..) for it and each access from itself on. So the
- * first byte is that of the first access with itself, made by two threads, and for n accesses there
- * are n * (n + 1) / 2 bytes. Returns the number of bytes written, 0 for an empty list, or a refusal
- * 1 to 10, 23, 20 or 11, negated. Bytes past the result keep their values. */
-int64_t bohrali_races(const uint8_t *chart, size_t chart_len, size_t region,
-                      const uint8_t *accesses, size_t accesses_len, uint8_t *out, size_t out_len);
-
-/* Writes for each node a, by rising number, a row with a byte for each node b: the answer for a and
- * b in a region, or BOHRALI_ANSWER_AT_BARRIER, also where a or b is outside the region. Byte
- * a * nodes + b is that of a and b. Returns the number of bytes written, nodes * nodes, with the
- * nodes of the whole chart, or a refusal 1 to 10, 23 or 11, negated. Bytes past the result keep
- * their values. */
-int64_t bohrali_sheet(const uint8_t *chart, size_t chart_len, size_t region, uint8_t *out,
-                      size_t out_len);
-
-/* The same for teams of just `size` threads, with the answers of bohrali_pair_sized and
- * BOHRALI_ANSWER_AT_BARRIER where bohrali_sheet has it. Refusals are 1 to 10, 23, 11 and 21. */
-int64_t bohrali_sheet_sized(const uint8_t *chart, size_t chart_len, size_t region, size_t size,
-                            uint8_t *out, size_t out_len);
-
-/* Whether a trace shows that two threads can be at nodes a and b of a region together, in a run
- * that finishes. Returns 1 where it is such a run of a team of `size` threads, 1 to
- * BOHRALI_MOST_THREADS: every entry is a step of the region's team, all threads are at the region's
- * Finish in the end, and before the first entry or after some entry two different threads stand at
- * a and b. Returns 0 where it is not, or a refusal 1 to 10, 23, 13 or 22, negated. 1 shows that the
- * answer for a and b is 0, for teams of any size and of this one; 0 shows nothing, since another
- * trace may. Any numbers may be handed over; the order of the two nodes does not matter. */
-int64_t bohrali_witnessed(const uint8_t *chart, size_t chart_len, size_t region, size_t size,
-                          const uint8_t *trace, size_t trace_len, size_t a, size_t b);
 
 #ifdef __cplusplus
 }

@@ -52,6 +52,12 @@ const LAYOUT: [(&str, usize); 27] = [
     ("ACCESS_WRITE", AccessKind::Write as usize),
 ];
 
+const VERSION: [(&str, &str); 3] = [
+    ("VERSION_MAJOR", env!("CARGO_PKG_VERSION_MAJOR")),
+    ("VERSION_MINOR", env!("CARGO_PKG_VERSION_MINOR")),
+    ("VERSION_PATCH", env!("CARGO_PKG_VERSION_PATCH")),
+];
+
 const AT_BARRIER: (&str, usize) = ("ANSWER_AT_BARRIER", Answer::AT_BARRIER as usize);
 const OUTERMOST: (&str, usize) = ("REGION_OUTERMOST", Region::OUTERMOST);
 const NO_CRITICAL: (&str, usize) = ("LOCK_NO_CRITICAL", Lock::NO_CRITICAL as usize);
@@ -87,7 +93,8 @@ fn ours() -> BTreeMap<String, usize> {
     let locks = Lock::ALL
         .iter()
         .map(|&x| (format!("LOCK_{}", spelt(&format!("{x:?}"))), x as usize));
-    let named = named.chain(answers).chain(refusals);
+    let version = VERSION.map(|(name, text)| (name.to_string(), number(text)));
+    let named = named.chain(version).chain(answers).chain(refusals);
     named.chain(races).chain(locks).collect()
 }
 
@@ -123,6 +130,14 @@ fn declared() -> BTreeMap<String, usize> {
 #[test]
 fn constants_are_those_of_the_header() {
     assert_eq!(declared(), ours());
+}
+
+#[test]
+fn version_is_that_of_the_makefile() {
+    let makefile = PathBuf::from(env!("CARGO_MANIFEST_DIR")).join("../../Makefile");
+    let makefile = fs::read_to_string(makefile).expect("the Makefile");
+    let line = makefile.lines().find_map(|x| x.strip_prefix("VERSION := "));
+    assert_eq!(line, Some(env!("CARGO_PKG_VERSION")));
 }
 
 #[test]
