@@ -4,10 +4,13 @@
 //! name, itself included, is a never, in every region around both criticals. The region of an inner team is
 //! not enough: two threads of the outer team may each have opened such a team. Regions inside a critical do
 //! not count: their teams work for the one thread that is in it.
+//!
+//! Of the criticals of one region the library's own call tells it. What that leaves open is asked as claims:
+//! which pair needs a lock, and pairs with criticals of deeper regions.
 
 use crate::report::Failure;
 use crate::subject::{Subject, Team};
-use bohrali::{Answer, Region};
+use bohrali::{Answer, Lock as Told, Region};
 use region::{ConstructKind, Name};
 use std::collections::btree_map::Entry;
 use std::collections::{BTreeMap, BTreeSet};
@@ -96,6 +99,14 @@ impl Critical<'_> {
         }
     }
 
+    /// Each node inside it with each node inside one of these.
+    fn pairs<'a>(&self, others: impl Iterator<Item = &'a Critical<'a>>) -> Vec<(u8, u8)> {
+        let nodes: BTreeSet<u8> = others.flat_map(|x| x.nodes.iter().copied()).collect();
+        let each = self.nodes.iter();
+        each.flat_map(|&a| nodes.iter().map(move |&b| (a, b)))
+            .collect()
+    }
+
     fn is_around(&self, other: &Critical) -> bool {
         let mut around = self.subject.table().chart.enclosing(other.construct);
         around.any(|x| x == self.construct)
@@ -149,20 +160,17 @@ impl Asking<'_> {
         let mut in_every_run = true;
         // A region has a lower number than those inside it: its own first.
         for region in regions.into_iter().rev().filter(|&x| own.is_in(x)) {
-            let others = self
-                .criticals
-                .iter()
-                .filter(same)
-                .filter(|x| x.is_in(region));
-            let nodes: BTreeSet<u8> = others.flat_map(|x| x.nodes.iter().copied()).collect();
-            let each = own.nodes.iter();
-            let pairs = each
-                .flat_map(|&a| nodes.iter().map(move |&b| (a, b)))
-                .collect();
+            let team = self.team.in_region(region);
+            let told = self.subject.locks(team)?;
+            let told = |x: &Critical| told.get(usize::from(x.construct)).copied().flatten();
+            let decided = told(own).filter(|&x| x != Told::Needed);
+            in_every_run &= decided != Some(Told::DroppableFinished);
+            let same = self.criticals.iter().filter(same);
+            let open = |x: &&Critical| x.is_in(region) && (decided.is_none() || told(x).is_none());
             match asked(
                 self.subject,
-                self.team.in_region(region),
-                pairs,
+                team,
+                own.pairs(same.filter(open)),
                 &mut self.answers,
             )? {
                 Asked::Meet(a, b) => return Ok(Lock::Needed(Reason::Pair(a, b, region))),

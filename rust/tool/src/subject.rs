@@ -5,7 +5,7 @@ use crate::json::Json;
 use crate::report::Failure;
 use crate::words;
 use bohrali::layout::BYTES_PHASES;
-use bohrali::{Answer, Refusal, Region, Size, Verdict};
+use bohrali::{Answer, Lock, Refusal, Region, Size, Verdict};
 use region::load::{self, Loaded, MOST_BYTES};
 use region::{ConstructKind, Table, Wrong};
 use std::ffi::{OsStr, OsString};
@@ -140,6 +140,16 @@ impl Subject {
         self.filled(self.nodes(), |chart, out| {
             bohrali::distances(chart, region, out)
         })
+    }
+
+    /// For each construct what becomes of its lock in a region; none where it is no critical of the region.
+    pub fn locks(&self, team: Team) -> Result<Vec<Option<Lock>>, Failure> {
+        let constructs = self.table().chart.constructs.len();
+        let bytes = self.filled(constructs, |chart, out| match team.size {
+            None => bohrali::locks(chart, team.region, out),
+            Some(size) => bohrali::locks_sized(chart, team.region, size, out),
+        })?;
+        Ok(bytes.into_iter().map(Lock::of).collect())
     }
 
     /// What a call writes.
