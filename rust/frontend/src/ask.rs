@@ -22,6 +22,8 @@ pub struct Finding {
     /// The region's name in the directory; empty where the places themselves have no answer.
     pub region: String,
     pub verdict: Verdict,
+    /// The nodes with code of each place; none where there is no answer.
+    pub nodes: [Vec<usize>; 2],
     /// The rules of a never.
     pub rules: Vec<Answer>,
     /// Why there is no answer; or the branches that all threads have to take alike, if a never rests on them.
@@ -70,12 +72,25 @@ impl Asked {
     fn without(reason: String) -> Asked {
         Asked {
             verdict: Verdict::NoAnswer,
-            findings: vec![Finding {
-                region: String::new(),
-                verdict: Verdict::NoAnswer,
-                rules: Vec::new(),
-                reason,
-            }],
+            findings: vec![Finding::without("", reason)],
+        }
+    }
+
+    /// The findings that make the verdict what it is.
+    pub fn deciding(&self) -> impl Iterator<Item = &Finding> {
+        let findings = self.findings.iter();
+        findings.filter(|x| x.verdict == self.verdict)
+    }
+}
+
+impl Finding {
+    fn without(region: &str, reason: String) -> Finding {
+        Finding {
+            region: region.into(),
+            verdict: Verdict::NoAnswer,
+            nodes: [Vec::new(), Vec::new()],
+            rules: Vec::new(),
+            reason,
         }
     }
 }
@@ -164,12 +179,7 @@ fn finding(held: &Held, places: [&Vec<Lines>; 2]) -> Option<Finding> {
     if !has(0) || !has(1) {
         return None;
     }
-    let without = |reason: String| Finding {
-        region: held.name.clone(),
-        verdict: Verdict::NoAnswer,
-        rules: Vec::new(),
-        reason,
-    };
+    let without = |reason: String| Finding::without(&held.name, reason);
     if let Some(note) = unanswered.into_iter().flatten().next() {
         return Some(without(format!("{} is {}", note.subject, note.reason)));
     }
@@ -197,6 +207,7 @@ fn finding(held: &Held, places: [&Vec<Lines>; 2]) -> Option<Finding> {
         } else {
             Verdict::Together
         },
+        nodes,
         rules,
         reason: if rests_on_phases {
             alike.join(", ")

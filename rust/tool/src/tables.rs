@@ -2,7 +2,9 @@
 
 use crate::arguments::{Arguments, REGION, SIZE};
 use crate::report::Failure;
-use frontend::{directory, Directory, Held, Problem};
+use crate::subject::Subject;
+use frontend::{directory, Asked, Directory, Held, Problem};
+use region::{quoted, Lines};
 use std::fs;
 use std::path::Path;
 
@@ -53,8 +55,25 @@ pub fn region(held: &Held) -> String {
     }
 }
 
+/// A region's table as one file; none where it has none.
+pub fn subject(held: Held) -> Option<Subject> {
+    Some(Subject {
+        file: held.table.display().to_string(),
+        loaded: held.loaded?,
+    })
+}
+
+/// The answer for two source places as they were typed.
+pub fn ask(directory: &Directory, words: [&str; 2]) -> Result<Asked, String> {
+    let place = |word: &str| {
+        Lines::read(word).ok_or_else(|| format!("{} found, FILE:LINE expected", quoted(word)))
+    };
+    let places = [&place(words[0])?, &place(words[1])?];
+    Ok(frontend::ask(directory, places, &source))
+}
+
 /// The text of a source file, whatever its letters are.
-pub fn source(path: &str) -> Option<String> {
+fn source(path: &str) -> Option<String> {
     let bytes = fs::read(path).ok()?;
     Some(String::from_utf8_lossy(&bytes).into_owned())
 }

@@ -3,7 +3,7 @@
 
 mod common;
 
-use common::{chart, example, file, folder, told};
+use common::{chart, example, file, flow, folder, told};
 use std::env;
 use std::fs;
 use std::path::Path;
@@ -365,20 +365,14 @@ fn mistyped_words() {
 /// A whole program, from the flow of its units on.
 #[test]
 fn programs() {
-    let flows = Path::new(env!("CARGO_MANIFEST_DIR")).join("../frontend/tests/flows/O2");
-    let flow = |name: &str| flows.join(name).to_str().expect("text").to_string();
     let folder = folder("programs");
-    let tables = folder.join("tables");
-    let tables = tables.to_str().expect("a path that is text");
-    let claims = file(
-        &folder,
-        "claims",
-        "never h1.c:21 h1.c:27\nnever h1.c:21 h1.c:21\n",
-    );
+    let tables = &folder.join("tables").display().to_string();
+    let claims = "never h1.c:21 h1.c:27\nnever h1.c:21 h1.c:21\n";
+    let claims = file(&folder, "claims", claims);
+    let trace = folder.join("run.trace").display().to_string();
     let unanswered = file(&folder, "unanswered", "never h5.c:49 h5.c:50\n");
     let wrong = file(&folder, "cut.flow", "bohrali-flow 1\nunit a.c\n");
-    let [hand, calls, locks] =
-        ["h1.c", "h5.c", "locks1.c"].map(|x| flow(&format!("hand/{x}.flow")));
+    let [hand, calls, locks] = ["h1.c", "h5.c", "locks1.c"].map(flow);
     compare(
         "programs",
         &[
@@ -391,6 +385,15 @@ fn programs() {
             &["ask", "h1.c:21", "h5.c:50", tables],
             &["ask", "--json", "h1.c:23", "h1.c:23", tables],
             &["ask", "h1.c", "h1.c:21", tables],
+            &["why", tables, "h1.c:21", "h1.c:27"],
+            &["why", tables, "h5.c:68", "h5.c:68"],
+            &["why", tables, "h5.c:69", "h5.c:69", "--json"],
+            &["why", tables, "h5.c:49", "h5.c:50"],
+            &["why", tables, "h5.c:49", "h5.c:50", "--json"],
+            &["why", tables, "h1.c:21", "h1.c:9999", "--trace", &trace],
+            &["why", tables, "h1.c", "h1.c:21"],
+            &["why", tables, "h1.c:21", "4"],
+            &["why", "--size", "2", tables, "h1.c:21", "h1.c:21"],
             &["judge", tables, &claims],
             &["judge", tables, &unanswered],
             &["judge", "--size", "2", tables, &claims],

@@ -4,7 +4,7 @@ mod common;
 
 use bohrali::{Region, Size};
 use common::json::Value;
-use common::{chart, example, good};
+use common::{chart, example, flow, folder, good, told};
 use region::load;
 use std::fs;
 use std::path::Path;
@@ -96,4 +96,51 @@ fn runs_are_certified_and_at_their_nodes() {
         }
     }
     assert!(runs > 50);
+}
+
+/// The directory of tables of a program, in a test's folder.
+fn tables(test: &str) -> String {
+    let tables = folder(test).join("tables").display().to_string();
+    good(&["regions", &flow("h5.c"), "-o", &tables]);
+    tables
+}
+
+/// Of a program each region that decides has documents of its own, about the table that they name.
+#[test]
+fn runs_of_a_program_are_certified_for_their_tables() {
+    let tables = tables("why-documents");
+    for (place, regions) in [("h5.c:68", vec![39]), ("h5.c:69", vec![39, 65])] {
+        let (status, out, err) = told(&["why", "--json", &tables, place, place]);
+        assert_eq!((status, err.as_str()), (1, ""));
+        let list = Value::read(&out);
+        let mut files: Vec<&str> = list.items().iter().map(|x| x.get("file").text()).collect();
+        files.dedup();
+        let expected = regions.iter().map(|x| format!("{tables}/region-{x}.csv"));
+        assert_eq!(files, expected.collect::<Vec<_>>());
+        for why in list
+            .items()
+            .iter()
+            .filter(|x| x.get("answer").number() == 0)
+        {
+            check(Path::new(why.get("file").text()), why);
+        }
+    }
+}
+
+#[test]
+fn a_program_has_the_verdict_that_ask_gives() {
+    let tables = tables("why-verdict");
+    let places = [44, 46, 49, 50, 68, 69, 9999].map(|x| format!("h5.c:{x}"));
+    let mut statuses = Vec::new();
+    for one in &places {
+        for other in &places {
+            let (asked, verdict, _) = told(&["ask", one, other, &tables]);
+            let (status, text, err) = told(&["why", &tables, one, other]);
+            assert_eq!((status, err.as_str()), (asked, ""), "{one} {other}");
+            let verdict = verdict.split("\n\n").next().expect("a verdict");
+            assert!(text.starts_with(verdict), "{text}");
+            statuses.push(status);
+        }
+    }
+    assert!([0, 1, 2].iter().all(|x| statuses.contains(x)));
 }

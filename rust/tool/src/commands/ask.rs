@@ -6,9 +6,7 @@ use crate::json::Json;
 use crate::report::{Colour, Failure, Report, Terminal, FOUND, GOOD, REFUSED};
 use crate::tables;
 use crate::words;
-use frontend::{ask, Asked, Directory, Finding, Verdict};
-use region::{quoted, Lines};
-use std::ffi::OsStr;
+use frontend::{Asked, Directory, Finding, Verdict};
 use std::path::Path;
 
 pub const COMMAND: Command = Command {
@@ -26,17 +24,14 @@ The status is 0 for never, 1 where two threads can be there together, 2 where a 
 };
 
 fn run(arguments: &Arguments, terminal: &Terminal) -> Result<Report, Failure> {
-    let [one, other, path] = &arguments.operands[..] else {
-        return Err(Failure::words(
-            "ask: two places and a directory are expected",
-        ));
-    };
-    let places = [place(one)?, place(other)?];
+    let [one, other, path] = [0, 1, 2].map(|x| &arguments.operands[x]);
     let directory = tables::read(Path::new(path))?;
-    let asked = ask(&directory, [&places[0], &places[1]], &tables::source);
+    let words = [one, other].map(|x| x.to_string_lossy());
+    let asked = tables::ask(&directory, [&words[0], &words[1]]);
+    let asked = asked.map_err(|x| Failure::words(format!("ask: {x}")))?;
     let text = match arguments.has(&JSON) {
         true => document(&asked),
-        false => text(&directory, &asked, terminal),
+        false => verdict(&directory, &asked, terminal) + &behind(asked.verdict),
     };
     Ok(Report::of(text).with_status(status(asked.verdict)))
 }
@@ -49,7 +44,7 @@ pub fn status(verdict: Verdict) -> u8 {
     }
 }
 
-pub fn word(verdict: Verdict) -> &'static str {
+fn word(verdict: Verdict) -> &'static str {
     match verdict {
         Verdict::Never => "never",
         Verdict::Together => "may meet",
@@ -57,35 +52,38 @@ pub fn word(verdict: Verdict) -> &'static str {
     }
 }
 
-fn place(word: &OsStr) -> Result<Lines, Failure> {
-    let text = word.to_string_lossy();
-    Lines::read(&text).ok_or_else(|| {
-        let message = format!("ask: {} found, FILE:LINE expected", quoted(&text));
-        Failure::words(message)
-    })
-}
-
-fn text(directory: &Directory, asked: &Asked, terminal: &Terminal) -> String {
+/// The verdict, with what each region says.
+pub fn verdict(directory: &Directory, asked: &Asked, terminal: &Terminal) -> String {
     let colour = match asked.verdict {
         Verdict::Never => Colour::Good,
         Verdict::Together => Colour::Warm,
         Verdict::NoAnswer => Colour::Quiet,
     };
-    let mut text = format!("{}\n", terminal.paint(colour, word(asked.verdict)));
-    for finding in &asked.findings {
-        text += &format!("    {}\n", found(directory, finding));
+    let said = said(directory, asked.findings.iter());
+    let lines = said.iter().map(|x| format!("    {x}\n"));
+    let word = terminal.paint(colour, word(asked.verdict));
+    format!("{word}\n{}", lines.collect::<String>())
+}
+
+/// When a verdict is so in the program.
+pub fn behind(verdict: Verdict) -> String {
+    match verdict {
+        Verdict::Never => format!("\n{}", tables::WHEN),
+        _ => String::new(),
     }
-    if asked.findings.is_empty() {
-        text += "    no region has code of both places\n";
-    }
-    match asked.verdict {
-        Verdict::Never => format!("{text}\n{}", tables::WHEN),
-        _ => text,
+}
+
+/// What regions say, or that there is none.
+pub fn said<'a>(directory: &Directory, findings: impl Iterator<Item = &'a Finding>) -> Vec<String> {
+    let said: Vec<String> = findings.map(|x| found(directory, x)).collect();
+    match said.is_empty() {
+        true => vec!["no region has code of both places".into()],
+        false => said,
     }
 }
 
 /// What a region says.
-pub fn found(directory: &Directory, finding: &Finding) -> String {
+fn found(directory: &Directory, finding: &Finding) -> String {
     let held = directory.regions.iter().find(|x| x.name == finding.region);
     let region = held.map_or(String::new(), |x| format!("{}: ", tables::region(x)));
     let rules: Vec<&str> = finding

@@ -1,6 +1,6 @@
 //! `bohrali judge`: whether claims hold.
 
-use super::Command;
+use super::{ask, Command};
 use crate::arguments::{Arguments, JSON, REGION, SIZE, WHY};
 use crate::evidence::Evidence;
 use crate::json::Json;
@@ -10,9 +10,9 @@ use crate::report::{Failure, Report, Terminal, FOUND, GOOD};
 use crate::subject::{self, Subject, Team};
 use crate::tables;
 use crate::words::{self, count};
-use frontend::{ask, Directory, Finding, Verdict};
+use frontend::{Directory, Verdict};
 use region::load::MOST_BYTES;
-use region::{quoted, Lines};
+use region::quoted;
 
 pub const COMMAND: Command = Command {
     name: "judge",
@@ -106,17 +106,9 @@ fn judge_program(directory: &Directory, arguments: &Arguments) -> Result<Report,
     let file = arguments.operands[1].to_string_lossy();
     let bytes = subject::bytes(&arguments.operands[1], MOST_BYTES)?;
     let lines = lines::of(&file, &bytes)?;
-    let source = |word: &str| {
-        Lines::read(word).ok_or_else(|| format!("{} found, FILE:LINE expected", quoted(word)))
-    };
     let asked = lines::each(&file, &lines, |line| {
-        let [one, other] = claimed(line)?;
-        let asked = ask(directory, [&source(one)?, &source(other)?], &tables::source);
-        let is_so = |x: &&Finding| x.verdict == asked.verdict;
-        let why = asked.findings.iter().find(is_so).map_or_else(
-            || "no region has code of both places".into(),
-            |x| super::ask::found(directory, x),
-        );
+        let asked = tables::ask(directory, claimed(line)?)?;
+        let why = ask::said(directory, asked.deciding().take(1)).concat();
         match asked.verdict {
             Verdict::NoAnswer => Err(format!("'{}' has no answer: {why}", line.text)),
             Verdict::Never => Ok(None),

@@ -10,6 +10,7 @@ mod locks;
 mod pair;
 mod phases;
 mod program_locks;
+mod program_why;
 mod races;
 mod regions;
 mod replay;

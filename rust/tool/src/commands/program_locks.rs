@@ -75,10 +75,8 @@ pub fn run(
     for held in directory.regions {
         let several = held.notes.of(Key::SeveralTeams).next().cloned();
         let region = tables::region(&held);
-        let Some(loaded) = held.loaded else { continue };
-        let subject = Subject {
-            file: held.table.display().to_string(),
-            loaded,
+        let Some(subject) = tables::subject(held) else {
+            continue;
         };
         for (own, lock) in critical::locks(&subject, Team::default())? {
             let name = words::name(&own.name);

@@ -26,7 +26,7 @@ region a table FUNCTION-LINE.csv, and FUNCTION-LINE.txt with what must be known 
 an answer and why, branches that all threads have to take alike, routines that are not opened, what was
 taken for less than it is and what was lost to the limits of a chart. program.txt has the same for the
 program as a whole.",
-        "'ask', 'locks' and 'judge' take DIR; every command takes a table of it.",
+        "'ask', 'why', 'judge' and 'locks' take DIR; every command takes a table of it.",
     ],
     options: &[OUTPUT],
     run,

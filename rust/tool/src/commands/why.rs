@@ -1,12 +1,13 @@
 //! `bohrali why`: what shows an answer.
 
-use super::Command;
+use super::{program_why, Command};
 use crate::arguments::{Arguments, Opt, JSON, REGION, SIZE};
 use crate::evidence::Evidence;
 use crate::json::Json;
 use crate::places::{self, Places};
 use crate::report::{Failure, Report, Terminal};
 use crate::subject::{Subject, Team};
+use crate::tables;
 use std::ffi::OsStr;
 use std::fs;
 use witness::{Run, Why};
@@ -24,7 +25,7 @@ const TRACE: Opt = Opt {
 
 pub const COMMAND: Command = Command {
     name: "why",
-    operands: "FILE A B",
+    operands: "FILE|DIR A B",
     count: (3, 3),
     summary: "the answer with its evidence; for a 0 a finished run, a column a thread",
     details: &[
@@ -36,12 +37,19 @@ that keep the locks are preferred, of these the shortest found. A team has at mo
         places::HELP,
         "Of several pairs that two threads can be at together the first is shown with its run, the others
 are named. With --json two node numbers give an object; where A or B is a source line, a list of them.",
+        "Of a DIR, A and B are source lines. The verdict and the status are those of 'ask'; below, under its
+name and place, comes each region that decides it. With --json the list has their documents, each with its
+table in 'file'; where there is no answer it is empty. --trace writes the first of the runs.",
+        tables::HELP,
     ],
     options: &[ALL, TRACE, REGION, SIZE, JSON],
     run,
 };
 
 fn run(arguments: &Arguments, terminal: &Terminal) -> Result<Report, Failure> {
+    if let Some(directory) = tables::named(arguments)? {
+        return program_why::run(directory, arguments, terminal);
+    }
     let team = Team::named(arguments)?;
     let subject = Subject::read(&arguments.operands[0])?;
     let places = Places::of(&subject, team.region)?;
@@ -58,7 +66,7 @@ fn run(arguments: &Arguments, terminal: &Terminal) -> Result<Report, Failure> {
     let evidence = Evidence::of(&subject, team)?;
     let all = evidence.all(&pairs)?;
     let text = match arguments.has(&JSON) {
-        false => texts(&evidence, &all, arguments.has(&ALL), terminal),
+        false => texts(&evidence, &all, arguments, terminal),
         true => {
             let mut documents = all.iter().map(|x| evidence.document(x));
             let one = words.iter().all(|x| places::is_number(x));
@@ -69,13 +77,17 @@ fn run(arguments: &Arguments, terminal: &Terminal) -> Result<Report, Failure> {
             document.document()
         }
     };
-    let run = all.iter().find_map(|x| x.run.as_ref());
-    let notes = arguments.value(&TRACE).map(|out| written(out, run));
-    Ok(Report::of(text).with_notes(notes.transpose()?.flatten().into_iter().collect()))
+    let notes = traced(arguments, &all)?.into_iter().collect();
+    Ok(Report::of(text).with_notes(notes))
 }
 
 /// Every pair in words, the first that has a run with it.
-fn texts(evidence: &Evidence, all: &[Why], unfolded: bool, terminal: &Terminal) -> String {
+pub fn texts(
+    evidence: &Evidence,
+    all: &[Why],
+    arguments: &Arguments,
+    terminal: &Terminal,
+) -> String {
     let first = all.iter().position(|x| x.run.is_some());
     let texts = all.iter().enumerate().map(|(place, why)| {
         let why = match first == Some(place) {
@@ -85,9 +97,19 @@ fn texts(evidence: &Evidence, all: &[Why], unfolded: bool, terminal: &Terminal) 
                 ..why.clone()
             },
         };
-        evidence.text(&why, unfolded, terminal)
+        evidence.text(&why, arguments.has(&ALL), terminal)
     });
     texts.collect::<Vec<_>>().join("\n")
+}
+
+/// Writes the first run where a trace is asked for; where there is none, what is said of it.
+pub fn traced<'a>(
+    arguments: &Arguments,
+    all: impl IntoIterator<Item = &'a Why>,
+) -> Result<Option<String>, Failure> {
+    let run = all.into_iter().find_map(|x| x.run.as_ref());
+    let written = arguments.value(&TRACE).map(|out| written(out, run));
+    Ok(written.transpose()?.flatten())
 }
 
 /// Writes the trace of a run; where there is none, what is said of it.

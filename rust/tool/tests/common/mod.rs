@@ -20,6 +20,12 @@ pub fn chart(name: &str) -> PathBuf {
     folder.join(format!("{name}.chart"))
 }
 
+/// The flow of one of the front end's programs that are written by hand.
+pub fn flow(unit: &str) -> String {
+    let folder = Path::new(env!("CARGO_MANIFEST_DIR")).join("../frontend/tests/flows/O2/hand");
+    folder.join(format!("{unit}.flow")).display().to_string()
+}
+
 pub fn run<T: AsRef<OsStr>>(words: &[T]) -> Output {
     Command::new(env!("CARGO_BIN_EXE_bohrali"))
         .args(words)
