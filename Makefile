@@ -14,7 +14,7 @@ REPLAY := target/bin/replay_trace
 SHARED := target/lib/libbohrali.so.$(VERSION)
 COMMAND := target/bin/bohrali
 SOURCES := crates.txt $(wildcard crates/*/src/*.rt crates/*/specs/*.antt)
-RUST := rust/Cargo.toml rust/Cargo.lock $(wildcard rust/bohrali/src/*.rs rust/bohrali/build.rs $(foreach x,region witness frontend tool,rust/$(x)/Cargo.toml rust/$(x)/src/*.rs rust/$(x)/src/*/*.rs))
+RUST := rust/Cargo.toml rust/Cargo.lock $(wildcard page/* rust/bohrali/src/*.rs rust/bohrali/build.rs $(foreach x,region witness frontend tool,rust/$(x)/Cargo.toml rust/$(x)/src/*.rs rust/$(x)/src/*/*.rs))
 CFLAGS ?= -O2 -Wall -Wextra -Werror
 
 .PHONY: all demo test frontend mutants bench bench-against install clean

@@ -10,6 +10,7 @@
 
 use crate::report::Failure;
 use crate::subject::{Subject, Team};
+use crate::words;
 use bohrali::{Answer, Lock as Told, Region};
 use region::{ConstructKind, Name};
 use std::collections::btree_map::Entry;
@@ -88,6 +89,30 @@ impl Critical<'_> {
         }
     }
 
+    /// In which runs its lock can go, or why it is needed.
+    pub fn lock_words(&self, lock: &Lock) -> String {
+        let reason = match lock {
+            Lock::CanGo {
+                in_every_run: true, ..
+            } => return "in every run".into(),
+            Lock::CanGo { .. } => return "in runs that finish".into(),
+            Lock::Needed(reason) => reason,
+        };
+        let table = self.subject.table();
+        match reason {
+            Reason::Pair(a, b, region) => {
+                let region = words::region(table, *region);
+                format!("{}, in {region}", words::together(table, *a, *b))
+            }
+            Reason::Around(other) => {
+                format!("construct {other}, a critical of the same name, is around it or inside it")
+            }
+            Reason::OtherFile(file) => {
+                format!("{file} has a critical that may be of the same name")
+            }
+        }
+    }
+
     /// Whether the critical lies in a region, at any depth.
     fn is_in(&self, region: Region) -> bool {
         match region {
@@ -125,6 +150,27 @@ pub fn locks(subject: &Subject, team: Team) -> Result<Vec<(Critical<'_>, Lock)>,
     let numbers = 0..asking.criticals.len();
     let locks: Result<Vec<Lock>, Failure> = numbers.map(|x| asking.lock(x)).collect();
     Ok(asking.criticals.into_iter().zip(locks?).collect())
+}
+
+/// Criticals of one name in two files share their lock. Whether teams of two regions work at the same time,
+/// because one is reached from inside the other or several host threads come to them, no file says: the locks
+/// stay, unless it is said here that they do not.
+pub fn share(locks: &mut [(Critical, Lock)], one_team: bool) {
+    let other_file = |own: &Critical| {
+        let elsewhere =
+            |x: &&(Critical, Lock)| !std::ptr::eq(x.0.subject, own.subject) && x.0.may_share(own);
+        let other = locks.iter().find(elsewhere)?;
+        Some(other.0.subject.file.clone())
+    };
+    let files: Vec<Option<String>> = locks.iter().map(|x| other_file(&x.0)).collect();
+    for ((_, lock), file) in locks.iter_mut().zip(files) {
+        if let (Lock::CanGo { also_in, .. }, Some(file)) = (&mut *lock, file) {
+            match one_team {
+                true => *also_in = Some(file),
+                false => *lock = Lock::Needed(Reason::OtherFile(file)),
+            }
+        }
+    }
 }
 
 /// What is known of the pairs of a critical in one region.

@@ -93,7 +93,8 @@ fn run(run: &Run) -> Json<'_> {
     ])
 }
 
-fn failure(subject: &Subject, error: Error) -> Failure {
+/// What is refused, or a fault of the witness.
+pub fn failure(subject: &Subject, error: Error) -> Failure {
     match error {
         Error::Refused(refusal) => subject.refused(refusal),
         other => Failure::about(&subject.file, other),

@@ -10,6 +10,7 @@ mod json;
 mod lines;
 mod matching;
 mod nearest;
+mod page;
 mod places;
 mod program;
 mod report;

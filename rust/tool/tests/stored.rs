@@ -58,6 +58,7 @@ fn help() {
         "locks",
         "races",
         "diff",
+        "page",
         "phases",
         "distances",
         "replay",

@@ -5,6 +5,7 @@
 //! only once the library has certified it. Words say what Phases and the construct records say.
 
 mod certify;
+mod cover;
 mod error;
 mod event;
 mod layout;
@@ -15,6 +16,7 @@ mod rows;
 mod rules;
 pub mod run;
 mod table;
+mod terms;
 pub mod view;
 mod walk;
 mod why;
@@ -26,10 +28,12 @@ use run::MOST_THREADS;
 use view::View;
 
 pub use certify::{certify, Run, CERTIFIED_BY};
+pub use cover::Cover;
 pub use error::Error;
 pub use layout::{wrapped, WIDTH};
 pub use naming::Naming;
-pub use why::Why;
+pub use terms::SLOT;
+pub use why::{Pattern, Why};
 pub use words::{in_every_run, words};
 
 /// What shows an answer.
@@ -92,7 +96,7 @@ impl<'a> Witnesses<'a> {
             Answer::Concurrent => {}
             never => return Ok(Witness::Never(never)),
         }
-        let threads = size.map_or_else(|| chosen(view, a, b).1, |size| size.0);
+        let threads = threads(view, size, a, b);
         let Some(planner) = self.planners.get_mut(threads) else {
             return Ok(Witness::LargerTeam(threads));
         };
@@ -102,4 +106,9 @@ impl<'a> Witnesses<'a> {
         let draft = planner.as_mut().and_then(|x| x.draft(a, b));
         certify(view, draft.ok_or(Error::NoRun)?, a, b).map(Witness::Run)
     }
+}
+
+/// The threads of a run for two nodes: those of the size that is named, or the fewest that serve.
+fn threads(view: &View, size: Option<Size>, a: usize, b: usize) -> usize {
+    size.map_or_else(|| chosen(view, a, b).1, |size| size.0)
 }

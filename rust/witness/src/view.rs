@@ -149,6 +149,13 @@ impl<'a> View<'a> {
         self.constructs[ordered.next()?].parent
     }
 
+    /// A shortest path from a construct's end back to its begin that passes no barrier; none where it does not return.
+    pub fn way_back(&self, c: usize) -> Option<Vec<usize>> {
+        let Frame { begin, end, .. } = self.constructs[c];
+        let is_open = |v: usize| self.role[v] != Role::Barrier;
+        shortest(&self.next, end, begin, is_open)
+    }
+
     /// The name numbers of the criticals that a node is inside.
     pub fn names(&self, v: usize) -> impl Iterator<Item = u16> + '_ {
         let criticals = self.of_kind(self.around[v], ConstructKind::Critical);
@@ -261,19 +268,31 @@ fn through(
     if constructs[c].kind != ConstructKind::Section {
         return Some(Vec::new());
     }
+    let mut path = shortest(next, begin, end, |w| held[w] >> c & 1 == 1)?;
+    path.push(constructs[constructs[c].parent?].end);
+    Some(path)
+}
+
+/// A shortest path between two nodes whose other nodes are all open.
+fn shortest(
+    next: &[Vec<usize>],
+    from: usize,
+    to: usize,
+    is_open: impl Fn(usize) -> bool,
+) -> Option<Vec<usize>> {
     let mut before = vec![None; next.len()];
-    let mut pending = VecDeque::from([begin]);
+    let mut pending = VecDeque::from([from]);
     while let Some(v) = pending.pop_front() {
         for &w in &next[v] {
-            if before[w].is_none() && w != begin && held[w] >> c & 1 == 1 {
+            if before[w].is_none() && w != from && is_open(w) {
                 before[w] = Some(v);
                 pending.push_back(w);
             }
         }
     }
-    let mut path = vec![constructs[constructs[c].parent?].end, end];
-    let mut v = end;
-    while v != begin {
+    let mut path = vec![to];
+    let mut v = to;
+    while v != from {
         v = before[v]?;
         path.push(v);
     }

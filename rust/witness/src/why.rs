@@ -6,8 +6,9 @@ use crate::naming::Naming;
 use crate::plan::chosen;
 use crate::run::MOST_THREADS;
 use crate::table::table;
-use crate::words::{in_every_run, words};
-use crate::{Error, Witness, Witnesses};
+use crate::terms::Terms;
+use crate::words::{in_every_run, words, Pair};
+use crate::{threads, Error, Witness, Witnesses};
 use bohrali::{Answer, Size};
 
 /// Two nodes with their answer.
@@ -37,7 +38,8 @@ impl Why {
             Witness::Never(never) => (never, None, None),
         };
         let mut words = words(naming, size, answer, a, b);
-        words.extend(larger.map(|threads| not_shown(naming, threads, a, b)));
+        let terms = Terms::of(naming, a, b);
+        words.extend(larger.map(|threads| not_shown(naming, &terms, threads, a, b)));
         Ok(Why {
             a,
             b,
@@ -73,13 +75,40 @@ impl Why {
     }
 }
 
+/// What is said of many pairs: words with slots for their nodes, and the constructs that these are about.
+#[derive(Clone, Debug, Default, PartialEq, Eq, PartialOrd, Ord)]
+pub struct Pattern {
+    pub words: Vec<String>,
+    pub constructs: Vec<usize>,
+}
+
+impl Pattern {
+    /// Of two nodes with the answer that the library gives.
+    pub fn of(naming: &Naming, size: Option<Size>, answer: Answer, a: usize, b: usize) -> Pattern {
+        let terms = Terms::slots();
+        let pair = Pair::of(naming, &terms, a, b);
+        let mut words = pair.words(size, answer);
+        let threads = threads(naming.view, size, a, b);
+        if answer == Answer::Concurrent && threads > MOST_THREADS {
+            words.push(not_shown(naming, &terms, threads, a, b));
+        }
+        Pattern {
+            words,
+            constructs: pair.constructs(size, answer),
+        }
+    }
+}
+
 /// Why no run is shown: the size that is named, or a thread of too high a number.
-fn not_shown(naming: &Naming, threads: usize, a: usize, b: usize) -> String {
+fn not_shown(naming: &Naming, terms: &Terms, threads: usize, a: usize, b: usize) -> String {
     let least = chosen(naming.view, a, b).1;
     let is_high = |&v: &usize| naming.view.filter(v) >= Some(MOST_THREADS);
     let high = [a, b].into_iter().find(is_high);
     let more = match high.and_then(|v| Some((v, naming.view.master(v)?))) {
-        Some((v, c)) => format!("Node {v} is inside {}.", naming.framed(c)),
+        Some((v, c)) => {
+            let v = terms.node(v == a);
+            format!("Node {v} is inside {}.", naming.framed(c))
+        }
         None => format!("A team of {least} has one: ask without a size."),
     };
     format!("No run is shown: it would have {threads} threads, and up to {MOST_THREADS} can be replayed. {more}")

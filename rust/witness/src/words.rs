@@ -1,6 +1,7 @@
 //! An answer in words, with its evidence: starts and ends from Phases, constructs from their records.
 
 use crate::naming::Naming;
+use crate::terms::Terms;
 use bohrali::layout::ConstructKind;
 use bohrali::{Answer, Size};
 use region::word;
@@ -23,46 +24,122 @@ pub fn words(
     a: usize,
     b: usize,
 ) -> Vec<String> {
-    let pair = Pair { naming, a, b };
-    let mut words = match answer {
-        Answer::Concurrent => return pair.concurrent(),
-        Answer::NoCommonPhase => vec![pair.no_common_phase()],
-        Answer::Master => vec![pair.master()],
-        Answer::Single => pair.single(),
-        Answer::Ordered => pair.ordered(),
-        Answer::Section => pair.section(),
-        Answer::OneThread => vec!["Rule 6, one thread: the team has no other.".into()],
-        Answer::MissingThread => vec![pair.missing_thread(size.map_or(0, |x| x.0))],
-        other => vec![format!("Rule {}.", other as u8)],
-    };
-    words.push(match in_every_run(naming, answer, a, b) {
-        true => "This holds in every run, also in one that does not finish.".into(),
-        false => "This is about runs that finish: in one that does not, two threads may be there together.".into(),
-    });
-    words
+    let terms = Terms::of(naming, a, b);
+    Pair::of(naming, &terms, a, b).words(size, answer)
 }
 
 /// Two nodes, which may be one.
-struct Pair<'a> {
+pub(crate) struct Pair<'a> {
     naming: &'a Naming<'a>,
+    terms: &'a Terms,
     a: usize,
     b: usize,
 }
 
 impl Pair<'_> {
+    pub fn of<'a>(naming: &'a Naming<'a>, terms: &'a Terms, a: usize, b: usize) -> Pair<'a> {
+        Pair {
+            naming,
+            terms,
+            a,
+            b,
+        }
+    }
+
+    pub fn words(&self, size: Option<Size>, answer: Answer) -> Vec<String> {
+        let pair = self;
+        let mut words = match answer {
+            Answer::Concurrent => return pair.concurrent(),
+            Answer::NoCommonPhase => vec![pair.no_common_phase()],
+            Answer::Master => vec![pair.master()],
+            Answer::Single => pair.single(),
+            Answer::Ordered => pair.ordered(),
+            Answer::Section => pair.section(),
+            Answer::OneThread => vec!["Rule 6, one thread: the team has no other.".into()],
+            Answer::MissingThread => vec![pair.missing_thread(size.map_or(0, |x| x.0))],
+            other => vec![format!("Rule {}.", other as u8)],
+        };
+        words.push(match in_every_run(self.naming, answer, self.a, self.b) {
+        true => "This holds in every run, also in one that does not finish.".into(),
+        false => "This is about runs that finish: in one that does not, two threads may be there together.".into(),
+    });
+        words
+    }
+
+    /// The constructs that the words are about: those that keep two threads apart, or the one that would if it did
+    /// not return.
+    pub fn constructs(&self, size: Option<Size>, answer: Answer) -> Vec<usize> {
+        let view = self.naming.view;
+        let masters = || [self.a, self.b].into_iter().filter_map(|v| view.master(v));
+        let mut found: Vec<usize> = match answer {
+            Answer::Concurrent => self.returning().into_iter().collect(),
+            Answer::Master => masters().collect(),
+            Answer::Single => self.one_single().into_iter().collect(),
+            Answer::Ordered => {
+                let around = view.around[self.a] | view.around[self.b];
+                let ordered = view.of_kind(around, ConstructKind::Ordered);
+                self.one_do().into_iter().chain(ordered).collect()
+            }
+            Answer::Section => {
+                let section = self.one_section();
+                let sections = section.and_then(|x| view.constructs[x].parent);
+                section.into_iter().chain(sections).collect()
+            }
+            Answer::MissingThread => {
+                let lacks = |c: &usize| size.is_some_and(|x| view.constructs[*c].filter >= x.0);
+                masters().filter(lacks).collect()
+            }
+            _ => Vec::new(),
+        };
+        found.dedup();
+        found
+    }
+
+    fn one_single(&self) -> Option<usize> {
+        let view = self.naming.view;
+        let common = view.around[self.a] & view.around[self.b];
+        let single = view.of_kind(common, ConstructKind::Single).next();
+        single
+    }
+
+    /// The do of which both are inside ordereds.
+    fn one_do(&self) -> Option<usize> {
+        let view = self.naming.view;
+        let of_do = view.ordered_of(self.a);
+        of_do.filter(|_| view.ordered_of(self.b) == of_do)
+    }
+
+    fn one_section(&self) -> Option<usize> {
+        let view = self.naming.view;
+        let common = view.held[self.a] & view.held[self.b];
+        let section = view.of_kind(common, ConstructKind::Section).next();
+        section
+    }
+
+    /// Of nodes that may be met, the construct that lets in one thread in each instance, and returns.
+    fn returning(&self) -> Option<usize> {
+        let view = self.naming.view;
+        let of_section = || view.constructs[self.one_section()?].parent;
+        self.one_single()
+            .or_else(|| self.one_do())
+            .or_else(of_section)
+    }
+
     /// "node 3 is", or "nodes 3 and 4 are".
     fn are(&self) -> String {
         match self.a == self.b {
-            true => format!("node {} is", self.a),
-            false => format!("nodes {} and {} are", self.a, self.b),
+            true => format!("node {} is", self.terms.nodes[0]),
+            false => format!(
+                "nodes {} and {} are",
+                self.terms.nodes[0], self.terms.nodes[1]
+            ),
         }
     }
 
     fn concurrent(&self) -> Vec<String> {
-        let Pair { naming, a, b } = *self;
+        let Pair { naming, a, b, .. } = *self;
         let view = naming.view;
-        let starts = naming.barriers(view.starts[a] & view.starts[b]);
-        let ends = naming.barriers(view.ends[a] & view.ends[b]);
+        let [starts, ends] = &self.terms.common;
         let leads = if a == b { "leads" } else { "lead" };
         let mut words = vec![format!(
             "Common start and end: {} reached from {starts} and {leads} on to {ends}, past no other barrier; no rule keeps \
@@ -80,39 +157,53 @@ impl Pair<'_> {
                 self.are()
             ));
         }
+        words.extend(self.returning().and_then(|c| self.returns(c)));
         words
     }
 
+    /// Why a construct that lets in one thread in each instance does not keep two apart.
+    fn returns(&self, c: usize) -> Option<String> {
+        let view = self.naming.view;
+        let path: Vec<String> = view.way_back(c)?.iter().map(usize::to_string).collect();
+        Some(format!(
+            "{} inside {}, which returns: a path that passes no barrier leads from its end back to its begin ({}). While one \
+             thread is still inside, another may be let in for the next time.",
+            capital(&self.are()),
+            self.naming.framed(c),
+            path.join(", ")
+        ))
+    }
+
     fn no_common_phase(&self) -> String {
-        let Pair { naming, a, b } = *self;
-        let view = naming.view;
-        let common = view.starts[a] & view.starts[b];
-        let named = |masks: &[u64]| [a, b].map(|v| naming.barriers(masks[v]));
+        let view = self.naming.view;
+        let common = view.starts[self.a] & view.starts[self.b];
+        let [a, b] = &self.terms.nodes;
         if common == 0 {
-            let [of_a, of_b] = named(&view.starts);
+            let [of_a, of_b] = &self.terms.starts;
             return format!(
                 "Rule 1, no common start: a team leaves a barrier together. Node {a} is reached from {of_a} and node {b} \
                  from {of_b}, past no other barrier; none is common."
             );
         }
-        let [of_a, of_b] = named(&view.ends);
+        let [of_a, of_b] = &self.terms.ends;
         format!(
             "Rule 1, no common end: both are reached from {}, but node {a} leads on to {of_a} and node {b} to {of_b}, past \
              no other barrier; none is common. With threads at both, the team never comes to one barrier again.",
-            naming.barriers(common)
+            self.terms.common[0]
         )
     }
 
     fn master(&self) -> String {
-        let Pair { naming, a, b } = *self;
+        let naming = self.naming;
         let view = naming.view;
-        let (Some(c), Some(d)) = (view.master(a), view.master(b)) else {
+        let (Some(c), Some(d)) = (view.master(self.a), view.master(self.b)) else {
             return "Rule 2, one thread.".into();
         };
         let inside = match c == d {
             true => format!("{} inside {}", self.are(), naming.framed(c)),
             false => {
                 let [c, d] = [c, d].map(|c| naming.framed(c));
+                let [a, b] = &self.terms.nodes;
                 format!("node {a} is inside {c} and node {b} inside {d}")
             }
         };
@@ -121,24 +212,18 @@ impl Pair<'_> {
     }
 
     fn single(&self) -> Vec<String> {
-        let view = self.naming.view;
-        let common = view.around[self.a] & view.around[self.b];
-        let single = view.of_kind(common, ConstructKind::Single).next();
         let why = "each time round one thread goes in";
-        self.exclusive(single, "Rule 3, one single", why)
+        self.exclusive(self.one_single(), "Rule 3, one single", why)
     }
 
     fn ordered(&self) -> Vec<String> {
-        let of_do = self.naming.view.ordered_of(self.a);
         let why = "in one instance of the do one thread at a time is inside its ordereds";
-        self.exclusive(of_do, "Rule 4, ordereds of one do", why)
+        self.exclusive(self.one_do(), "Rule 4, ordereds of one do", why)
     }
 
     fn section(&self) -> Vec<String> {
-        let view = self.naming.view;
-        let common = view.held[self.a] & view.held[self.b];
-        let section = view.of_kind(common, ConstructKind::Section).next();
-        let sections = section.and_then(|x| view.constructs[x].parent);
+        let section = self.one_section();
+        let sections = section.and_then(|x| self.naming.view.constructs[x].parent);
         let which = section.map_or("section".into(), |x| self.naming.construct(x));
         let why = format!("in one instance of the sections one thread takes {which}");
         self.exclusive(sections, &format!("Rule 5, one section ({which})"), &why)
@@ -171,6 +256,7 @@ impl Pair<'_> {
         let Some((v, c)) = lacking.and_then(|v| Some((v, view.master(v)?))) else {
             return "Rule 7, a missing thread.".into();
         };
+        let v = self.terms.node(v == self.a);
         format!(
             "Rule 7, a missing thread: node {v} is inside {}, and thread {} alone goes in; a team of {threads} has none of \
              that number.",
@@ -178,4 +264,9 @@ impl Pair<'_> {
             view.constructs[c].filter,
         )
     }
+}
+
+fn capital(text: &str) -> String {
+    let (first, rest) = text.split_at(text.chars().next().map_or(0, char::len_utf8));
+    first.to_uppercase() + rest
 }

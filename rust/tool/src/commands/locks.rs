@@ -64,7 +64,7 @@ fn run(arguments: &Arguments, terminal: &Terminal) -> Result<Report, Failure> {
         subject.distances(team.region)?;
         locks.extend(critical::locks(subject, team)?);
     }
-    share(&mut locks, arguments.has(&ONE_TEAM));
+    critical::share(&mut locks, arguments.has(&ONE_TEAM));
     let runs: Result<Vec<_>, Failure> = match arguments.has(&WHY) {
         true => locks.iter().filter_map(|x| shown(x, team)).collect(),
         false => Ok(Vec::new()),
@@ -84,27 +84,6 @@ fn run(arguments: &Arguments, terminal: &Terminal) -> Result<Report, Failure> {
             false => GOOD,
         }),
     )
-}
-
-/// Criticals of one name in two files share their lock. Whether teams of two regions work at the same time,
-/// because one is reached from inside the other or several host threads come to them, no file says: the locks
-/// stay, unless it is said here that they do not.
-fn share(locks: &mut [(Critical, Lock)], one_team: bool) {
-    let other_file = |own: &Critical| {
-        let elsewhere =
-            |x: &&(Critical, Lock)| !std::ptr::eq(x.0.subject, own.subject) && x.0.may_share(own);
-        let other = locks.iter().find(elsewhere)?;
-        Some(other.0.subject.file.clone())
-    };
-    let files: Vec<Option<String>> = locks.iter().map(|x| other_file(&x.0)).collect();
-    for ((_, lock), file) in locks.iter_mut().zip(files) {
-        if let (Lock::CanGo { also_in, .. }, Some(file)) = (&mut *lock, file) {
-            match one_team {
-                true => *also_in = Some(file),
-                false => *lock = Lock::Needed(Reason::OtherFile(file)),
-            }
-        }
-    }
 }
 
 /// The pair that needs a lock, with what shows it.
@@ -170,36 +149,23 @@ fn text(
 /// A critical with its verdict, and on a second line why its lock is needed.
 fn verdict(critical: &Critical, lock: &Lock, terminal: &Terminal) -> String {
     let what = critical.words();
-    let reason = match lock {
-        Lock::CanGo {
-            in_every_run,
-            also_in,
-        } => {
+    match lock {
+        Lock::CanGo { also_in, .. } => {
             let word = terminal.paint(Colour::Good, "can go");
-            let runs = match in_every_run {
-                true => "in every run",
-                false => "in runs that finish",
-            };
+            let runs = critical.lock_words(lock);
             let also = also_in.as_ref().map_or(String::new(), |file| {
                 format!("{:12}where no team of {file} works at the same time\n", "")
             });
-            return format!("    {word}  {what}, {runs}\n{also}");
+            format!("    {word}  {what}, {runs}\n{also}")
         }
-        Lock::Needed(reason) => reason,
-    };
-    let why = match reason {
-        Reason::Pair(a, b, region) => {
-            let table = critical.subject.table();
-            let region = words::region(table, *region);
-            format!("{}, in {region}", words::together(table, *a, *b))
+        Lock::Needed(_) => {
+            let (word, why) = (
+                terminal.paint(Colour::Warm, "needed"),
+                critical.lock_words(lock),
+            );
+            format!("    {word}  {what}\n{:12}{why}\n", "")
         }
-        Reason::Around(other) => {
-            format!("construct {other}, a critical of the same name, is around it or inside it")
-        }
-        Reason::OtherFile(file) => format!("{file} has a critical that may be of the same name"),
-    };
-    let word = terminal.paint(Colour::Warm, "needed");
-    format!("    {word}  {what}\n{:12}{why}\n", "")
+    }
 }
 
 /// What a person is to know beside the verdicts.

@@ -7,6 +7,7 @@ mod diff;
 mod distances;
 mod judge;
 mod locks;
+mod page;
 mod pair;
 mod phases;
 mod program_locks;
@@ -36,7 +37,7 @@ pub struct Command {
 }
 
 /// All commands, in the order in which one needs them.
-pub const COMMANDS: [&Command; 15] = [
+pub const COMMANDS: [&Command; 16] = [
     &check::COMMAND,
     &sheet::COMMAND,
     &pair::COMMAND,
@@ -45,6 +46,7 @@ pub const COMMANDS: [&Command; 15] = [
     &locks::COMMAND,
     &races::COMMAND,
     &diff::COMMAND,
+    &page::COMMAND,
     &phases::COMMAND,
     &distances::COMMAND,
     &replay::COMMAND,

@@ -1,0 +1,107 @@
+/* Certified runs: found for a pair, and stepped. */
+
+/* The moments of a run: where each thread stands, and how it came to be. */
+function decode(k) {
+  if (G.decoded[k]) return G.decoded[k];
+  const [team, trace] = G.runs[k], entries = [];
+  for (let i = 0; i < trace.length; i += 3) entries.push([+trace[i], parseInt(trace.substr(i + 1, 2), 36)]);
+  let at = Array(team).fill(G.start);
+  const moments = [{ at, what: "start" }];
+  for (let i = 0; i < entries.length;) {
+    const from = at[0];
+    if (isBarrier(from) && at.every(x => x === from)) {
+      at = entries.slice(i, i + team).map(x => x[1]);
+      moments.push({ at, what: "open", from });
+      i += team;
+    } else {
+      const [thread, to] = entries[i++], left = at[thread];
+      at = at.slice();
+      at[thread] = to;
+      moments.push({ at, what: "step", thread, from: left });
+    }
+  }
+  return G.decoded[k] = { team, moments };
+}
+function together(at, a, b) {
+  const first = at.indexOf(a);
+  return first >= 0 && (a === b ? at.indexOf(a, first + 1) >= 0 : at.includes(b));
+}
+/* The run that comes soonest to two nodes, of a team of the size that is shown. */
+function findRun(a, b) {
+  let best = null;
+  for (let k = 0; k < G.runs.length; k++) {
+    if (S.size !== null && G.runs[k][0] !== S.size) continue;
+    const { team, moments } = decode(k), meet = moments.findIndex(x => together(x.at, a, b));
+    if (meet >= 0 && (!best || meet * team < best.meet * best.team)) best = { team, moments, meet, at: meet };
+  }
+  return best;
+}
+function describe(i) {
+  const now = run.moments[i];
+  let text;
+  if (now.what === "start") text = `All ${run.team} threads stand at node ${chip(now.at[0])}, where the region starts.`;
+  else if (now.what === "open") text = `All threads are at barrier ${chip(now.from)}: it opens, and each goes on.`;
+  else {
+    const to = now.at[now.thread];
+    text = `Thread ${now.thread} goes from ${chip(now.from)} to ${chip(to)}${to === G.finish ? ", and has finished" : isBarrier(to) ? ", and waits" : ""}.`;
+  }
+  if (i === run.meet) text += ` <b>★ Now two threads are at ${st.a} and ${st.b} together.</b>`;
+  return i === run.moments.length - 1 ? text + " The run is finished." : text;
+}
+function runHtml(a, b) {
+  const heads = Array.from({ length: run.team }, (_, t) => `<th>thread ${t}</th>`).join("");
+  const cell = (now, i, t) => {
+    const x = now.at[t], moved = i === 0 || now.what === "open" || now.thread === t;
+    const look = x === a && x === b ? "pab" : x === a ? "pa" : x === b ? "pb" : "";
+    const text = look ? `<span class="${look}">${x}</span>` : !moved ? "·" : isBarrier(x) ? "▬ " + x : x;
+    return `<td class="${moved ? "mv" : "same"}">${text}</td>`;
+  };
+  const rows = run.moments.map((now, i) => `<tr class="${now.what === "open" ? "open" : ""}" data-step="${i}"><td class="i">${i}</td>` +
+    now.at.map((_, t) => cell(now, i, t)).join("") + `<td class="star">${i === run.meet ? "★" : ""}</td></tr>`).join("");
+  const button = (data, label, text) => `<button ${data} aria-label="${label}">${text}</button>`;
+  return `<h3>A run that shows it</h3><p class="hint">${run.team} threads, ${run.moments.length - 1} steps, certified by a proved call. <kbd>←</kbd> <kbd>→</kbd> step, <kbd>Home</kbd> starts again, <kbd>m</kbd> goes to the meeting.</p>` +
+    `<div class="ctl">${button('data-step="0"', "to the start", "|◀")}${button('data-by="-1"', "one step back", "◀")}${button('data-by="1"', "one step on", "▶")}` +
+    `${button("data-meet", "to the meeting", "★")}${button("data-play", "play", "play")}<span class="at"></span></div><div class="say" aria-live="polite"></div>` +
+    `<div class="runbox"><table class="run"><thead><tr><th></th>${heads}<th></th></tr></thead><tbody>${rows}</tbody></table></div>`;
+}
+function setStep(i, still) {
+  if (!run) return;
+  run.at = st.t = Math.max(0, Math.min(run.moments.length - 1, i));
+  const panel = $("panel"), rows = panel.querySelectorAll(".run tbody tr"), box = panel.querySelector(".runbox"), row = rows[run.at];
+  rows.forEach((x, k) => x.classList.toggle("now", k === run.at));
+  if (row.offsetTop < box.scrollTop + 30 || row.offsetTop > box.scrollTop + box.clientHeight - 30) box.scrollTop = row.offsetTop - box.clientHeight / 2;
+  panel.querySelector(".say").innerHTML = describe(run.at);
+  panel.querySelector(".at").textContent = `step ${run.at} of ${run.moments.length - 1}`;
+  drawTokens();
+  if (!still) follow();
+  save();
+}
+function drawTokens() {
+  const seen = {}, at = run ? run.moments[run.at].at : [];
+  while ($("toks").children.length > at.length) $("toks").lastChild.remove();
+  at.forEach((node, t) => {
+    const token = $("toks").children[t] || $("toks").appendChild(document.createElement("div"));
+    const place = seen[node] = (seen[node] || 0) + 1;
+    token.className = "tok";
+    token.textContent = "T" + t;
+    token.style.background = TOKENS[t];
+    token.style.top = node * L.rh + L.rh / 2 - 9 + "px";
+    token.style.left = L.spine - 11 + (place - 1) * 20 + "px";
+  });
+}
+function follow() {
+  const now = run.moments[run.at], board = $("board"), y = now.at[now.thread || 0] * L.rh;
+  if (y < board.scrollTop + 20 || y > board.scrollTop + board.clientHeight - L.head - 60) board.scrollTop = y - board.clientHeight / 2 + L.head;
+}
+function stop() {
+  clearInterval(timer);
+  timer = null;
+  const button = $("panel").querySelector("[data-play]");
+  if (button) button.textContent = "play";
+}
+function play() {
+  if (timer) return stop();
+  if (run.at >= run.moments.length - 1) setStep(0);
+  $("panel").querySelector("[data-play]").textContent = "pause";
+  timer = setInterval(() => run && run.at < run.moments.length - 1 ? setStep(run.at + 1) : stop(), 420);
+}

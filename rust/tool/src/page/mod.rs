@@ -1,0 +1,40 @@
+//! The page: the files of the folder page/ with the regions as data in them.
+
+mod data;
+mod reading;
+mod sizes;
+mod source;
+
+use crate::report::Failure;
+use crate::subject::Subject;
+use source::Source;
+use std::path::Path;
+
+const FRAME: &str = include_str!("../../../../page/page.html");
+const STYLE: &str = include_str!("../../../../page/page.css");
+/// The parts of the one script, in their order.
+const SCRIPT: [&str; 7] = [
+    include_str!("../../../../page/chart.js"),
+    include_str!("../../../../page/rows.js"),
+    include_str!("../../../../page/sheet.js"),
+    include_str!("../../../../page/runs.js"),
+    include_str!("../../../../page/panel.js"),
+    include_str!("../../../../page/state.js"),
+    include_str!("../../../../page/page.js"),
+];
+
+/// The page of regions, with the source lines of files below a folder.
+pub fn made(subjects: &[Subject], folder: Option<&Path>) -> Result<String, Failure> {
+    let data = data::document(subjects, &mut Source::below(folder))?.document();
+    // A script element ends at the first '</script', also inside of a text.
+    let data = data.trim_end().replace('<', "\\u003c");
+    let script = SCRIPT.concat();
+    let parts = [("@STYLE@", STYLE), ("@DATA@", &data), ("@SCRIPT@", &script)];
+    let (mut page, mut rest) = (String::new(), FRAME);
+    for (slot, part) in parts {
+        let (before, behind) = rest.split_once(slot).unwrap_or((rest, ""));
+        page.extend([before, part]);
+        rest = behind;
+    }
+    Ok(page + rest)
+}
