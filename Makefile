@@ -52,6 +52,8 @@ demo: all target/judge
 	target/judge charts/figure-2b.chart 4 5 7 8 4 8 || test $$? -eq 1
 	@echo "A small simulator, built without the locks that can go:"
 	$(MAKE) --no-print-directory -C examples/playtest BOHRALI=$(abspath $(COMMAND)) demo
+	@echo "The same as a page; open it in a browser:"
+	$(COMMAND) page examples/playtest/playtest.csv --source examples/playtest -o target/playtest.html
 
 test:
 	.ci/run
