@@ -2,6 +2,7 @@
 
 #![allow(dead_code)] // each test file uses some of it
 
+pub mod browser;
 pub mod json;
 
 use std::ffi::OsStr;
