@@ -43,7 +43,7 @@ function onMouse() {
   rows.addEventListener("mouseleave", () => hover(null));
   rows.addEventListener("click", e => rowOf(e) && pickNode(+rowOf(e).dataset.i));
   $("panel").addEventListener("click", e => {
-    const found = e.target.closest("[data-go],[data-home],[data-step],[data-by],[data-meet],[data-play],[data-pair],[data-csv]");
+    const found = e.target.closest("[data-go],[data-home],[data-step],[data-by],[data-meet],[data-play],[data-pair],[data-csv],[data-recorded]");
     if (found) onPanel(found.dataset);
   });
   $("panel").addEventListener("mouseover", e => {
@@ -56,6 +56,7 @@ function onMouse() {
 function onPanel(data) {
   if ("home" in data) return showHome();
   if ("csv" in data) return download();
+  if ("recorded" in data) return showRecorded();
   if ("play" in data) return play();
   if ("pair" in data) return pickIn(...data.pair.split(",").map(Number));
   if ("go" in data) {
@@ -110,7 +111,7 @@ function onBoardKey(e) {
 }
 function onRunKey(e) {
   const to = { ArrowRight: run.at + 1, ArrowLeft: run.at - 1, Home: 0, End: run.moments.length - 1, m: run.meet }[e.key];
-  if (to === undefined) return false;
+  if (to === undefined || to === null) return false;
   stop();
   setStep(to);
   return true;

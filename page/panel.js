@@ -41,7 +41,7 @@ function showPair(step) {
   let html = BACK;
   if (v === NONE) html += verdict("background:var(--hatchbg)", "", isBarrier(a) || isBarrier(b) ? "A barrier" : "Outside this region", "the sheet has no answer here") + `<div class="who">${nodes}</div>`;
   else html += verdict(`background:var(--c${v});color:var(--c${v === 1 ? "1d" : v + "t"})`, `<span class="big">${v}</span>`, v === 0 ? which : "Never together", `${v ? SHORT[v] + ", " : ""}${sizeWords()}`) +
-    `<div class="who">${nodes}</div><h3>Why</h3>` + kind.words.map(x => `<p>${filled(x, a, b)}</p>`).join("") + phasesHtml(a, b) + (run ? runHtml(a, b) : "");
+    `<div class="who">${nodes}</div>${layersOf(a, b)}<h3>Why</h3>` + kind.words.map(x => `<p>${filled(x, a, b)}</p>`).join("") + phasesHtml(a, b) + (run ? runHtml(a, b) : "");
   $("panel").innerHTML = html;
   $("panel").scrollTop = 0;
   markPair(a, b, kind);
@@ -135,7 +135,7 @@ function showHome() {
   const none = `<tr><td><div class="sw" style="background:repeating-linear-gradient(135deg,var(--hatch) 0 1px,var(--hatchbg) 1px 5px)"></div></td><td><span class="hint">a barrier, or outside the region</span></td><td></td></tr>`;
   $("panel").innerHTML = `<h2 title="${esc(R.file)}">${esc(title(R))}, ${regionName(G.region)}</h2><p>${number(count[0])} of ${number(all)} pairs of nodes may meet in ${sizeWords()}; for all others no run that finishes has two threads there together.</p>` +
     `<div class="stack" aria-hidden="true">${count.map((x, v) => x ? `<div style="flex:${x};background:var(--c${v})"></div>` : "").join("")}</div>` +
-    `<table class="legend">${legend.join("")}${none}</table><p><button class="chip" data-csv>sheet as CSV</button></p><h3>Criticals</h3>${locksHtml()}` +
+    `<table class="legend">${legend.join("")}${none}</table><p><button class="chip" data-csv>sheet as CSV</button></p>${layersHtml()}<h3>Criticals</h3>${locksHtml()}` +
     `<h3>How to read it</h3><p class="hint">The rows are tab one. <b>Between</b> is the barriers a node starts from and ends at. A bar has the colour of the never that its construct gives. The sheet is tab eleven. Click a <b>cell</b> for its reason, a <b>row</b> for its node. Arrow keys move over the sheet, <kbd>Enter</kbd> explains, <kbd>n</kbd> shows the node, <kbd>/</kbd> searches, <kbd>Esc</kbd> comes back here.</p>` +
     `<footer>Answers, starts, ends and distances are the proved library's; each run was certified by a proved call. Words say what Phases and the construct records say; they are tested. This page decides nothing.</footer>`;
   $("panel").scrollTop = 0;

@@ -1,15 +1,18 @@
 /* Certified runs: found for a pair, and stepped. */
 
-/* The moments of a run: where each thread stands, and how it came to be. */
 function decode(k) {
-  if (G.decoded[k]) return G.decoded[k];
-  const [team, trace] = G.runs[k], entries = [];
+  return G.decoded[k] = G.decoded[k] || decoded(G.runs[k]);
+}
+/* The moments of a run: where each thread stands, and how it came to be. */
+function decoded([team, trace]) {
+  const entries = [];
   for (let i = 0; i < trace.length; i += 3) entries.push([+trace[i], parseInt(trace.substr(i + 1, 2), 36)]);
   let at = Array(team).fill(G.start);
   const moments = [{ at, what: "start" }];
   for (let i = 0; i < entries.length;) {
     const from = at[0];
     if (isBarrier(from) && at.every(x => x === from)) {
+      if (i + team > entries.length) break;   // a barrier that had not opened for all
       at = entries.slice(i, i + team).map(x => x[1]);
       moments.push({ at, what: "open", from });
       i += team;
@@ -20,7 +23,7 @@ function decode(k) {
       moments.push({ at, what: "step", thread, from: left });
     }
   }
-  return G.decoded[k] = { team, moments };
+  return { team, moments };
 }
 function together(at, a, b) {
   const first = at.indexOf(a);
@@ -46,9 +49,12 @@ function describe(i) {
     text = `Thread ${now.thread} goes from ${chip(now.from)} to ${chip(to)}${to === G.finish ? ", and has finished" : isBarrier(to) ? ", and waits" : ""}.`;
   }
   if (i === run.meet) text += ` <b>★ Now two threads are at ${st.a} and ${st.b} together.</b>`;
-  return i === run.moments.length - 1 ? text + " The run is finished." : text;
+  return now.at.every(x => x === G.finish) ? text + " The run is finished." : text;
 }
 function runHtml(a, b) {
+  return `<h3>A run that shows it</h3><p class="hint">${run.team} threads, ${run.moments.length - 1} steps, certified by a proved call. <kbd>←</kbd> <kbd>→</kbd> step, <kbd>Home</kbd> starts again, <kbd>m</kbd> goes to the meeting.</p>` + stepsHtml(a, b);
+}
+function stepsHtml(a, b) {
   const heads = Array.from({ length: run.team }, (_, t) => `<th>thread ${t}</th>`).join("");
   const cell = (now, i, t) => {
     const x = now.at[t], moved = i === 0 || now.what === "open" || now.thread === t;
@@ -59,9 +65,8 @@ function runHtml(a, b) {
   const rows = run.moments.map((now, i) => `<tr class="${now.what === "open" ? "open" : ""}" data-step="${i}"><td class="i">${i}</td>` +
     now.at.map((_, t) => cell(now, i, t)).join("") + `<td class="star">${i === run.meet ? "★" : ""}</td></tr>`).join("");
   const button = (data, label, text) => `<button ${data} aria-label="${label}">${text}</button>`;
-  return `<h3>A run that shows it</h3><p class="hint">${run.team} threads, ${run.moments.length - 1} steps, certified by a proved call. <kbd>←</kbd> <kbd>→</kbd> step, <kbd>Home</kbd> starts again, <kbd>m</kbd> goes to the meeting.</p>` +
-    `<div class="ctl">${button('data-step="0"', "to the start", "|◀")}${button('data-by="-1"', "one step back", "◀")}${button('data-by="1"', "one step on", "▶")}` +
-    `${button("data-meet", "to the meeting", "★")}${button("data-play", "play", "play")}<span class="at"></span></div><div class="say" aria-live="polite"></div>` +
+  return `<div class="ctl">${button('data-step="0"', "to the start", "|◀")}${button('data-by="-1"', "one step back", "◀")}${button('data-by="1"', "one step on", "▶")}` +
+    `${run.meet === null ? "" : button("data-meet", "to the meeting", "★")}${button("data-play", "play", "play")}<span class="at"></span></div><div class="say" aria-live="polite"></div>` +
     `<div class="runbox"><table class="run"><thead><tr><th></th>${heads}<th></th></tr></thead><tbody>${rows}</tbody></table></div>`;
 }
 function setStep(i, still) {

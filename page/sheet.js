@@ -63,6 +63,7 @@ function drawSheet() {
   }
   g.globalAlpha = 1;
   drawNoAnswers(g);
+  drawLayers(g);
   drawHead();
 }
 /* Rows and columns that have no answers: hatched for barriers, blank outside the region. */

@@ -2,6 +2,7 @@
 //! shows the library's bytes and decides nothing.
 
 mod arguments;
+mod changes;
 mod commands;
 mod critical;
 mod evidence;

@@ -153,6 +153,14 @@ impl Terminal {
         }
     }
 
+    /// No colour at all.
+    pub fn plain() -> Terminal {
+        Terminal {
+            out: false,
+            err: false,
+        }
+    }
+
     /// A text for standard output.
     pub fn paint(&self, colour: Colour, text: &str) -> String {
         painted(self.out, colour, text)

@@ -3,7 +3,8 @@
 mod common;
 
 use common::browser::Browser;
-use common::{chart, file, folder, good};
+use common::{chart, example, file, folder, good, told};
+use std::fs;
 use std::io::Write;
 use std::path::{Path, PathBuf};
 
@@ -39,6 +40,7 @@ fn a_person_uses_the_page() {
     pairs_and_runs(&mut browser, &page);
     choices(&mut browser, &page);
     keys_alone(&mut browser, &page);
+    layers(&mut browser, &folder);
     hostile(&mut browser, &folder);
     assert_eq!(browser.console, [""; 0], "the console is empty");
 }
@@ -106,6 +108,39 @@ fn keys_alone(browser: &mut Browser, page: &Path) {
     says(browser, "#panel", "node 1, plain");
     browser.key("/");
     assert_eq!(browser.script("document.activeElement.id"), "find");
+}
+
+/// Nevers that were lost, and a recorded run.
+fn layers(browser: &mut Browser, folder: &Path) {
+    let old = fs::read_to_string(example().join("playtest.csv")).expect("the table");
+    let new = old
+        .replace("playtest.c:73 implied by single", "playtest.c:73")
+        .replace("10,barrier", "10,plain");
+    let new = file(folder, "new.csv", new);
+    let trace = file(folder, "run.trace", "0 1\n1 1\n0 2\n");
+    let page = folder.join("layers.html");
+    let out = page.to_str().expect("text");
+    let words = [
+        "page",
+        "playtest.csv",
+        &new,
+        "--compare",
+        "--trace",
+        &trace,
+        "-o",
+        out,
+    ];
+    assert_eq!(told(&words).0, 0);
+    browser.open(&page, "");
+    says(browser, "#panel", "nevers lost: 81");
+    browser.click("[data-pair]");
+    says(browser, "#panel", "a never was lost: before it was 1");
+    browser.key("Escape");
+    browser.click("[data-recorded]");
+    browser.key("ArrowRight");
+    says(browser, ".at", "step 1 of 2");
+    browser.cell(1, 2);
+    says(browser, "#panel", "the recorded run met this pair");
 }
 
 /// Texts that try to be code are shown, in every panel.

@@ -4,7 +4,7 @@ mod common;
 
 use bohrali::{Answer, Region, Size};
 use common::json::Value;
-use common::{chart, example, file, folder, good, refused};
+use common::{chart, example, file, folder, good, refused, told};
 use region::load;
 use std::fs;
 use std::path::Path;
@@ -13,20 +13,26 @@ use std::path::Path;
 fn page(test: &str, files: &[&str]) -> String {
     let out = folder(test).join("page.html");
     let out = out.to_str().expect("a path that is text");
-    let told = good(&[&["page"], files, &["-o", out, "--source", "."]].concat());
+    let printed = good(&[&["page"], files, &["-o", out, "--source", "."]].concat());
     let page = fs::read_to_string(out).expect("the page");
-    assert!(told.ends_with(&format!("{} bytes\n", page.len())), "{told}");
+    assert!(
+        printed.ends_with(&format!("{} bytes\n", page.len())),
+        "{printed}"
+    );
     page
 }
 
-/// The regions of its one data block.
 fn regions(page: &str) -> Vec<Value> {
+    data(page).get("regions").items().to_vec()
+}
+
+/// Its one data block.
+fn data(page: &str) -> Value {
     const OPEN: &str = r#"<script type="application/json" id="data">"#;
     let blocks: Vec<&str> = page.split(OPEN).collect();
     assert_eq!(blocks.len(), 2, "one data block");
     let block = blocks[1].split("</script>").next().expect("a block");
-    let data = Value::read(&format!("{block}\n"));
-    data.get("regions").items().to_vec()
+    Value::read(&format!("{block}\n"))
 }
 
 fn numbers(value: &Value) -> Vec<usize> {
@@ -202,6 +208,52 @@ fn same_bytes_and_nothing_from_elsewhere() {
 }
 
 #[test]
+fn layers_are_what_diff_and_replay_tell() {
+    let folder = folder("page-layers");
+    let old = fs::read_to_string(example().join("playtest.csv")).expect("the table");
+    let without = old.replace(
+        "10,barrier,,,11,playtest.c:73 implied by single",
+        "10,plain,,,11,",
+    );
+    assert_ne!(old, without);
+    let new = file(&folder, "new.csv", without);
+    let out = folder.join("page.html");
+    let out = out.to_str().expect("text");
+    let (status, _, notes) = told(&["page", "playtest.csv", &new, "--compare", "-o", out]);
+    assert_eq!(
+        (status, notes.contains("of another kind")),
+        (0, true),
+        "{notes}"
+    );
+    let compared = data(&fs::read_to_string(out).expect("the page"));
+    assert_eq!(compared.get("regions").items()[0].get("file").text(), new);
+    let diff = told(&["diff", "playtest.csv", &new, "--json"]).1;
+    let diff = Value::read(&diff);
+    let changes = compared.get("changes").items();
+    let is_lost = |x: &&Value| x.get("after").number() == 0;
+    let lost: Vec<Value> = changes.iter().filter(is_lost).cloned().collect();
+    assert!(!lost.is_empty());
+    assert_eq!(lost, diff.get("lost").items());
+    assert_eq!(changes.len() - lost.len(), diff.get("gained").items().len());
+    let trace = file(&folder, "part.trace", "0 1\n1 1\n0 2\n1 9\n");
+    good(&["page", "playtest.csv", "--trace", &trace, "-o", out]);
+    let recorded = data(&fs::read_to_string(out).expect("the page"));
+    let recorded = recorded.get("recorded");
+    let replayed = Value::read(&good(&["replay", "playtest.csv", &trace, "--json"]));
+    assert_eq!(replayed.get("verdict").text(), "forbidden");
+    assert_eq!(recorded.get("met"), replayed.get("met"));
+    assert!(recorded
+        .get("words")
+        .text()
+        .starts_with("forbidden: 4 entries"));
+    assert_eq!(recorded.get("run").items()[1].text(), "001101002");
+    assert_eq!(
+        refused(&["page", "playtest.csv", "--compare", "-o", out]),
+        "bohrali: page: --compare wants two files, OLD and NEW\n"
+    );
+}
+
+#[test]
 fn hostile_text_is_text() {
     let folder = folder("page-hostile");
     let long = "x".repeat(7_000);
@@ -263,7 +315,7 @@ fn largest_regions_are_small_pages() {
 }
 
 /// Text and what it stands on, by the names of their colours.
-const TEXTS: [(&str, &str); 25] = [
+const TEXTS: [(&str, &str); 26] = [
     ("ink", "bg"),
     ("ink", "panel"),
     ("dim", "bg"),
@@ -273,6 +325,7 @@ const TEXTS: [(&str, &str); 25] = [
     ("code", "bg"),
     ("code", "panel"),
     ("good", "panel"),
+    ("lost", "panel"),
     ("warn", "panel"),
     ("warn", "bg"),
     ("A", "panel"),

@@ -14,7 +14,7 @@ mod program_locks;
 mod program_why;
 mod races;
 mod regions;
-mod replay;
+pub mod replay;
 mod sheet;
 mod tidy;
 mod why;

@@ -1,10 +1,12 @@
 //! `bohrali page`: regions as one page for a browser.
 
+use super::replay::Told;
 use super::{convert, Command};
-use crate::arguments::{Arguments, Opt, OUTPUT};
-use crate::page;
+use crate::arguments::{Arguments, Opt, OUTPUT, REGION, SIZE};
+use crate::changes::{self, BY};
+use crate::page::{self, Layers};
 use crate::report::{Failure, Report, Terminal};
-use crate::subject::Subject;
+use crate::subject::{Subject, Team};
 use crate::words::count;
 use std::path::Path;
 
@@ -12,6 +14,18 @@ const SOURCE: Opt = Opt {
     name: "--source",
     value: Some("DIR"),
     help: "show the source lines that the column 'where' names, of files below DIR",
+};
+
+const COMPARE: Opt = Opt {
+    name: "--compare",
+    value: None,
+    help: "the two files are OLD and NEW: NEW, with the nevers that were lost or gained",
+};
+
+const TRACE: Opt = Opt {
+    name: "--trace",
+    value: Some("TRACE"),
+    help: "a recorded run of the first file's region, laid over its sheet and to be stepped",
 };
 
 pub const COMMAND: Command = Command {
@@ -25,8 +39,12 @@ every cell the answer in words with its evidence; behind a 0 also a run that sho
 keys. The same files give the same bytes.",
         "No answer is made in the page: it shows what the library answers, and each run in it was certified by a
 proved call. Criticals of one name in several files share their lock, as for 'locks'.",
+        "With --compare there are two files, and cells of the second whose never was lost or gained since the first
+are marked and listed, as 'diff' tells them. Locks are then told of each file by itself.",
+        "TRACE is what 'replay' takes, and --region and --size are those of its team; the first file is the one that
+the page opens with, with --compare NEW.",
     ],
-    options: &[OUTPUT, SOURCE],
+    options: &[OUTPUT, SOURCE, COMPARE, BY, TRACE, REGION, SIZE],
     run,
 };
 
@@ -35,12 +53,30 @@ fn run(arguments: &Arguments, _: &Terminal) -> Result<Report, Failure> {
         let message = "page: -o OUT.html is missing, the file that the page goes to";
         return Err(Failure::words(message));
     };
-    let subjects = Subject::read_all(&arguments.operands)?;
-    let page = page::made(&subjects, arguments.value(&SOURCE).map(Path::new))?;
+    let mut subjects = Subject::read_all(&arguments.operands)?;
+    let (changes, notes) = match (arguments.has(&COMPARE), &mut subjects[..]) {
+        (false, _) => (None, Vec::new()),
+        (true, [old, new]) => {
+            let matching = changes::matching(arguments, old, new)?;
+            let notes = matching.notes(old, new);
+            let changes = changes::all(old, new, &matching, None)?;
+            // the new one is what the page opens with
+            std::mem::swap(old, new);
+            (Some(changes), notes)
+        }
+        (true, _) => {
+            let message = "page: --compare wants two files, OLD and NEW";
+            return Err(Failure::words(message));
+        }
+    };
+    let recorded = match arguments.value(&TRACE) {
+        Some(trace) => Some(Told::of(&subjects[0], Team::named(arguments)?, trace)?),
+        None => None,
+    };
+    let folder = arguments.value(&SOURCE).map(Path::new);
+    let page = page::made(&subjects, folder, Layers { changes, recorded })?;
     convert::written(out, page.as_bytes())?;
     let (name, files) = (out.to_string_lossy(), count(subjects.len(), "file"));
-    Ok(Report::of(format!(
-        "{name}: {files}, {} bytes\n",
-        page.len()
-    )))
+    let told = format!("{name}: {files}, {} bytes\n", page.len());
+    Ok(Report::of(told).with_notes(notes))
 }

@@ -8,7 +8,8 @@ use crate::report::{Colour, Failure, Report, Terminal, FOUND, GOOD};
 use crate::subject::{self, Subject, Team};
 use crate::trace::Trace;
 use crate::words::{self, count};
-use bohrali::Size;
+use bohrali::{Region, Size};
+use std::ffi::OsStr;
 
 const STRICT: Opt = Opt {
     name: "--strict",
@@ -37,7 +38,7 @@ beside this command, in ../libexec/bohrali from there, and where it was built.",
 };
 
 /// A trace with what the program says of it.
-struct Told<'a> {
+pub struct Told<'a> {
     subject: &'a Subject,
     team: Team,
     trace: Trace,
@@ -47,24 +48,11 @@ struct Told<'a> {
 fn run(arguments: &Arguments, terminal: &Terminal) -> Result<Report, Failure> {
     let team = Team::named(arguments)?;
     let subject = Subject::read(&arguments.operands[0])?;
-    // An error of the region is the library's to tell.
-    subject.distances(team.region)?;
-    let file = arguments.operands[1].to_string_lossy();
-    let bytes = subject::bytes(&arguments.operands[1], Trace::MOST_FILE)?;
-    let trace = Trace::read(&file, &bytes)?;
-    let size = team.size.unwrap_or(Size(trace.threads()));
-    let told = Told {
-        replayed: program::replay(&subject, team.region, size.0, &trace)?,
-        subject: &subject,
-        team: Team {
-            size: Some(size),
-            ..team
-        },
-        trace,
-    };
+    let file = &arguments.operands[1];
+    let told = Told::of(&subject, team, file)?;
     let text = match arguments.has(&JSON) {
         true => told.document(),
-        false => told.text(&file, terminal),
+        false => told.text(&file.to_string_lossy(), terminal),
     };
     let is_finished = told.replayed.verdict == Verdict::Finished;
     Ok(
@@ -76,7 +64,46 @@ fn run(arguments: &Arguments, terminal: &Terminal) -> Result<Report, Failure> {
 }
 
 impl Told<'_> {
+    /// What is told of the trace in a file. Without a size the team has as many threads as the trace.
+    pub fn of<'a>(subject: &'a Subject, team: Team, file: &OsStr) -> Result<Told<'a>, Failure> {
+        // An error of the region is the library's to tell.
+        subject.distances(team.region)?;
+        let bytes = subject::bytes(file, Trace::MOST_FILE)?;
+        let trace = Trace::read(&file.to_string_lossy(), &bytes)?;
+        let size = team.size.unwrap_or(Size(trace.threads()));
+        let team = Team {
+            size: Some(size),
+            ..team
+        };
+        Ok(Told {
+            replayed: program::replay(subject, team.region, size.0, &trace)?,
+            subject,
+            team,
+            trace,
+        })
+    }
+
     fn text(&self, file: &str, terminal: &Terminal) -> String {
+        self.verdict(file, terminal) + &self.met()
+    }
+
+    /// The entries that the rules allow, thread and node.
+    pub fn legal(&self) -> impl Iterator<Item = (u8, u8)> + '_ {
+        let legal = match self.replayed.verdict {
+            Verdict::Forbidden(index) => index,
+            _ => self.trace.entries(),
+        };
+        (0..legal).filter_map(|x| self.trace.entry(x))
+    }
+
+    /// Its region, the threads of its team, and the pairs that it met.
+    pub fn shown(&self) -> (Region, usize, &[(u8, u8)]) {
+        let threads = self.team.size.map_or(0, |x| x.0);
+        (self.team.region, threads, &self.replayed.met)
+    }
+
+    /// What becomes of the run, and where.
+    pub fn verdict(&self, file: &str, terminal: &Terminal) -> String {
         let table = self.subject.table();
         let entries = count(self.trace.entries(), "entry");
         let (word, colour) = match self.replayed.verdict {
@@ -97,7 +124,7 @@ impl Told<'_> {
                 text += &format!("thread {thread} is at {}\n", words::node(table, node));
             }
         }
-        text + &self.met()
+        text
     }
 
     /// Entry, thread, and nodes of the step that is not allowed.

@@ -2,28 +2,64 @@
 
 use super::reading;
 use super::source::Source;
+use super::Layers;
+use crate::changes::Change;
+use crate::commands::replay::Told;
 use crate::critical::{self, Critical, Lock, Reason};
 use crate::json::Json;
-use crate::report::Failure;
+use crate::report::{Failure, Terminal};
 use crate::subject::{Subject, Team};
 use crate::words;
 use bohrali::Answer;
 use region::{construct_text, word, NodeKind};
 
 /// The document of all files.
-pub fn document<'a>(subjects: &'a [Subject], source: &mut Source) -> Result<Json<'a>, Failure> {
+pub fn document<'a>(
+    subjects: &'a [Subject],
+    source: &mut Source,
+    layers: Layers,
+) -> Result<Json<'a>, Failure> {
     let mut locks = Vec::new();
     for subject in subjects {
         locks.extend(critical::locks(subject, Team::default())?);
     }
-    critical::share(&mut locks, false);
+    // an old and a new file are no two parts of one program
+    if layers.changes.is_none() {
+        critical::share(&mut locks, false);
+    }
     let regions: Result<Vec<Json>, Failure> =
         subjects.iter().map(|x| region(x, &locks, source)).collect();
+    let recorded = layers.recorded.as_ref();
     let answers = Answer::ALL.iter().map(|&x| words::answer(x as u8));
     Ok(Json::Object(vec![
         ("answers", Json::list(answers, Json::text)),
+        (
+            "changes",
+            Json::option(layers.changes, |x| Json::list(&x, Change::document)),
+        ),
+        ("recorded", Json::option(recorded, run)),
         ("regions", Json::List(regions?)),
     ]))
+}
+
+/// A recorded run: what the proved program says of it, and the entries that it allows.
+fn run<'a>(told: &Told) -> Json<'a> {
+    let verdict = told.verdict("", &Terminal::plain());
+    let verdict = verdict.trim_start_matches(": ").trim_end().to_string();
+    let (region, size, met) = told.shown();
+    let pair = |x: &(u8, u8)| Json::list([x.0, x.1], Json::number);
+    Json::Object(vec![
+        ("region", Json::Number(region.number())),
+        ("words", Json::text(verdict)),
+        ("met", Json::list(met, pair)),
+        (
+            "run",
+            Json::List(vec![
+                Json::Number(size),
+                Json::text(reading::digits(told.legal())),
+            ]),
+        ),
+    ])
 }
 
 fn region<'a>(

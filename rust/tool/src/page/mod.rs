@@ -5,6 +5,8 @@ mod reading;
 mod sizes;
 mod source;
 
+use crate::changes::Change;
+use crate::commands::replay::Told;
 use crate::report::Failure;
 use crate::subject::Subject;
 use source::Source;
@@ -13,19 +15,32 @@ use std::path::Path;
 const FRAME: &str = include_str!("../../../../page/page.html");
 const STYLE: &str = include_str!("../../../../page/page.css");
 /// The parts of the one script, in their order.
-const SCRIPT: [&str; 7] = [
+const SCRIPT: [&str; 8] = [
     include_str!("../../../../page/chart.js"),
     include_str!("../../../../page/rows.js"),
     include_str!("../../../../page/sheet.js"),
     include_str!("../../../../page/runs.js"),
+    include_str!("../../../../page/layers.js"),
     include_str!("../../../../page/panel.js"),
     include_str!("../../../../page/state.js"),
     include_str!("../../../../page/page.js"),
 ];
 
+/// What is laid over the first file.
+pub struct Layers<'a> {
+    /// What changed from the second file to it.
+    pub changes: Option<Vec<Change>>,
+    /// A run of one of its regions.
+    pub recorded: Option<Told<'a>>,
+}
+
 /// The page of regions, with the source lines of files below a folder.
-pub fn made(subjects: &[Subject], folder: Option<&Path>) -> Result<String, Failure> {
-    let data = data::document(subjects, &mut Source::below(folder))?.document();
+pub fn made(
+    subjects: &[Subject],
+    folder: Option<&Path>,
+    layers: Layers,
+) -> Result<String, Failure> {
+    let data = data::document(subjects, &mut Source::below(folder), layers)?.document();
     // A script element ends at the first '</script', also inside of a text.
     let data = data.trim_end().replace('<', "\\u003c");
     let script = SCRIPT.concat();

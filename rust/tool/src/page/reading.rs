@@ -129,10 +129,15 @@ fn kinds<'a>(kinds: BTreeMap<Kind, usize>) -> Json<'a> {
     })
 }
 
-/// The threads of a run, and its trace: for each entry the digit of its thread and two of its node, of 36 each.
+/// The threads of a run, and its trace.
 fn run<'a>(run: &Run) -> Json<'a> {
-    let digit = |x: u8| char::from_digit(x.into(), 36).unwrap_or('0');
-    let entry = |x: &witness::run::Entry| [x.thread, x.node / 36, x.node % 36].map(digit);
-    let trace: String = run.trace.iter().flat_map(entry).collect();
+    let trace = digits(run.trace.iter().map(|x| (x.thread, x.node)));
     Json::List(vec![Json::Number(run.threads), Json::text(trace)])
+}
+
+/// A trace as text: for each entry the digit of its thread and two of its node, of 36 each.
+pub fn digits(entries: impl Iterator<Item = (u8, u8)>) -> String {
+    let digit = |x: u8| char::from_digit(x.into(), 36).unwrap_or('0');
+    let entry = |(thread, node): (u8, u8)| [thread, node / 36, node % 36].map(digit);
+    entries.flat_map(entry).collect()
 }
