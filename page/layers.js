@@ -1,4 +1,4 @@
-/* What is laid over the first file: nevers lost or gained since an older one, and a recorded run. */
+/* What is laid over the first file: nevers lost or gained since an older one, a recorded run, accesses that race. */
 const MOST_SHOWN = 200, MOST_MOMENTS = 2000;
 
 function changes() {
@@ -13,7 +13,10 @@ function isLost(change) {
 function recorded() {
   return DATA.recorded && st.r === 0 && DATA.recorded.region === G.region ? DATA.recorded : null;
 }
-/* On the sheet: a frame for a change, of a lost never with its corner filled; a dot for a pair that the run met. */
+function races() {
+  return DATA.races && st.r === 0 && DATA.races.region === G.region ? DATA.races.found : [];
+}
+/* On the sheet: a ring for a race of data; a frame for a change, of a lost never with its corner filled; a dot for a pair that the run met. */
 function drawLayers(g) {
   const { cw, rh } = L, both = (a, b, draw) => { draw(a, b); if (a !== b) draw(b, a); };
   for (const x of changes()) both(x.a, x.b, (a, b) => {
@@ -27,6 +30,13 @@ function drawLayers(g) {
     g.lineTo(left + corner, low);
     g.lineTo(left, low - corner);
     g.fill();
+  });
+  g.strokeStyle = css("--sel");
+  g.lineWidth = 1.5;
+  for (const x of races()) if (x.race === "data") both(x.a, x.b, (a, b) => {
+    g.beginPath();
+    g.arc(b * cw + cw / 2, a * rh + rh / 2, Math.max(1.5, Math.min(cw, rh) * .42), 0, 7);
+    g.stroke();
   });
   g.fillStyle = css("--sel");
   for (const [a, b] of recorded() ? recorded().met : []) both(a, b, (a, b) => {
@@ -50,6 +60,7 @@ function changedHtml(found) {
 function layersOf(a, b) {
   const change = changeOf(a, b), told = recorded(), met = told && told.met.some(x => x[0] === a && x[1] === b || x[0] === b && x[1] === a);
   return (change ? `<p class="${isLost(change) ? "lost" : ""}"><b>${isLost(change) ? "A never was lost" : "A never was gained"}</b>: before it was ${change.before}, ${SHORT[change.before]}.</p>` : "") +
+    races().filter(x => x.a === a && x.b === b || x.a === b && x.b === a).map(x => `<p><b>A ${x.race} race</b> on ${esc(x.variable)}.</p>`).join("") +
     (met ? "<p><b>The recorded run met this pair.</b></p>" : "");
 }
 /* For the overview. */
@@ -59,6 +70,7 @@ function layersHtml() {
   let html = "";
   if (DATA.changes && st.r === 0) html = S.size !== null ? `<p class="hint">Changes are shown for teams of any size.</p>` :
     list("Nevers lost", "lost", changes().filter(isLost)) + list("Nevers gained", "", changes().filter(x => !isLost(x)));
+  if (DATA.races && st.r === 0) html += `<h3>Races: ${races().length}</h3><p>${races().slice(0, MOST_SHOWN).map(x => `<button class="chip" data-pair="${x.a},${x.b},${G.region}">${esc(x.variable)}: ${x.a} and ${x.b}${x.race === "data" ? "" : ", kept apart by a lock"}</button>`).join("")}</p>`;
   if (told) html += `<h3>The recorded run</h3><p>${esc(told.words)}</p><p><button class="chip" data-recorded>step it</button> <span class="hint">A dot marks a pair that it met.</span></p>`;
   return html;
 }

@@ -120,21 +120,16 @@ fn layers(browser: &mut Browser, folder: &Path) {
     let trace = file(folder, "run.trace", "0 1\n1 1\n0 2\n");
     let page = folder.join("layers.html");
     let out = page.to_str().expect("text");
-    let words = [
-        "page",
-        "playtest.csv",
-        &new,
-        "--compare",
-        "--trace",
-        &trace,
-        "-o",
-        out,
-    ];
+    let accesses = file(folder, "accesses", "write 12 order\nread 17 order\n");
+    let layers = ["--compare", "--trace", &trace, "--accesses", &accesses];
+    let words = [&["page", "playtest.csv", &new][..], &layers, &["-o", out]].concat();
     assert_eq!(told(&words).0, 0);
     browser.open(&page, "");
     says(browser, "#panel", "nevers lost: 81");
     browser.click("[data-pair]");
     says(browser, "#panel", "a never was lost: before it was 1");
+    browser.cell(12, 17);
+    says(browser, "#panel", "a data race on order");
     browser.key("Escape");
     browser.click("[data-recorded]");
     browser.key("ArrowRight");

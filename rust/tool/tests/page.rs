@@ -178,7 +178,7 @@ fn sizes_of_a_class_are_answered_alike() {
             // without a class of its own, every team of two or more is answered as any
             let class = match sheets.len() {
                 2 if size > 1 => &sheets[0],
-                _ => sheets.iter().filter(least).next_back().expect("a class"),
+                _ => sheets.iter().rfind(least).expect("a class"),
             };
             let told = cells(class);
             let told: Vec<u8> = told
@@ -208,7 +208,7 @@ fn same_bytes_and_nothing_from_elsewhere() {
 }
 
 #[test]
-fn layers_are_what_diff_and_replay_tell() {
+fn layers_are_what_diff_replay_and_races_tell() {
     let folder = folder("page-layers");
     let old = fs::read_to_string(example().join("playtest.csv")).expect("the table");
     let without = old.replace(
@@ -247,6 +247,24 @@ fn layers_are_what_diff_and_replay_tell() {
         .text()
         .starts_with("forbidden: 4 entries"));
     assert_eq!(recorded.get("run").items()[1].text(), "001101002");
+    let accesses = file(
+        &folder,
+        "accesses",
+        "write 14 board\nwrite 12 order\nread 17 order\n",
+    );
+    good(&["page", "playtest.csv", "--accesses", &accesses, "-o", out]);
+    let raced = data(&fs::read_to_string(out).expect("the page"));
+    let races = Value::read(&good(&["races", "playtest.csv", &accesses, "--json"]));
+    let kinds = races
+        .get("races")
+        .items()
+        .iter()
+        .map(|x| x.get("race").text());
+    assert_eq!(
+        kinds.collect::<Vec<_>>(),
+        ["data", "data", "synchronization"]
+    );
+    assert_eq!(raced.get("races").get("found"), races.get("races"));
     assert_eq!(
         refused(&["page", "playtest.csv", "--compare", "-o", out]),
         "bohrali: page: --compare wants two files, OLD and NEW\n"

@@ -1,7 +1,7 @@
 //! `bohrali page`: regions as one page for a browser.
 
 use super::replay::Told;
-use super::{convert, Command};
+use super::{convert, races, Command};
 use crate::arguments::{Arguments, Opt, OUTPUT, REGION, SIZE};
 use crate::changes::{self, BY};
 use crate::page::{self, Layers};
@@ -28,6 +28,12 @@ const TRACE: Opt = Opt {
     help: "a recorded run of the first file's region, laid over its sheet and to be stepped",
 };
 
+const ACCESSES: Opt = Opt {
+    name: "--accesses",
+    value: Some("ACCESSES"),
+    help: "accesses to variables of the first file's region, as 'races' takes them: marks those that race",
+};
+
 pub const COMMAND: Command = Command {
     name: "page",
     operands: "FILE.. -o OUT.html",
@@ -41,10 +47,10 @@ keys. The same files give the same bytes.",
 proved call. Criticals of one name in several files share their lock, as for 'locks'.",
         "With --compare there are two files, and cells of the second whose never was lost or gained since the first
 are marked and listed, as 'diff' tells them. Locks are then told of each file by itself.",
-        "TRACE is what 'replay' takes, and --region and --size are those of its team; the first file is the one that
+        "TRACE is what 'replay' takes, ACCESSES what 'races' takes; --region and --size are those of the team; the first file is the one that
 the page opens with, with --compare NEW.",
     ],
-    options: &[OUTPUT, SOURCE, COMPARE, BY, TRACE, REGION, SIZE],
+    options: &[OUTPUT, SOURCE, COMPARE, BY, TRACE, ACCESSES, REGION, SIZE],
     run,
 };
 
@@ -69,12 +75,18 @@ fn run(arguments: &Arguments, _: &Terminal) -> Result<Report, Failure> {
             return Err(Failure::words(message));
         }
     };
-    let recorded = match arguments.value(&TRACE) {
-        Some(trace) => Some(Told::of(&subjects[0], Team::named(arguments)?, trace)?),
-        None => None,
+    let team = Team::named(arguments)?;
+    let recorded = arguments.value(&TRACE);
+    let recorded = recorded.map(|x| Told::of(&subjects[0], team, x));
+    let races = arguments.value(&ACCESSES);
+    let races = races.map(|x| races::layer(&subjects[0], team.region, x));
+    let layers = Layers {
+        changes,
+        recorded: recorded.transpose()?,
+        races: races.transpose()?,
     };
     let folder = arguments.value(&SOURCE).map(Path::new);
-    let page = page::made(&subjects, folder, Layers { changes, recorded })?;
+    let page = page::made(&subjects, folder, layers)?;
     convert::written(out, page.as_bytes())?;
     let (name, files) = (out.to_string_lossy(), count(subjects.len(), "file"));
     let told = format!("{name}: {files}, {} bytes\n", page.len());

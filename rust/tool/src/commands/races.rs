@@ -9,10 +9,12 @@ use crate::report::{Colour, Failure, Report, Terminal, FOUND, GOOD};
 use crate::subject::{self, Subject, Team};
 use crate::words::{self, count};
 use bohrali::limits::MOST_ACCESSES;
-use bohrali::{Access, AccessKind, Race};
+use bohrali::{Access, AccessKind, Race, Region};
 use region::load::MOST_BYTES;
 use region::quoted;
+use std::borrow::Cow;
 use std::collections::HashMap;
+use std::ffi::OsStr;
 use std::fmt::Write;
 
 const STRICT: Opt = Opt {
@@ -57,11 +59,43 @@ struct Found<'a> {
 fn run(arguments: &Arguments, terminal: &Terminal) -> Result<Report, Failure> {
     let region = Team::named(arguments)?.region;
     let subject = Subject::read(&arguments.operands[0])?;
-    let places = Places::of(&subject, region)?;
-    let file = arguments.operands[1].to_string_lossy();
-    let bytes = subject::bytes(&arguments.operands[1], MOST_BYTES)?;
+    let strict = arguments.has(&STRICT);
+    told(&subject, region, &arguments.operands[1], |made, found| {
+        let text = match arguments.has(&JSON) {
+            true => document(&subject, region.number(), found),
+            false => text(&subject, made, found, terminal),
+        };
+        let is_data = found.iter().any(|x| x.race == Race::Data);
+        Report::of(text).with_status(match is_data && strict {
+            true => FOUND,
+            false => GOOD,
+        })
+    })
+}
+
+/// The races of the accesses in a file, for the page.
+pub fn layer(subject: &Subject, region: Region, file: &OsStr) -> Result<Json<'static>, Failure> {
+    let races = told(subject, region, file, |_, found| {
+        Json::list(found, |x| race_fields(x, x.pair[0].variable.to_string()))
+    })?;
+    Ok(Json::Object(vec![
+        ("region", Json::Number(region.number())),
+        ("found", races),
+    ]))
+}
+
+/// What becomes of the number of accesses in a file, and of those that race.
+fn told<T>(
+    subject: &Subject,
+    region: Region,
+    file: &OsStr,
+    tell: impl FnOnce(usize, &[Found]) -> T,
+) -> Result<T, Failure> {
+    let places = Places::of(subject, region)?;
+    let bytes = subject::bytes(file, MOST_BYTES)?;
+    let file = file.to_string_lossy();
     let lines = lines::of(&file, &bytes)?;
-    let made = lines::each(&file, &lines, |line| accesses(&subject, &places, line))?;
+    let made = lines::each(&file, &lines, |line| accesses(subject, &places, line))?;
     let made: Vec<Made> = made.into_iter().flatten().collect();
     if made.len() > MOST_ACCESSES {
         let message = format!("{} accesses, and {MOST_ACCESSES} are the most", made.len());
@@ -72,18 +106,7 @@ fn run(arguments: &Arguments, terminal: &Terminal) -> Result<Report, Failure> {
     let bytes = subject.filled(length, |chart, out| {
         bohrali::races(chart, region, Access::bytes(&numbered), out)
     })?;
-    let found = found(&made, &bytes);
-    let text = match arguments.has(&JSON) {
-        true => document(&subject, region.number(), &found),
-        false => text(&subject, made.len(), &found, terminal),
-    };
-    let is_data = found.iter().any(|x| x.race == Race::Data);
-    Ok(
-        Report::of(text).with_status(match is_data && arguments.has(&STRICT) {
-            true => FOUND,
-            false => GOOD,
-        }),
-    )
+    Ok(tell(made.len(), &found(&made, &bytes)))
 }
 
 fn accesses<'a>(
@@ -183,16 +206,19 @@ fn document(subject: &Subject, region: usize, found: &[Found]) -> String {
     let fields = vec![
         ("file", Json::text(&subject.file)),
         ("region", Json::Number(region)),
-        ("races", Json::list(found, race_fields)),
+        (
+            "races",
+            Json::list(found, |x| race_fields(x, x.pair[0].variable)),
+        ),
     ];
     Json::Object(fields).document()
 }
 
-fn race_fields<'a>(found: &Found<'a>) -> Json<'a> {
+fn race_fields<'a>(found: &Found, variable: impl Into<Cow<'a, str>>) -> Json<'a> {
     let [one, other] = found.pair;
     Json::Object(vec![
         ("race", Json::text(race_word(found.race))),
-        ("variable", Json::text(one.variable)),
+        ("variable", Json::text(variable)),
         ("a", Json::number(one.node)),
         ("b", Json::number(other.node)),
         ("lines", Json::list([one.line, other.line], Json::Number)),

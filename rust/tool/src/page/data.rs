@@ -38,6 +38,7 @@ pub fn document<'a>(
             Json::option(layers.changes, |x| Json::list(&x, Change::document)),
         ),
         ("recorded", Json::option(recorded, run)),
+        ("races", layers.races.unwrap_or(Json::Null)),
         ("regions", Json::List(regions?)),
     ]))
 }

@@ -7,6 +7,7 @@ mod source;
 
 use crate::changes::Change;
 use crate::commands::replay::Told;
+use crate::json::Json;
 use crate::report::Failure;
 use crate::subject::Subject;
 use source::Source;
@@ -32,6 +33,8 @@ pub struct Layers<'a> {
     pub changes: Option<Vec<Change>>,
     /// A run of one of its regions.
     pub recorded: Option<Told<'a>>,
+    /// Accesses in one of its regions that race.
+    pub races: Option<Json<'static>>,
 }
 
 /// The page of regions, with the source lines of files below a folder.

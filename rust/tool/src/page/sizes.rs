@@ -35,6 +35,7 @@ pub fn classes(view: &View) -> Vec<Class> {
         let label = match lows.get(place + 1) {
             Some(&next) if next == low + 1 => low.to_string(),
             Some(&next) => format!("{low} to {}", next - 1),
+            None if low == MOST_SIZE => low.to_string(),
             None if beyond => format!("{low} to {MOST_SIZE}"),
             None => format!("{low} or more"),
         };
