@@ -21,7 +21,7 @@ function drawLayers(g) {
   const { cw, rh } = L, both = (a, b, draw) => { draw(a, b); if (a !== b) draw(b, a); };
   for (const x of changes()) both(x.a, x.b, (a, b) => {
     const left = b * cw + 1, low = a * rh + rh - 1, corner = Math.min(cw, rh) * .45;
-    g.strokeStyle = g.fillStyle = css(isLost(x) ? "--lost" : "--good");
+    g.strokeStyle = g.fillStyle = css(isLost(x) ? "--mark" : "--good");
     g.lineWidth = 1.5;
     g.strokeRect(left, a * rh + 1, Math.max(cw - 2, 1), rh - 2);
     if (!isLost(x)) return;
