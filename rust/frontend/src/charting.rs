@@ -2,7 +2,7 @@
 
 use crate::constructs::GivenUp;
 use crate::flow::NodeKind;
-use crate::opening::{self, Parallel};
+use crate::inlining::{self, Parallel};
 use crate::program::Program;
 use crate::records::{records, Charted};
 use crate::shaping::{shape, Shape};
@@ -66,7 +66,7 @@ fn attempt(
     merges: bool,
 ) -> Result<Charted, Failed> {
     let never_ends = || Failed::NoChart("the region never ends".into());
-    let opened = opening::open(program, region, !given_up.calls).ok_or_else(never_ends)?;
+    let opened = inlining::open(program, region, !given_up.calls).ok_or_else(never_ends)?;
     let mut shape = shape(opened.graph, given_up).ok_or_else(never_ends)?;
     shape.contract();
     shape.line_up();

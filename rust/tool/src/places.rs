@@ -5,6 +5,7 @@ use crate::subject::Subject;
 use bohrali::layout::DISTANCE_AT_BARRIER;
 use bohrali::Region;
 use region::{quoted, Place};
+use std::ffi::OsString;
 
 /// What is said of places in each help.
 pub const HELP: &str = "A place is a node number, or source lines as file.c:12 or file.c:12-15, which the column
@@ -58,8 +59,30 @@ impl Places<'_> {
     }
 }
 
+/// What two places of a command line ask about.
+pub struct Asked {
+    pub pairs: Vec<(u8, u8)>,
+    /// Whether both are node numbers: then there is just one pair.
+    pub by_number: bool,
+}
+
+/// The pairs that two words name in a region.
+pub fn asked(subject: &Subject, region: Region, words: &[OsString]) -> Result<Asked, Failure> {
+    let places = Places::of(subject, region)?;
+    let words: Vec<_> = words.iter().map(|x| x.to_string_lossy()).collect();
+    let nodes = |word: &str| {
+        places
+            .nodes(word)
+            .map_err(|x| Failure::about(&subject.file, x))
+    };
+    Ok(Asked {
+        pairs: pairs(&nodes(&words[0])?, &nodes(&words[1])?),
+        by_number: words.iter().all(|x| is_number(x)),
+    })
+}
+
 /// Whether a word is a node number, which names one node whatever the file says.
-pub fn is_number(word: &str) -> bool {
+fn is_number(word: &str) -> bool {
     matches!(Place::read(word), Some(Place::Node(_)))
 }
 

@@ -3,7 +3,7 @@
 use super::Command;
 use crate::arguments::{Arguments, JSON, REGION, SIZE};
 use crate::json::Json;
-use crate::places::{self, Places};
+use crate::places;
 use crate::report::{Failure, Report, Terminal};
 use crate::subject::{Subject, Team};
 use crate::words;
@@ -24,19 +24,9 @@ pub const COMMAND: Command = Command {
 fn run(arguments: &Arguments, terminal: &Terminal) -> Result<Report, Failure> {
     let team = Team::named(arguments)?;
     let subject = Subject::read(&arguments.operands[0])?;
-    let places = Places::of(&subject, team.region)?;
-    let words: Vec<_> = arguments.operands[1..]
-        .iter()
-        .map(|x| x.to_string_lossy())
-        .collect();
-    let nodes = |word: &str| {
-        places
-            .nodes(word)
-            .map_err(|x| Failure::about(&subject.file, x))
-    };
-    let (one, other) = (nodes(&words[0])?, nodes(&words[1])?);
+    let asked = places::asked(&subject, team.region, &arguments.operands[1..])?;
     let mut answers = Vec::new();
-    for (a, b) in places::pairs(&one, &other) {
+    for (a, b) in asked.pairs {
         answers.push((a, b, subject.pair(team, a, b)? as u8));
     }
     if !arguments.has(&JSON) {
@@ -44,7 +34,7 @@ fn run(arguments: &Arguments, terminal: &Terminal) -> Result<Report, Failure> {
         return Ok(Report::of(answers.iter().map(line).collect::<String>()));
     }
     let mut documents = answers.iter().map(|x| document(&subject, team, *x));
-    let document = match words.iter().all(|x| places::is_number(x)) {
+    let document = match asked.by_number {
         true => documents.next().unwrap_or(Json::Null),
         false => Json::List(documents.collect()),
     };

@@ -4,7 +4,7 @@ use super::{program_why, Command};
 use crate::arguments::{Arguments, Opt, JSON, REGION, SIZE};
 use crate::evidence::Evidence;
 use crate::json::Json;
-use crate::places::{self, Places};
+use crate::places;
 use crate::report::{Failure, Report, Terminal};
 use crate::subject::{Subject, Team};
 use crate::tables;
@@ -52,25 +52,14 @@ fn run(arguments: &Arguments, terminal: &Terminal) -> Result<Report, Failure> {
     }
     let team = Team::named(arguments)?;
     let subject = Subject::read(&arguments.operands[0])?;
-    let places = Places::of(&subject, team.region)?;
-    let words: Vec<_> = arguments.operands[1..]
-        .iter()
-        .map(|x| x.to_string_lossy())
-        .collect();
-    let nodes = |word: &str| {
-        places
-            .nodes(word)
-            .map_err(|x| Failure::about(&subject.file, x))
-    };
-    let pairs = places::pairs(&nodes(&words[0])?, &nodes(&words[1])?);
+    let asked = places::asked(&subject, team.region, &arguments.operands[1..])?;
     let evidence = Evidence::of(&subject, team)?;
-    let all = evidence.all(&pairs)?;
+    let all = evidence.all(&asked.pairs)?;
     let text = match arguments.has(&JSON) {
         false => texts(&evidence, &all, arguments, terminal),
         true => {
             let mut documents = all.iter().map(|x| evidence.document(x));
-            let one = words.iter().all(|x| places::is_number(x));
-            let document = match one {
+            let document = match asked.by_number {
                 true => documents.next().unwrap_or(Json::Null),
                 false => Json::List(documents.collect()),
             };

@@ -27,24 +27,24 @@ pub(crate) struct Opened {
 /// The flow of a region; none where it has no end.
 pub(crate) fn open(program: &Program, region: Parallel, opens_calls: bool) -> Option<Opened> {
     let body = program.functions[region.function].body.as_ref().ok()?;
-    let mut opening = Opening {
+    let mut inlining = Inlining {
         program,
         graph: own_flow(program, body, region)?,
         closed: BTreeMap::new(),
         work: Vec::new(),
     };
-    let calls: Vec<usize> = opening.graph.live().map(|x| x.0).collect();
-    opening.push(calls, &[region.function]);
-    while let Some((node, stack)) = opening.work.pop() {
-        opening.call(node, &stack, opens_calls);
+    let calls: Vec<usize> = inlining.graph.live().map(|x| x.0).collect();
+    inlining.push(calls, &[region.function]);
+    while let Some((node, stack)) = inlining.work.pop() {
+        inlining.call(node, &stack, opens_calls);
     }
     Some(Opened {
-        graph: opening.graph,
-        closed: opening.closed,
+        graph: inlining.graph,
+        closed: inlining.closed,
     })
 }
 
-struct Opening<'a> {
+struct Inlining<'a> {
     program: &'a Program,
     graph: Graph,
     closed: BTreeMap<usize, &'static str>,
@@ -52,7 +52,7 @@ struct Opening<'a> {
     work: Vec<(usize, Vec<usize>)>,
 }
 
-impl Opening<'_> {
+impl Inlining<'_> {
     fn push(&mut self, nodes: Vec<usize>, stack: &[usize]) {
         for node in nodes {
             if known_callee(&self.graph, node).is_some() {
