@@ -87,9 +87,9 @@ fn draw(text: &[u8], nodes: usize, constructs: usize, out: &mut [u8]) -> Chart
     requires { ⌜ Small (now text) nodes constructs × (length (now out) ≡ 3122) ⌝ }
     ensures { λ r. ⌜ ((b : Block) (last : ℕ) → listed (now (text .entry)) ≡ upTo b last → (r ≡ countsFor b) × (take (length (blockBytes b)) (now (out .exit)) ≡ blockBytes b)) ⌝ }
 {
-    let mut node_table = [0u8; 768];
-    let mut edge_table = [0u8; 768];
-    let mut part_table = [0u8; 192];
+    let mut node_table = [0u8; Spot::NODE_BYTES];
+    let mut edge_table = [0u8; Spot::EDGE_BYTES];
+    let mut part_table = [0u8; Spot::PART_BYTES];
     let edges = fill_tables(
         text,
         nodes,

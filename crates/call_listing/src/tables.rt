@@ -16,6 +16,9 @@ use crate::reader::item;
 use crate::reader::letter_kind;
 use crate::records::put_cell;
 use crate::records::put_record;
+use chart::format::Chart;
+use chart::format::Construct;
+use chart::format::Edge;
 use chart::format::Node;
 
 // Where filling goes on: the place in the text and the braces that may still be open there, the construct around it, the numbers of the next
@@ -28,6 +31,15 @@ pub struct Spot {
     pub node: usize,
     pub follow: usize,
     pub edge: usize,
+}
+
+// The bytes of the three tables: a record for each node and each construct, and two edges for each node.
+impl Spot {
+    pub const NODE_BYTES: usize = Node::BYTES * Chart::NODES;
+
+    pub const EDGE_BYTES: usize = 2 * Edge::BYTES * Chart::NODES;
+
+    pub const PART_BYTES: usize = Construct::BYTES_1 * Chart::CONSTRUCTS;
 }
 
 // Where a way into the block at a place leads: to k, its first node, or to t where it is empty.

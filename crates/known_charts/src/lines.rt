@@ -2,7 +2,6 @@
 // hexadecimal; where it is left out it follows from the parts. A | before the constructs, in place of a /, is for edition 2. A line with a ? in front has pairs
 // of nodes of the chart above it, of the outermost region or, after an @, of the region that the next letter names, for teams of any size or,
 // after a *, of the size whose two bytes the next letters spell; one with a # in front is a comment.
-use crate::report::NO_SIZE;
 use crate::report::report_before;
 use crate::report::report_pair_before;
 use crate::spelling::put;
@@ -12,6 +11,7 @@ use crate::trailer::put_trailer;
 use chart::cursor::wide;
 use chart::format::Chart;
 use chart::format::Construct;
+use theory_answers::Size;
 
 // How far a line has been read: the part, the place for its next byte, where the nodes and the edges end, and the first half of a byte of
 // the trailer or of a pair; its edition; how long the chart above it is; and the region and the size that its pairs are asked for.
@@ -25,6 +25,13 @@ struct Line {
     above: usize,
     region: u8,
     size: usize,
+}
+
+fn size_of(size: usize) -> Size {
+    if size == Line::ANY_SIZE {
+        return Size::Any;
+    }
+    Size::Of(size)
 }
 
 impl Line {
@@ -49,6 +56,8 @@ impl Line {
     const SIZE_HIGH: u8 = 9;
     // No half has been read.
     const WHOLE: u8 = 255;
+    // In place of a size, teams of any size.
+    const ANY_SIZE: usize = 65536;
 
     fn new(part: u8, above: usize) -> Line {
         Line {
@@ -60,7 +69,7 @@ impl Line {
             edition: Chart::EDITION_1,
             above: above,
             region: Construct::NONE,
-            size: NO_SIZE,
+            size: Line::ANY_SIZE,
         }
     }
 
@@ -131,7 +140,14 @@ impl Line {
             self.half = node;
             return self;
         }
-        report_pair_before(out, self.above, self.region, self.size, self.half, node);
+        report_pair_before(
+            out,
+            self.above,
+            self.region,
+            size_of(self.size),
+            self.half,
+            node,
+        );
         self.half = Line::WHOLE;
         self
     }

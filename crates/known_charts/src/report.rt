@@ -40,16 +40,6 @@ pub fn report_before(buffer: &[u8], end: usize) {
     }
 }
 
-// In place of a size, teams of any size.
-pub const NO_SIZE: usize = 65536;
-
-fn size_of(size: usize) -> Size {
-    if size == NO_SIZE {
-        return Size::Any;
-    }
-    Size::Of(size)
-}
-
 fn report_pair(s: &[u8], region: usize, size: Size, a: usize, b: usize) {
     match pair(s, region, size, a, b) {
         Answered::Answer(answer) => {
@@ -61,27 +51,22 @@ fn report_pair(s: &[u8], region: usize, size: Size, a: usize, b: usize) {
 }
 
 // The words for a region, none for the outermost one, and for a size.
-fn print_region(region: u8, size: usize) {
+fn print_region(region: u8, size: Size) {
     if region != Construct::NONE {
         print_number(b" in region ", wide(region));
     }
-    if size != NO_SIZE {
-        print_number(b" in a team of ", size);
+    match size {
+        Size::Any => {}
+        Size::Of(threads) => print_number(b" in a team of ", threads),
     }
 }
 
 // A line for a pair of nodes of that chart, in a region, for teams of a size.
-pub fn report_pair_before(buffer: &[u8], end: usize, region: u8, size: usize, a: u8, b: u8) {
+pub fn report_pair_before(buffer: &[u8], end: usize, region: u8, size: Size, a: u8, b: u8) {
     if end <= buffer.len() {
         print_number(b"  pair ", wide(a));
         print_number(b" ", wide(b));
         print_region(region, size);
-        report_pair(
-            &buffer[0..end],
-            wide(region),
-            size_of(size),
-            wide(a),
-            wide(b),
-        );
+        report_pair(&buffer[0..end], wide(region), size, wide(a), wide(b));
     }
 }
