@@ -1,16 +1,13 @@
 // Asking whether a chart with one edge more would be admitted. Nothing is written but scratch memory, which then holds that chart.
 ghost use mathlib.Core.Path.{_≡_};
-ghost use mathlib.Core.Option.{none};
 ghost use Prim.Native.Nat.{_+_, _≤_};
 ghost use lib.ListN.{length, take};
-ghost use Rattle.chart.specs.Refusal.{firstOf};
-ghost use Rattle.chart.specs.Checked.{countsOf};
-ghost use Rattle.theory_paths.specs.Admission.{admitRows};
 ghost use Rattle.theory_edits.specs.Splice.{inserted};
 ghost use Rattle.theory_edits.specs.Edits.{asked, numberOf, receiptOf};
 ghost use Rattle.theory_edits.specs.AskCorrect.{AskCorrect};
 ghost use Rattle.theory_edits.specs.declared.Receipt.{Receipt};
 ghost use Rattle.theory_edits.specs.declared.Asked.the-variants.{Admitted};
+ghost use Rattle.call_edges.specs.Splicing.{AdmittedAs};
 ghost use Rattle.call_edges.specs.Asking.{askedOn};
 use crate::checking::check_front;
 use crate::numbers::edge_between;
@@ -24,7 +21,7 @@ use theory_edits::Receipt;
 
 // Rows 1 to 10 on the longer chart, of a chart that they let pass.
 fn ask_longer(s: &[u8], chart: Chart, edge: Edge, longer: &mut [u8]) -> Asked
-    requires { ⌜ (firstOf (admitRows (now s)) ≡ none) × (chart ≡ countsOf (now s)) × (length (now longer) ≡ 3122) ⌝ }
+    requires { ⌜ AdmittedAs (now s) chart × (length (now longer) ≡ 3122) ⌝ }
     ensures { λ r. ⌜ r ≡ askedOn (now (s .entry)) (edge .from) (edge .to) ⌝ }
     ensures { λ _. ⌜ take (length (now (s .entry)) + 2) (now (longer .exit)) ≡ inserted (now (s .entry)) (edge .from) (edge .to) ⌝ }
 {

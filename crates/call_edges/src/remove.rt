@@ -1,14 +1,11 @@
 // Taking an edge out of a chart in a lent buffer (02, Note 7).
 ghost use mathlib.Core.Path.{_≡_};
-ghost use mathlib.Core.Option.{none};
 ghost use Prim.Native.Nat.{ℕ, _-_, _≤_};
 ghost use lib.ListN.{length, take};
-ghost use Rattle.chart.specs.Refusal.{firstOf};
-ghost use Rattle.chart.specs.Checked.{countsOf};
-ghost use Rattle.theory_paths.specs.Admission.{admitRows};
 ghost use Rattle.output.specs.Output.{writtenBy, leftBy};
 ghost use Rattle.output.specs.declared.Written.the-variants.{Bytes};
 ghost use Rattle.theory_edits.specs.Edits.{removeWritten, removeLeft};
+ghost use Rattle.call_edges.specs.Splicing.{AdmittedAs};
 ghost use Rattle.call_edges.specs.Removing.{shortRows, shortLeft};
 use crate::checking::check_front;
 use crate::numbers::edge_between;
@@ -24,7 +21,7 @@ use output::Written;
 
 // Row 19, then rows 1 to 10 on the shorter chart, of a chart that rows 1 to 10 let pass.
 fn ask_shorter(s: &[u8], chart: Chart, edge: Edge, shorter: &mut [u8]) -> Written
-    requires { ⌜ (firstOf (admitRows (now s)) ≡ none) × (chart ≡ countsOf (now s)) × (length (now shorter) ≡ 3122) ⌝ }
+    requires { ⌜ AdmittedAs (now s) chart × (length (now shorter) ≡ 3122) ⌝ }
     ensures { λ r. ⌜ r ≡ writtenBy (shortRows (now (s .entry)) (edge .from) (edge .to)) (length (now (s .entry)) - 2) ⌝ }
     ensures { λ r. ⌜ ((count : ℕ) → r ≡ Bytes count → take (length (now (s .entry))) (now (shorter .exit)) ≡ shortLeft (now (s .entry)) (edge .from) (edge .to)) ⌝ }
 {
@@ -42,7 +39,7 @@ fn ask_shorter(s: &[u8], chart: Chart, edge: Edge, shorter: &mut [u8]) -> Writte
 
 // The same of a chart in the front of a buffer; where no row applies, the shorter chart is copied there, with the two bytes that it frees.
 fn remove_from(buffer: &mut [u8], len: usize, chart: Chart, edge: Edge) -> Written
-    requires { ⌜ (len ≤ length (now buffer)) × (firstOf (admitRows (take len (now buffer))) ≡ none) × (chart ≡ countsOf (take len (now buffer))) ⌝ }
+    requires { ⌜ (len ≤ length (now buffer)) × AdmittedAs (take len (now buffer)) chart ⌝ }
     ensures { λ r. ⌜ r ≡ writtenBy (shortRows (take len (now (buffer .entry))) (edge .from) (edge .to)) (len - 2) ⌝ }
     ensures { λ _.
         let s = take len (now (buffer .entry)) in

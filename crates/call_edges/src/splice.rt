@@ -2,19 +2,18 @@
 ghost use mathlib.Core.Path.{_≡_};
 ghost use mathlib.Core.Bool.{not, cond};
 ghost use mathlib.Core.List.{[], _∷_, _++_};
-ghost use mathlib.Core.Option.{none};
 ghost use Prim.Native.Nat.{ℕ, _+_, _-_, _≤_, _<_};
 ghost use lib.ListN.{length, take};
 ghost use Rattle.chart.specs.Format.{decode, edgeAt};
 ghost use Rattle.chart.specs.Reading.{edgeIn};
-ghost use Rattle.chart.specs.Refusal.{rises, firstOf, trailerRows};
-ghost use Rattle.chart.specs.Checked.{Laid, countsOf};
+ghost use Rattle.chart.specs.Refusal.{rises};
+ghost use Rattle.chart.specs.Checked.{Laid};
 ghost use Rattle.chart_writing.specs.Bytes.{trailerBytes};
 ghost use Rattle.chart_writing.specs.Trailer.{trailerFor};
 ghost use Rattle.chart_writing.specs.ScratchTrailer.{Small};
 ghost use Rattle.theory_edits.specs.Splice.{place as placeOf, recordsFrom, inserted, removed};
 ghost use Rattle.theory_edits.specs.PlaceLaws.{Rising};
-ghost use Rattle.call_edges.specs.Splicing.{withEdges};
+ghost use Rattle.call_edges.specs.Splicing.{LaidAs, withEdges};
 use chart::format::Chart;
 use chart::format::Edge;
 use chart::format::Node;
@@ -92,7 +91,7 @@ fn put_rest(out: &mut [u8], at: usize, s: &[u8], from: usize, chart: Chart)
 
 // The chart with the edge at its place among the edges.
 pub fn put_longer(s: &[u8], chart: Chart, edge: Edge, place: usize, out: &mut [u8])
-    requires { ⌜ (firstOf (trailerRows (now s)) ≡ none) × (chart ≡ countsOf (now s)) × (place ≡ placeOf (decode (now s) .edges) (edge .from) (edge .to)) × (length (now s) + 2 ≤ length (now out)) ⌝ }
+    requires { ⌜ LaidAs (now s) chart × (place ≡ placeOf (decode (now s) .edges) (edge .from) (edge .to)) × (length (now s) + 2 ≤ length (now out)) ⌝ }
     ensures { λ _. ⌜ take (length (now (s .entry)) + 2) (now (out .exit)) ≡ inserted (now (s .entry)) (edge .from) (edge .to) ⌝ }
 {
     let at = Node::BYTES * chart.nodes + Edge::BYTES * place;
@@ -104,7 +103,7 @@ pub fn put_longer(s: &[u8], chart: Chart, edge: Edge, place: usize, out: &mut [u
 
 // The chart without the edge at this place among the edges, and 0 for each of the two bytes that are freed.
 pub fn put_shorter(s: &[u8], chart: Chart, place: usize, out: &mut [u8])
-    requires { ⌜ (firstOf (trailerRows (now s)) ≡ none) × (chart ≡ countsOf (now s)) × (place < chart .edges) × (length (now s) ≤ length (now out)) ⌝ }
+    requires { ⌜ LaidAs (now s) chart × (place < chart .edges) × (length (now s) ≤ length (now out)) ⌝ }
     ensures { λ _. ⌜ ((x y : ℕ) → place ≡ placeOf (decode (now (s .entry)) .edges) x y → take (length (now (s .entry))) (now (out .exit)) ≡ removed (now (s .entry)) x y ++ (0 ∷ 0 ∷ [])) ⌝ }
 {
     let at = Node::BYTES * chart.nodes + Edge::BYTES * place;

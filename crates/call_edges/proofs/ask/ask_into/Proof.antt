@@ -42,7 +42,7 @@ ask-longer-requires : tie.Need-ask-longer-requires
 ask-longer-requires c κs =
     let m = c .before .before .before .before in
     let k = m .before .before in
-    (present m .1, passed-none _ _ (sym (k .check-front .ensures) ∙ m .chart .given .1) .1, k .before .before .before .pre)
+    ((present m .1, passed-none _ _ (sym (k .check-front .ensures) ∙ m .chart .given .1) .1), k .before .before .before .pre)
 
 returns : tie.Need-returns
 returns c =

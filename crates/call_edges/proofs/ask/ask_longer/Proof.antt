@@ -12,14 +12,14 @@ use Rattle.call_edges.proofs.ask.ask_longer.Statement.{statement}
 use Rattle.call_edges.proofs.ask.ask_longer.Tie as tie
 
 place-of-requires : tie.Need-place-of-requires
-place-of-requires c κs = let (admits, counts, long) = c .before .before .pre in rw counts (laid _ (trailer-passes _ admits))
+place-of-requires c κs = let ((admits, counts), long) = c .before .before .pre in rw counts (laid _ (trailer-passes _ admits))
 
 put-longer-requires : tie.Need-put-longer-requires
 put-longer-requires c κs =
     let placed = c .before in
     let e = placed .before .before .before in
-    let (admits, counts, long) = e .pre in
-    (trailer-passes _ admits, counts, placed .place-of .ensures .0, omega (arith, chart-most _ admits))
+    let ((admits, counts), long) = e .pre in
+    ((trailer-passes _ admits, counts), placed .place-of .ensures .0, omega (arith, chart-most _ admits))
 
 add-check-front : tie.Need-add-check-front
 add-check-front c = search needs
@@ -42,7 +42,7 @@ returns c =
     let put = k .before .before .before .before in
     let e = put .before .before .before .before .before in
     let is = put .put-longer .ensures in
-    let long = inserted-length _ (admitted-laid _ (e .pre .0)) (e .args .edge .from) (e .args .edge .to) in
+    let long = inserted-length _ (admitted-laid _ (e .pre .0 .0)) (e .args .edge .from) (e .args .edge .to) in
     let h = refused-some _ _ (sym (k .check-front .ensures) ∙ c .before .refusal .given .1) in
     (longer-refused (e .args .s .now) (e .args .edge .from) (e .args .edge .to) _ (sym (within _ _ is long) ∙ h), is)
 
@@ -56,7 +56,7 @@ returns-2 c =
     let placed = put .before .before in
     let e = placed .before .before .before in
     let is = put .put-longer .ensures in
-    let long = inserted-length _ (admitted-laid _ (e .pre .0)) (e .args .edge .from) (e .args .edge .to) in
+    let long = inserted-length _ (admitted-laid _ (e .pre .0 .0)) (e .args .edge .from) (e .args .edge .to) in
     let h = passed-none _ _ (sym (k .check-front .ensures) ∙ c .enum-told .given .1) .0 in
     (rw (placed .place-of .ensures .0) (longer-admitted (e .args .s .now) (e .args .edge .from) (e .args .edge .to) (sym (within _ _ is long) ∙ h)), is)
 

@@ -20,11 +20,11 @@ use Rattle.call_edges.proofs.remove.ask_shorter.Statement.{statement}
 use Rattle.call_edges.proofs.remove.ask_shorter.Tie as tie
 
 place-of-requires : tie.Need-place-of-requires
-place-of-requires c κs = let (admits, counts, long) = c .before .before .pre in rw counts (laid _ (trailer-passes _ admits))
+place-of-requires c κs = let ((admits, counts), long) = c .before .before .pre in rw counts (laid _ (trailer-passes _ admits))
 
 lacks-edge-requires : tie.Need-lacks-edge-requires
 lacks-edge-requires c κs =
-    let (admits, counts, long) = c .before .before .before .pre in
+    let ((admits, counts), long) = c .before .before .before .pre in
     (rw counts (laid _ (trailer-passes _ admits)), admitted-rising _ admits, c .place-of .ensures .0)
 
 -- where the edge is there
@@ -40,19 +40,18 @@ returns c =
     (refused _ _ [] [] none-such .0, λ count q. absurd (apart q))
 
 sub-size : tie.Need-sub-size
-sub-size c = let least = chart-least _ (c .before .before .before .before .before .pre .0) in omega arith
+sub-size c = let least = chart-least _ (c .before .before .before .before .before .pre .0 .0) in omega arith
 
 put-shorter-requires : tie.Need-put-shorter-requires
 put-shorter-requires c κs =
     let has = c .before in
     let placed = has .before .before in
     let e = placed .before .before .before in
-    let (admits, counts, long) = e .pre in
+    let ((admits, counts), long) = e .pre in
     let edges = decode (e .args .s .now) .edges in
     let L : Laid (e .args .s .now) (e .args .chart) = rw counts (laid _ (trailer-passes _ admits)) in
     let below = at-place edges (admitted-rising _ admits) (e .args .edge .from) (e .args .edge .to) (not-false _ (there has)) .0 in (
-      trailer-passes _ admits,
-      counts,
+      (trailer-passes _ admits, counts),
       omega (arith, below, placed .place-of .ensures .0, edges-length (e .args .s .now) (e .args .chart) L),
       omega (arith, chart-most _ admits),
     )
@@ -81,7 +80,7 @@ returns-2 c =
     let y = e .args .edge .to in
     let is = put .put-shorter .ensures x y (placed .place-of .ensures .0) in
     let h = refused-some _ _ (sym (k .check-front .ensures) ∙ c .before .refusal .given .1) in
-    (refused _ _ [] [] (sym (short-front s x y (there has) (e .pre .0) _ is) ∙ h) .0, λ count q. absurd (apart q))
+    (refused _ _ [] [] (sym (short-front s x y (there has) (e .pre .0 .0) _ is) ∙ h) .0, λ count q. absurd (apart q))
 
 same-length-2 : tie.Need-same-length-2
 same-length-2 c = search needs
@@ -98,7 +97,7 @@ returns-3 c =
     let y = e .args .edge .to in
     let is = put .put-shorter .ensures x y (placed .place-of .ensures .0) in
     let h = passed-none _ _ (sym (k .check-front .ensures) ∙ c .enum-told .given .1) .0 in
-    (passed _ _ [] [] refl (sym (short-front s x y (there has) (e .pre .0) _ is) ∙ h) .0, λ count q. is)
+    (passed _ _ [] [] refl (sym (short-front s x y (there has) (e .pre .0 .0) _ is) ∙ h) .0, λ count q. is)
 
 pub ask-shorter-spec : {M : Type 1} → statement M
 ask-shorter-spec =

@@ -32,7 +32,7 @@ remove-from-requires c κs =
     let k = m .before .before in
     let e = k .before .before .before in
     let (l, admits) = front-admitted (e .args .buffer .now) (e .args .len) (passes m) in
-    (l, admits, passed-none _ _ (sym (k .check-front .ensures) ∙ m .chart .given .1) .1)
+    (l, (admits, passed-none _ _ (sym (k .check-front .ensures) ∙ m .chart .given .1) .1))
 
 same-length : tie.Need-same-length
 same-length c = search needs

@@ -45,7 +45,7 @@ fits : (m : tie.After-size) → m .before .before .before .before .before .befor
 fits m =
     let e = m .before .before .before .before .before .before .before in
     let full : length (scratch m) ≡ 3122 = search needs in
-    omega (arith, chart-most _ (e .pre .1), long e)
+    omega (arith, chart-most _ (e .pre .1 .0), long e)
 
 array-share-prefix-shorter : tie.Need-array-share-prefix-shorter
 array-share-prefix-shorter c = fits (c .before .before)

@@ -17,7 +17,7 @@ at e = 4 * e .args .chart .nodes + 2 * e .args .place
 
 fits : (e : tie.Start) → Room (e .args .s .now) (e .args .chart) (at e)
 fits e =
-    let (passes, counts, placed, long) = e .pre in
+    let ((passes, counts), placed, long) = e .pre in
     rw counts (room (e .args .s .now) passes (e .args .place) (rw placed (place-most (e .args .s .now) _ (laid _ passes) _ _)))
 
 front : (e : tie.Start) → length (take (at e) (e .args .s .now)) ≡ at e
@@ -79,7 +79,8 @@ returns c =
     let all : at e + 2 + (length s - at e) ≡ length s + 2 = omega arith in
     let before = rw (zero-add (length (take (at e) s)), front e) at (part .put-part .ensures .0) in
     let after = rw (all, counts .with-edges .ensures) at (rest .put-rest .ensures) in
-    longer-put s (e .pre .0) (e .args .chart) (e .pre .1) (edge .from) (edge .to) (at e) (stands s (e .pre .0) (e .args .chart) (e .pre .1) (edge .from) (edge .to) (e .pre .2))
+    let ((passes, is), placed, long) = e .pre in
+    longer-put s passes (e .args .chart) is (edge .from) (edge .to) (at e) (stands s passes (e .args .chart) is (edge .from) (edge .to) placed)
     before (first .put-byte .ensures) (rw (add-assoc (at e) 1 1) at (second .put-byte2 .ensures)) after
 
 pub put-longer-spec : {M : Type 1} → statement M

@@ -17,7 +17,7 @@ at e = 4 * e .args .chart .nodes + 2 * e .args .place
 -- the record stands before the constructs
 fits : (e : tie.Start) → Room (e .args .s .now) (e .args .chart) (4 * e .args .chart .nodes + 2 * (e .args .place + 1))
 fits e =
-    let (passes, counts, below, long) = e .pre in
+    let ((passes, counts), below, long) = e .pre in
     let most : e .args .place + 1 ≤ e .args .chart .edges = omega arith in
     rw counts (room (e .args .s .now) passes (e .args .place + 1) (rw counts at most))
 
@@ -86,7 +86,8 @@ returns c = λ x y placed.
     let whole : length s - 2 + 1 + 1 ≡ length s = omega arith in
     let before = rw (zero-add (length (take (at e) s)), front e) at (part .put-part .ensures .0) in
     let after = rw (all, counts .with-edges .ensures) at (rest .put-rest .ensures) in
-    shorter-put s (e .pre .0) (e .args .chart) (e .pre .1) x y (at e) (stands s (e .pre .0) (e .args .chart) (e .pre .1) x y placed)
+    let (passes, is) = e .pre .0 in
+    shorter-put s passes (e .args .chart) is x y (at e) (stands s passes (e .args .chart) is x y placed)
     before after (first .put-byte .ensures) (rw whole at (second .put-byte2 .ensures))
 
 pub put-shorter-spec : {M : Type 1} → statement M
