@@ -13,7 +13,7 @@ use Rattle.lists.specs.Truth.{bad}
 use Rattle.chart.specs.Format.{outside, constructBytes}
 use Rattle.chart.specs.declared.format.Chart.{Chart}
 use Rattle.chart_writing.specs.Bytes.{fieldBytes, trailerBytes}
-use Rattle.chart_writing.specs.Encode.{nodeRecord, edgeRecord, constructRecord, flat, encode}
+use Rattle.chart_writing.specs.Encode.{flat, encode}
 use Rattle.chart_writing.specs.Trailer.{trailerFor}
 use Rattle.theory_listing.specs.Tree.{Block, nodeCount, constructCount, first, stop, cell, two, cells, constructs}
 use Rattle.theory_listing.specs.Grammar.{mostDepth, Read, upTo, stopped, after, pick, blockOf, listed}
@@ -22,6 +22,7 @@ use Rattle.theory_listing.specs.Meaning.{kindByte, whole, edgesOf, blockNodes, 
 use Rattle.theory_listing.specs.BlockTables.{length-nodes}
 use Rattle.theory_listing.specs.Counts.{length-blockConstructs, block-length}
 use Rattle.call_listing.specs.Stored.{Stored, StoredParts}
+use Rattle.call_listing.specs.Chart.{Tabled}
 use Rattle.call_listing.proofs.Joining.{stored-joined}
 
 pub listed-read : (s : List ℕ) (b : Block) (last : ℕ) → listed s ≡ upTo b last → blockOf (suc (length s)) s mostDepth 0 ≡ upTo b last
@@ -48,8 +49,7 @@ pub tables-made : (b : Block) (x f e0 e1 : ℕ) (N E C N0 E0 N1 E1 C1 N2 : List 
     → Stored (cells b outside 0 1 f) 1 (1 + nodeCount b) e0 e1 N0 E0 N1 E1
     → StoredParts (constructs b outside 0) 0 (0 + constructCount b) C C1
     → take (4 * (f + 1)) N2 ≡ take (4 * f) N1 ++ (1 ∷ (255 ∷ fieldBytes 0 []))
-    → (e1 ≤ 384) × (e1 ≡ length (blockEdges b)) × (take (4 * (f + 1)) N2 ≡ flat nodeRecord (blockNodes b)) × (take (2 * e1) E1 ≡ flat edgeRecord (blockEdges b))
-    × (take (4 * length (blockConstructs b)) C1 ≡ flat (constructRecord 1) (blockConstructs b))
+    → Tabled b (nodeCount b) e1 N2 E1 C1
 unfolding whole
 tables-made b x f e0 e1 N E C N0 E0 N1 E1 C1 N2 few qf qx h0 h1 p h2 =
     let third : 1 + nodeCount b ≡ f = omega (arith, qf) in
@@ -61,7 +61,14 @@ tables-made b x f e0 e1 N E C N0 E0 N1 E1 C1 N2 few qf qx h0 h1 p h2 =
     let is : start ∷ (cells b outside 0 1 f ++ (last ∷ [])) ≡ whole b = rw (qx, to-f) in
     let done = subst (λ cs. Stored cs 0 (f + 1) 0 e1 N E N2 E1) is all in
     let count : 0 + constructCount b ≡ length (blockConstructs b) = zero-add (constructCount b) ∙ sym (length-blockConstructs b) in
-    (omega (arith, done .edges-few, qf, few), done .edge-count ∙ zero-add (length (blockEdges b)), done .node-bytes, done .edge-bytes, rw count at p)
+    let all-nodes : f + 1 ≡ nodeCount b + 2 = omega (arith, qf) in
+    record {
+      edges-few = omega (arith, done .edges-few, qf, few);
+      edge-count = done .edge-count ∙ zero-add (length (blockEdges b));
+      node-bytes = rw all-nodes at (done .node-bytes);
+      edge-bytes = done .edge-bytes;
+      construct-bytes = rw count at p;
+    }
 
 pub chart-put : (n e c : ℕ) (out nodes edges parts out1 out2 out3 out4 T : List ℕ) → n ≤ length nodes → e ≤ length edges → c ≤ length parts
     → take (0 + length (take n nodes)) out1 ≡ take 0 out ++ take n nodes
@@ -83,14 +90,12 @@ bytes-long : (b : Block) → length (blockBytes b) ≡ 4 * length (blockNodes b)
 unfolding constructBytes
 bytes-long b = omega (arith, block-length b, length-nodes b, length-blockConstructs b)
 
-pub bytes-made : (b : Block) (n e c : ℕ) (N E C out : List ℕ) → n ≡ nodeCount b → e ≡ length (blockEdges b) → c ≡ constructCount b
-    → take (4 * (n + 2)) N ≡ flat nodeRecord (blockNodes b) → take (2 * e) E ≡ flat edgeRecord (blockEdges b)
-    → take (4 * length (blockConstructs b)) C ≡ flat (constructRecord 1) (blockConstructs b)
+pub bytes-made : (b : Block) (n e c : ℕ) (N E C out : List ℕ) → n ≡ nodeCount b → c ≡ constructCount b → Tabled b n e N E C
     → take (4 * (n + 2) + 2 * e + 4 * c + 16) out ≡ take (4 * (n + 2)) N ++ (take (2 * e) E ++ (take (4 * c) C ++ trailerBytes (trailerFor 1 (n + 2) e c)))
     → take (length (blockBytes b)) out ≡ blockBytes b
 unfolding blockBytes encode
-bytes-made b n e c N E C out qn qe qc hN hE hC h =
+bytes-made b n e c N E C out qn qc t h =
     let nodes : n + 2 ≡ length (blockNodes b) = omega (arith, qn, length-nodes b) in
     let parts : c ≡ length (blockConstructs b) = qc ∙ sym (length-blockConstructs b) in
-    let tables = rw (hN, hE, rw (sym parts) at hC) at h in
-    subst (λ (l : ℕ). take l out ≡ blockBytes b) (sym (bytes-long b)) (rw (nodes, qe, parts) at tables)
+    let tables = rw (t .node-bytes, t .edge-bytes, rw (sym parts) at (t .construct-bytes)) at h in
+    subst (λ (l : ℕ). take l out ≡ blockBytes b) (sym (bytes-long b)) (rw (nodes, t .edge-count, parts) at tables)

@@ -1,13 +1,14 @@
 -- What the tables of a listing's chart are filled from: blocks and items that were read before and have room in the tables.
 -- Assumes nothing.
 use mathlib.Core.Path.{_≡_}
-use mathlib.Core.Bool.{Bool, true, false}
+use mathlib.Core.Logic.{_≢_}
+use mathlib.Core.Bool.{Bool, true, false, cond}
 use mathlib.Core.List.{List, [], _∷_}
 use Prim.Native.Nat.{ℕ, suc, _+_, _-_, _*_, _≤_, _<_}
 use lib.Dec.{eqb, ltb}
 use lib.ListN.{length, getD}
 use Rattle.theory_listing.specs.Tree.{Block, end, nodeCount, constructCount, stop, closes, Cell, cell, cells, constructs}
-use Rattle.theory_listing.specs.Grammar.{closeBrace, Item, put, Read, upTo, pick, itemBy, blockOf}
+use Rattle.theory_listing.specs.Grammar.{plainLetter, barrierLetter, loopLetter, branchLetter, closeBrace, Item, put, Read, upTo, pick, itemBy, blockOf}
 use Rattle.call_listing.specs.Stored.{Stored, StoredParts}
 use Rattle.call_listing.specs.declared.tables.Spot.{Spot}
 
@@ -48,10 +49,42 @@ Filled b spot e nodes edges parts nodes' edges' parts' =
     Stored (cells b (spot .owner) (spot .part) (spot .node) (spot .follow)) (spot .node) (spot .node + nodeCount b) (spot .edge) e nodes edges nodes' edges'
     × StoredParts (constructs b (spot .owner) (spot .part)) (spot .part) (spot .part + constructCount b) parts parts'
 
+-- The records of the item at a spot are stored, and those of the block there, whatever fuel reads them.
+abbrev pub FilledItem : List ℕ → Spot → ℕ → List ℕ → List ℕ → List ℕ → List ℕ → List ℕ → List ℕ → Type 0
+FilledItem s spot e nodes edges parts nodes' edges' parts' =
+    (fuel : ℕ) (i : Item) (next : ℕ) → length s - spot .at ≤ fuel → itemAt fuel s spot ≡ upTo i next
+    → Filled (put i end) spot e nodes edges parts nodes' edges' parts'
+
+abbrev pub FilledBlock : List ℕ → Spot → ℕ → List ℕ → List ℕ → List ℕ → List ℕ → List ℕ → List ℕ → Type 0
+FilledBlock s spot e nodes edges parts nodes' edges' parts' =
+    (fuel : ℕ) (b : Block) (last : ℕ) → length s - spot .at < fuel → blockOf fuel s (spot .depth) (spot .at) ≡ upTo b last
+    → Filled b spot e nodes edges parts nodes' edges' parts'
+
+-- A construct stands at a spot: the letter there is none of a statement, a barrier, a loop or a branch.
+abbrev pub ConstructAt : List ℕ → Spot → Type 0
+ConstructAt s spot = let letter = getD s (spot .at) 0 in (letter ≢ plainLetter) × (letter ≢ barrierLetter) × (letter ≢ loopLetter) × (letter ≢ branchLetter)
+
 -- The end of the construct m in the construct o, at node k, which t follows; and the barrier between them, where one follows the construct.
 abbrev pub endCells : Bool → ℕ → ℕ → ℕ → ℕ → List Cell
 endCells true o m k t = cell k closes m o (suc k ∷ []) ∷ (cell (suc k) stop o o (t ∷ []) ∷ [])
 endCells false o m k t = cell k closes m o (t ∷ []) ∷ []
+
+-- There is room for the end, node k, of the construct of n nodes at a spot, and for the barrier that may follow.
+abbrev pub EndRoom : Spot → ℕ → ℕ → ℕ → List ℕ → List ℕ → Type 0
+EndRoom spot n k e nodes edges =
+    (k + 1 ≤ spot .node + n)
+    × (spot .node + n ≤ 191)
+    × (spot .follow ≤ 191)
+    × (spot .part < 48)
+    × (e ≤ 2 * k)
+    × (length nodes ≡ 768)
+    × (length edges ≡ 768)
+
+-- They are stored: the end alone where it is the last of the n nodes, else the barrier after it.
+abbrev pub StoredEnd : Spot → ℕ → ℕ → ℕ → ℕ → List ℕ → List ℕ → List ℕ → List ℕ → Type 0
+StoredEnd spot n k e e' nodes edges nodes' edges' =
+    (barrier : Bool) → spot .node + n ≡ k + 1 + cond barrier 1 0
+    → Stored (endCells barrier (spot .owner) (spot .part) k (spot .follow)) k (spot .node + n) e e' nodes edges nodes' edges'
 
 -- Where a way into the block at a place leads: to k, its first node, or to t where it is empty.
 abbrev pub aheadOf : List ℕ → ℕ → ℕ → ℕ → ℕ

@@ -1,20 +1,16 @@
 // The chart of a listing, written to a lent buffer (02, Note 2). It is put together in scratch memory, and nothing is written before the last row
 // has let it pass.
 ghost use mathlib.Core.Path.{_≡_};
-ghost use mathlib.Core.List.{_++_};
-ghost use Prim.Native.Nat.{ℕ, _+_, _*_, _≤_};
+ghost use Prim.Native.Nat.{ℕ, _+_, _*_};
 ghost use lib.ListN.{length, take};
 ghost use Rattle.chart.specs.Checked.{Laid};
-ghost use Rattle.chart_writing.specs.Bytes.{trailerBytes};
-ghost use Rattle.chart_writing.specs.Encode.{nodeRecord, edgeRecord, constructRecord, flat};
-ghost use Rattle.chart_writing.specs.Trailer.{trailerFor};
 ghost use Rattle.chart_writing.specs.ScratchTrailer.{Small as SmallChart};
 ghost use Rattle.output.specs.Output.{writtenBy, leftBy};
 ghost use Rattle.theory_listing.specs.Tree.{Block};
 ghost use Rattle.theory_listing.specs.Grammar.{upTo, listed};
-ghost use Rattle.theory_listing.specs.Meaning.{blockNodes, blockEdges, blockConstructs, blockBytes};
+ghost use Rattle.theory_listing.specs.Meaning.{blockBytes};
 ghost use Rattle.theory_listing.specs.Call.{listingWritten, listingLeft};
-ghost use Rattle.call_listing.specs.Chart.{countsFor, Small, lateRows};
+ghost use Rattle.call_listing.specs.Chart.{countsFor, Small, Tabled, Covers, tableBytes, lateRows};
 use crate::reader::Extent;
 use crate::reader::read_limited;
 use crate::records::put_cell;
@@ -43,7 +39,7 @@ fn fill_tables(
     parts: &mut [u8],
 ) -> usize
     requires { ⌜ ((constructs : ℕ) × Small (now text) count constructs) × (length (now nodes) ≡ 768) × (length (now edges) ≡ 768) × (length (now parts) ≡ 192) ⌝ }
-    ensures { λ r. ⌜ ((b : Block) (last : ℕ) → listed (now (text .entry)) ≡ upTo b last → (r ≤ 384) × (r ≡ length (blockEdges b)) × (take (4 * (count + 2)) (now (nodes .exit)) ≡ flat nodeRecord (blockNodes b)) × (take (2 * r) (now (edges .exit)) ≡ flat edgeRecord (blockEdges b)) × (take (4 * length (blockConstructs b)) (now (parts .exit)) ≡ flat (constructRecord 1) (blockConstructs b))) ⌝ }
+    ensures { λ r. ⌜ ((b : Block) (last : ℕ) → listed (now (text .entry)) ≡ upTo b last → Tabled b count r (now (nodes .exit)) (now (edges .exit)) (now (parts .exit))) ⌝ }
 {
     let finish = count + 1;
     let first = ahead(text, 0, 1, finish);
@@ -68,10 +64,10 @@ fn fill_tables(
 
 // The bytes of a chart of edition 1, from its tables.
 fn put_chart(out: &mut [u8], chart: Chart, nodes: &[u8], edges: &[u8], parts: &[u8])
-    requires { ⌜ (length (now out) ≡ 3122) × SmallChart chart × (4 * chart .nodes ≤ length (now nodes)) × (2 * chart .edges ≤ length (now edges)) × (4 * chart .constructs ≤ length (now parts)) ⌝ }
+    requires { ⌜ (length (now out) ≡ 3122) × SmallChart chart × Covers chart (now nodes) (now edges) (now parts) ⌝ }
     ensures { λ _.
-        let rest = take (4 * chart .constructs) (now (parts .entry)) ++ trailerBytes (trailerFor (chart .edition) (chart .nodes) (chart .edges) (chart .constructs)) in
-        ⌜ take (4 * chart .nodes + 2 * chart .edges + 4 * chart .constructs + 16) (now (out .exit)) ≡ take (4 * chart .nodes) (now (nodes .entry)) ++ (take (2 * chart .edges) (now (edges .entry)) ++ rest) ⌝ }
+        let bytes = 4 * chart .nodes + 2 * chart .edges + 4 * chart .constructs + 16 in
+        ⌜ take bytes (now (out .exit)) ≡ tableBytes chart (now (nodes .entry)) (now (edges .entry)) (now (parts .entry)) ⌝ }
 {
     let n = Node::BYTES * chart.nodes;
     let e = Edge::BYTES * chart.edges;

@@ -1,12 +1,10 @@
 // The records of a listing's chart, put one after the other: nodes, edges and constructs, each in a table of their own.
 ghost use mathlib.Core.Path.{_≡_};
 ghost use mathlib.Core.List.{[], _∷_, _++_};
-ghost use Prim.Native.Nat.{ℕ, _+_, _*_, _≤_, _<_};
+ghost use Prim.Native.Nat.{_+_, _*_, _≤_, _<_};
 ghost use lib.ListN.{length, take};
 ghost use Rattle.chart_writing.specs.Bytes.{fieldBytes};
-ghost use Rattle.theory_listing.specs.Tree.{Sort, cell, two};
-ghost use Rattle.theory_listing.specs.Meaning.{kindByte};
-ghost use Rattle.call_listing.specs.Stored.{Stored};
+ghost use Rattle.call_listing.specs.Stored.{StoredNode};
 use chart::format::Edge;
 use chart::format::Node;
 use chart_writing::scratch::put_byte;
@@ -44,7 +42,7 @@ pub fn put_cell(
     edges: &mut [u8],
 ) -> usize
     requires { ⌜ (4 * k + 4 ≤ length (now nodes)) × (2 * e + 4 ≤ length (now edges)) × (k < 256) × (x < 256) × (y < 256) ⌝ }
-    ensures { λ r. ⌜ ((sort : Sort) (lies : ℕ) → kindByte sort ≡ node .kind → Stored (cell k sort (node .number) lies (two x y) ∷ []) k (k + 1) e r (now (nodes .entry)) (now (edges .entry)) (now (nodes .exit)) (now (edges .exit))) ⌝ }
+    ensures { λ r. ⌜ StoredNode (node .kind) (node .number) k x y e r (now (nodes .entry)) (now (edges .entry)) (now (nodes .exit)) (now (edges .exit)) ⌝ }
 {
     put_record(nodes, k, node.kind, node.number);
     if x < y {

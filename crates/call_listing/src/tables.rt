@@ -1,14 +1,10 @@
 // The tables of a listing's chart, filled from a text that was read before: nodes in the order of their numbers, edges node by node, constructs.
 // A block calls for items and an item for blocks; the bytes left fall.
 ghost use mathlib.Core.Path.{_≡_};
-ghost use mathlib.Core.Logic.{_≢_};
-ghost use mathlib.Core.Bool.{Bool, cond};
-ghost use Prim.Native.Nat.{ℕ, _+_, _*_, _-_, _≤_, _<_};
-ghost use lib.ListN.{length, getD};
-ghost use Rattle.theory_listing.specs.Tree.{Block, end};
-ghost use Rattle.theory_listing.specs.Grammar.{plainLetter, barrierLetter, loopLetter, branchLetter, Item, put, upTo, blockOf};
-ghost use Rattle.call_listing.specs.Stored.{Stored};
-ghost use Rattle.call_listing.specs.Reads.{Reads, Takes, Room, Filled, itemAt, endCells, aheadOf};
+ghost use Prim.Native.Nat.{ℕ};
+ghost use lib.ListN.{getD};
+ghost use Rattle.theory_listing.specs.Grammar.{loopLetter, branchLetter};
+ghost use Rattle.call_listing.specs.Reads.{Reads, Takes, Room, ConstructAt, EndRoom, FilledItem, FilledBlock, StoredEnd, aheadOf};
 use crate::letters;
 use crate::reader::Extent;
 use crate::reader::block;
@@ -58,7 +54,7 @@ pub fn ahead(s: &[u8], at: usize, k: usize, t: usize) -> usize
 // A loop: its head, and its block, which leads back.
 fn fill_loop(s: &[u8], spot: Spot, nodes: &mut [u8], edges: &mut [u8], parts: &mut [u8]) -> usize
     requires { ⌜ (getD (now s) (spot .at) 0 ≡ loopLetter) × ((n : ℕ) × Takes (now s) spot n) × Room spot (now nodes) (now edges) (now parts) ⌝ }
-    ensures { λ r. ⌜ ((fuel : ℕ) (i : Item) (next : ℕ) → length (now (s .entry)) - spot .at ≤ fuel → itemAt fuel (now (s .entry)) spot ≡ upTo i next → Filled (put i end) spot r (now (nodes .entry)) (now (edges .entry)) (now (parts .entry)) (now (nodes .exit)) (now (edges .exit)) (now (parts .exit))) ⌝ }
+    ensures { λ r. ⌜ FilledItem (now (s .entry)) spot r (now (nodes .entry)) (now (edges .entry)) (now (parts .entry)) (now (nodes .exit)) (now (edges .exit)) (now (parts .exit)) ⌝ }
 {
     let k = spot.node;
     let first = k + 1;
@@ -99,7 +95,7 @@ fn fill_branch(
     parts: &mut [u8],
 ) -> usize
     requires { ⌜ (getD (now s) (spot .at) 0 ≡ branchLetter) × Takes (now s) spot n × Room spot (now nodes) (now edges) (now parts) ⌝ }
-    ensures { λ r. ⌜ ((fuel : ℕ) (i : Item) (next : ℕ) → length (now (s .entry)) - spot .at ≤ fuel → itemAt fuel (now (s .entry)) spot ≡ upTo i next → Filled (put i end) spot r (now (nodes .entry)) (now (edges .entry)) (now (parts .entry)) (now (nodes .exit)) (now (edges .exit)) (now (parts .exit))) ⌝ }
+    ensures { λ r. ⌜ FilledItem (now (s .entry)) spot r (now (nodes .entry)) (now (edges .entry)) (now (parts .entry)) (now (nodes .exit)) (now (edges .exit)) (now (parts .exit)) ⌝ }
 {
     let k = spot.node;
     let first = k + 1;
@@ -151,8 +147,8 @@ fn fill_branch(
 
 // The end of the construct of n nodes at a spot, which is node k, and the barrier that follows it, where there is one.
 fn put_end(spot: Spot, n: usize, k: usize, edge: usize, nodes: &mut [u8], edges: &mut [u8]) -> usize
-    requires { ⌜ (k + 1 ≤ spot .node + n) × (spot .node + n ≤ 191) × (spot .follow ≤ 191) × (spot .part < 48) × (edge ≤ 2 * k) × (length (now nodes) ≡ 768) × (length (now edges) ≡ 768) ⌝ }
-    ensures { λ r. ⌜ ((barrier : Bool) → spot .node + n ≡ k + 1 + cond barrier 1 0 → Stored (endCells barrier (spot .owner) (spot .part) k (spot .follow)) k (spot .node + n) edge r (now (nodes .entry)) (now (edges .entry)) (now (nodes .exit)) (now (edges .exit))) ⌝ }
+    requires { ⌜ EndRoom spot n k edge (now nodes) (now edges) ⌝ }
+    ensures { λ r. ⌜ StoredEnd spot n k edge r (now (nodes .entry)) (now (edges .entry)) (now (nodes .exit)) (now (edges .exit)) ⌝ }
 {
     let end = Node {
         kind: Node::END,
@@ -185,8 +181,8 @@ fn fill_construct(
     edges: &mut [u8],
     parts: &mut [u8],
 ) -> usize
-    requires { ⌜ (getD (now s) (spot .at) 0 ≢ plainLetter) × (getD (now s) (spot .at) 0 ≢ barrierLetter) × (getD (now s) (spot .at) 0 ≢ loopLetter) × (getD (now s) (spot .at) 0 ≢ branchLetter) × Takes (now s) spot n × Room spot (now nodes) (now edges) (now parts) ⌝ }
-    ensures { λ r. ⌜ ((fuel : ℕ) (i : Item) (next : ℕ) → length (now (s .entry)) - spot .at ≤ fuel → itemAt fuel (now (s .entry)) spot ≡ upTo i next → Filled (put i end) spot r (now (nodes .entry)) (now (edges .entry)) (now (parts .entry)) (now (nodes .exit)) (now (edges .exit)) (now (parts .exit))) ⌝ }
+    requires { ⌜ ConstructAt (now s) spot × Takes (now s) spot n × Room spot (now nodes) (now edges) (now parts) ⌝ }
+    ensures { λ r. ⌜ FilledItem (now (s .entry)) spot r (now (nodes .entry)) (now (edges .entry)) (now (parts .entry)) (now (nodes .exit)) (now (edges .exit)) (now (parts .exit)) ⌝ }
 {
     let k = spot.node;
     let m = spot.part;
@@ -237,7 +233,7 @@ fn fill_item(
     parts: &mut [u8],
 ) -> usize
     requires { ⌜ Takes (now s) spot n × Room spot (now nodes) (now edges) (now parts) ⌝ }
-    ensures { λ r. ⌜ ((fuel : ℕ) (i : Item) (next : ℕ) → length (now (s .entry)) - spot .at ≤ fuel → itemAt fuel (now (s .entry)) spot ≡ upTo i next → Filled (put i end) spot r (now (nodes .entry)) (now (edges .entry)) (now (parts .entry)) (now (nodes .exit)) (now (edges .exit)) (now (parts .exit))) ⌝ }
+    ensures { λ r. ⌜ FilledItem (now (s .entry)) spot r (now (nodes .entry)) (now (edges .entry)) (now (parts .entry)) (now (nodes .exit)) (now (edges .exit)) (now (parts .exit)) ⌝ }
 {
     let at = spot.at;
     let letter = s[at];
@@ -287,7 +283,7 @@ pub fn fill_block(
     parts: &mut [u8],
 ) -> usize
     requires { ⌜ Reads (now s) spot × Room spot (now nodes) (now edges) (now parts) ⌝ }
-    ensures { λ r. ⌜ ((fuel : ℕ) (b : Block) (last : ℕ) → length (now (s .entry)) - spot .at < fuel → blockOf fuel (now (s .entry)) (spot .depth) (spot .at) ≡ upTo b last → Filled b spot r (now (nodes .entry)) (now (edges .entry)) (now (parts .entry)) (now (nodes .exit)) (now (edges .exit)) (now (parts .exit))) ⌝ }
+    ensures { λ r. ⌜ FilledBlock (now (s .entry)) spot r (now (nodes .entry)) (now (edges .entry)) (now (parts .entry)) (now (nodes .exit)) (now (edges .exit)) (now (parts .exit)) ⌝ }
 {
     let mut here = spot;
     while here.at < s.len() {

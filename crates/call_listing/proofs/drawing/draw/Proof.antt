@@ -46,10 +46,12 @@ put-chart-requires c κs =
     let small = e .pre .0 in
     let full = fill .ensures (small .block) (small .last) (small .read) in (
       e .pre .1,
-      (omega arith, omega (arith, small .nodes-fit), omega (arith, full .0), small .constructs-fit),
-      omega (arith, small .nodes-fit, c .before .before .before .before .before .before .node-table2 .given),
-      omega (arith, full .0, c .before .before .before .before .before .edge-table2 .given),
-      omega (arith, small .constructs-fit, c .before .before .before .before .part-table2 .given),
+      (omega arith, omega (arith, small .nodes-fit), omega (arith, full .edges-few), small .constructs-fit),
+      (
+        omega (arith, small .nodes-fit, c .before .before .before .before .before .before .node-table2 .given),
+        omega (arith, full .edges-few, c .before .before .before .before .before .edge-table2 .given),
+        omega (arith, small .constructs-fit, c .before .before .before .before .part-table2 .given),
+      ),
     )
 
 same-length : tie.Need-same-length
@@ -69,7 +71,7 @@ returns c =
     let constructs = small .construct-count ∙ ap constructCount same in
     let full = fill .ensures b last h in
     let two : a .nodes + 2 ≡ suc (suc (nodeCount b)) = omega (arith, nodes) in
-    (same-chart refl two (full .1) constructs refl, bytes-made b (a .nodes) (fill .result) (a .constructs) _ _ _ _ nodes (full .1) constructs (full .2) (full .3) (full .4) (put .ensures))
+    (same-chart refl two (full .edge-count) constructs refl, bytes-made b (a .nodes) (fill .result) (a .constructs) _ _ _ _ nodes constructs full (put .ensures))
 
 pub draw-spec : {M : Type 1} → statement M
 draw-spec = tie.close (tie.spec slice-aggregate-fill-tables slice-aggregate-fill-tables-2 slice-aggregate-fill-tables-3 fill-tables-requires add-t16 slice-aggregate-put-chart slice-aggregate-put-chart-2 slice-aggregate-put-chart-3 put-chart-requires same-length returns)

@@ -90,8 +90,7 @@ returns c =
     let read = listed-read text b last h in
     let filled = fill .ensures (suc (length text)) b last (omega arith) read in
     let way = ahead .ensures ∙ ahead-first text 16 0 b last (suc (length text)) (omega arith) read 1 f in
-    let two : a .count + 1 + 1 ≡ a .count + 2 = omega arith in
-    rw two at
+    rw (← (small .node-count ∙ count)) at
     (tables-made b (ahead .result) f (cell .result) (fill .result) _ _ (a .parts .now) _ _ _ _ _ _ (omega (arith, count, small .node-count, small .nodes-fit)) (omega (arith, count, small .node-count)) way
     (cell .ensures stop 255 kind-stop) (filled .0) (filled .1) (last-put .ensures))
 

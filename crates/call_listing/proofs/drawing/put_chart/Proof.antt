@@ -30,7 +30,7 @@ known : (e : tie.Start) → let a = e .args in let n = 4 * a .chart .nodes in le
     (length (take n (a .nodes .now)) ≡ n) × (length (take m (a .edges .now)) ≡ m) × (length (take k (a .parts .now)) ≡ k) × (n + m + k + 16 ≤ length (a .out .now))
 known e =
     let a = e .args in
-    let (long, small, fn, fe, fc) = e .pre in
+    let (long, small, (fn, fe, fc)) = e .pre in
     (length-take-le _ (a .nodes .now) fn, length-take-le _ (a .edges .now) fe, length-take-le _ (a .parts .now) fc, omega (arith, long, small .1, small .2, small .3))
 
 slice-aggregate-put-part : tie.Need-slice-aggregate-put-part
@@ -77,7 +77,7 @@ returns c =
     let one = two .before .before .before .before .before in
     let a = start one .args in
     let chart = a .chart in
-    let (long, small, fn, fe, fc) = start one .pre in
+    let (long, small, (fn, fe, fc)) = start one .pre in
     chart-put (4 * chart .nodes) (2 * chart .edges) (4 * chart .constructs) (a .out .now) (a .nodes .now) (a .edges .now) (a .parts .now) _ _ _ _
     (trailerBytes (trailerFor (chart .edition) (chart .nodes) (chart .edges) (chart .constructs))) fn fe fc
     (one .put-part .ensures .0) (two .put-part2 .ensures .0) (three .put-part3 .ensures .0) (c .before .before .put-trailer .ensures)

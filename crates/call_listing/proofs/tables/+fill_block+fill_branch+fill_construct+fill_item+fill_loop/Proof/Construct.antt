@@ -33,13 +33,13 @@ module _ (t : ℕ) where
   pre = reached construct-kinds.ps μ-construct construct.Pre t
 
   -- the construct that was taken
-  known : (e : lts.Start calls pre construct.Post) → let took = e .pre .1 .4 in InConstruct (e .args .s .now) (e .args .spot) (e .args .n) (took .fuel) (took .item)
+  known : (e : lts.Start calls pre construct.Post) → let took = e .pre .1 .1 in InConstruct (e .args .s .now) (e .args .spot) (e .args .n) (took .fuel) (took .item)
   known e =
-      let (plain, barrier, loop, branch, took, room) = e .pre .1 in
+      let ((plain, barrier, loop, branch), took, room) = e .pre .1 in
       in-construct (e .args .s .now) (e .args .spot) (e .args .n) took (took .fuel) (took .item) (took .next) (took .enough) (took .read) plain barrier loop branch
 
   parts-few : (e : lts.Start calls pre construct.Post) → e .args .spot .part + 1 + constructCount (known e .block) ≤ 48
-  parts-few e = omega (arith, known e .parts-are, e .pre .1 .4 .parts-fit)
+  parts-few e = omega (arith, known e .parts-are, e .pre .1 .1 .parts-fit)
 
   -- where the function was called, and how many nodes the reader told
   abbrev start : lts.After-block calls pre construct.Post → lts.Start calls pre construct.Post
@@ -83,18 +83,18 @@ module _ (t : ℕ) where
   add-end c = omega (arith, end-few (c .before))
 
   read-letter : lts.Need-shared-slice-read-letter-kind calls pre construct.Post
-  read-letter c = start (asked (c .before .before .before)) .pre .1 .4 .below
+  read-letter c = start (asked (c .before .before .before)) .pre .1 .1 .below
 
   put-record-requires : lts.Need-put-record-requires calls pre construct.Post
   put-record-requires c κs =
       let e = start (asked (c .before .before .before .before)) in
-      omega (arith, e .pre .1 .5 .2, parts-few e)
+      omega (arith, e .pre .1 .2 .2, parts-few e)
 
   put-cell-requires : lts.Need-put-cell-requires calls pre construct.Post
   put-cell-requires c κs =
       let e = start (asked (read (listed c))) in
       let spot = e .args .spot in
-      let room = e .pre .1 .5 in
+      let room = e .pre .1 .2 in
       let p = known e .inside in
       cell-room (spot .node) (spot .edge) _ _ (room .0) (room .1) (p .node-few) (room .4) (p .first-few) (p .first-few)
 
@@ -109,7 +109,7 @@ module _ (t : ℕ) where
       let edges = c .before .before .before .before in
       let cell = begun c in
       let e = start (asked (read (listed (cell .before)))) in
-      let room = e .pre .1 .5 in
+      let room = e .pre .1 .2 in
       let k = e .args .spot .node in (
         edges .before .before .nodes .given ∙ room .0,
         edges .edges .given ∙ room .1,
@@ -136,7 +136,7 @@ module _ (t : ℕ) where
       let e = start (asked (at-end c)) in
       let p = known e in
       let k = e .args .spot .node + 1 in
-      let one = filled c .fill-block .ensures (e .pre .1 .4 .fuel) (p .block) (p .inside .close) (p .inside .enough) (p .inside .read) .0 .edges-few in
+      let one = filled c .fill-block .ensures (e .pre .1 .1 .fuel) (p .block) (p .inside .close) (p .inside .enough) (p .inside .read) .0 .edges-few in
       let (nodes, edges, parts, few) = begin-put (filled c .before) in (
         last .before .before .before .before .nodes2 .given ∙ nodes,
         last .before .before .edges2 .given ∙ edges,
@@ -149,15 +149,15 @@ module _ (t : ℕ) where
       let e = start (asked (at-end c)) in
       let p = known e in
       let (nodes, edges, parts, few) = block-filled c in
-      (omega (arith, nodes-told (at-end c), p .size), e .pre .1 .4 .nodes-fit, e .pre .1 .5 .3, omega (arith, parts-few e), few, nodes, edges)
+      (omega (arith, nodes-told (at-end c), p .size), e .pre .1 .1 .nodes-fit, e .pre .1 .2 .3, omega (arith, parts-few e), few, nodes, edges)
 
   abbrev room-at : (c : lts.After-put-end-arg2 calls pre construct.Post) → let a = start (asked (at-end c)) .args in Room (a .spot) (a .nodes .now) (a .edges .now) (a .parts .now)
-  room-at c = start (asked (at-end c)) .pre .1 .5
+  room-at c = start (asked (at-end c)) .pre .1 .2
 
   returns : lts.Need-returns calls pre construct.Post
   returns c =
       let e = start (c .before .before) in
-      let (plain, barrier, loop, branch, took, room) = e .pre .1 in
+      let ((plain, barrier, loop, branch), took, room) = e .pre .1 in
       λ fuel i next h r.
       let p = in-construct _ (e .args .spot) (e .args .n) took fuel i next h r plain barrier loop branch in
       absurd (never-stopped _ _ (p .inside) (c .before .before .block .ensures .1) (c .enum-told .given .1))
@@ -172,7 +172,7 @@ module _ (t : ℕ) where
       let e = start (asked at) in
       let s = e .args .s .now in
       let spot = e .args .spot in
-      let (plain, barrier, loop, branch, took, room) = e .pre .1 in
+      let ((plain, barrier, loop, branch), took, room) = e .pre .1 in
       let end = spot .node + 1 + at .z .given .0 .1 .0 in
       λ fuel i next h r.
       let p = in-construct s spot (e .args .n) took fuel i next h r plain barrier loop branch in

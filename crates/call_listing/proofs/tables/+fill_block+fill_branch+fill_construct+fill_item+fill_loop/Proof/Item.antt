@@ -75,7 +75,7 @@ module _ (t : ℕ) where
   fill-construct-requires c κs =
       let side = c .before .before .before in
       let e = else3 (side .before) in
-      (omega (arith, e .pre .0), (side .before .before .before .if1 .left, side .before .before .if2 .left, side .before .if3 .left, side .if4 .left, e .pre .1 .0, e .pre .1 .1))
+      (omega (arith, e .pre .0), ((side .before .before .before .if1 .left, side .before .before .if2 .left, side .before .if3 .left, side .if4 .left), e .pre .1 .0, e .pre .1 .1))
 
   pub closed : {M : Type 1} → lts.Closed calls pre item.Post M
   closed = lts.spec calls pre item.Post (λ c. start c .pre .1 .0 .below)
