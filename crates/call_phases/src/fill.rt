@@ -3,10 +3,8 @@ ghost use mathlib.Core.Path.{_≡_};
 ghost use Prim.Native.Nat.{_*_, _≤_};
 ghost use mathlib.Core.List.{_++_};
 ghost use lib.ListN.{length, drop};
-ghost use Rattle.chart.specs.Region.{Region};
-ghost use Rattle.theory_paths.specs.Phases.{forward, backward};
-ghost use Rattle.mark_tables.specs.Tables.{Masks};
 ghost use Rattle.theory_calls.specs.Phases.{phasesResult};
+ghost use Rattle.call_phases.specs.Writing.{OfMasks};
 use crate::bytes::put_mask;
 use chart::format::Chart;
 use output::Written;
@@ -19,7 +17,7 @@ pub fn fill_phases(
     ends: &[u64; Chart::NODES],
 )
     requires { ⌜ (n ≤ 192) × (16 * n ≤ length (now out)) ⌝ }
-    ensures { λ _. ⌜ ((R : Region) → R .nodes ≡ n → Masks forward R (now (starts .entry)) → Masks backward R (now (ends .entry)) → now (out .exit) ≡ phasesResult R ++ drop (length (phasesResult R)) (now (out .entry))) ⌝ }
+    ensures { λ _. ⌜ OfMasks n (now (starts .entry)) (now (ends .entry)) (λ R. now (out .exit) ≡ phasesResult R ++ drop (length (phasesResult R)) (now (out .entry))) ⌝ }
 {
     let mut x = 0;
     while x < n {

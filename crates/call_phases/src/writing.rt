@@ -1,13 +1,11 @@
 // Phases as a call on slices: it writes a result to a lent buffer.
 ghost use mathlib.Core.Path.{_≡_};
-ghost use mathlib.Core.List.{[]};
 ghost use Prim.Native.Nat.{_≤_};
 ghost use lib.ListN.{length};
 ghost use Rattle.chart.specs.Region.{Region};
-ghost use Rattle.theory_paths.specs.Phases.{forward, backward};
-ghost use Rattle.mark_tables.specs.Tables.{Masks};
-ghost use Rattle.output.specs.Output.{outputRows, writtenBy, leftBy};
+ghost use Rattle.output.specs.Output.{writtenBy, leftBy};
 ghost use Rattle.theory_calls.specs.Phases.{phasesResult, phasesWritten, phasesLeft};
+ghost use Rattle.call_phases.specs.Writing.{OfMasks, phasesRows};
 use crate::fill::fill_phases;
 use chart::format::Chart;
 use mark_regions::entrance::enter;
@@ -23,8 +21,8 @@ fn write_phases(
     out: &mut [u8],
 ) -> Written
     requires { ⌜ n ≤ 192 ⌝ }
-    ensures { λ r. ⌜ ((R : Region) → R .nodes ≡ n → r ≡ writtenBy (outputRows [] (length (now (out .entry))) (length (phasesResult R)) []) (length (phasesResult R))) ⌝ }
-    ensures { λ _. ⌜ ((R : Region) → R .nodes ≡ n → Masks forward R (now (starts .entry)) → Masks backward R (now (ends .entry)) → now (out .exit) ≡ leftBy (outputRows [] (length (now (out .entry))) (length (phasesResult R)) []) (phasesResult R) (now (out .entry))) ⌝ }
+    ensures { λ r. ⌜ ((R : Region) → R .nodes ≡ n → r ≡ writtenBy (phasesRows R (now (out .entry))) (length (phasesResult R))) ⌝ }
+    ensures { λ _. ⌜ OfMasks n (now (starts .entry)) (now (ends .entry)) (λ R. now (out .exit) ≡ leftBy (phasesRows R (now (out .entry))) (phasesResult R) (now (out .entry))) ⌝ }
 {
     match room_for(Written::PHASES_NODE * n, out.len()) {
         Written::Refused(refusal) => Written::Refused(refusal),
