@@ -13,7 +13,7 @@ use Rattle.chart.specs.declared.format.Refusal.{Refusal}
 use Rattle.chart.proofs.Rows.{first-decides, second-decides}
 use Rattle.theory_paths.specs.Admission.{admitRows, Admitted}
 use Rattle.theory_edits.specs.Splice.{inserted}
-use Rattle.theory_edits.specs.Edits.{askRows, receiptFor, answer, asked}
+use Rattle.theory_edits.specs.Edits.{askRows, receiptFor, askedBy, asked}
 use Rattle.theory_edits.specs.NoNode.{noNodeRow, no-node-refused, Unchanged, as-bytes}
 use Rattle.theory_edits.specs.declared.Receipt.{Receipt}
 use Rattle.theory_edits.specs.declared.Asked.the-variants.{Admitted as Granted, Refused}
@@ -21,8 +21,8 @@ use Rattle.call_edges.specs.Asking.{frontRows, receiptOn, askedOn}
 use Rattle.call_edges.proofs.CheckLaws.{front-admitted}
 
 -- an answer read backwards
-pub refused-some : (o : Option ℕ) (receipt : Receipt) {refusal : Refusal} → answer o receipt ≡ Refused refusal → o ≡ some (refusal .number)
-unfolding answer
+pub refused-some : (o : Option ℕ) (receipt : Receipt) {refusal : Refusal} → askedBy o receipt ≡ Refused refusal → o ≡ some (refusal .number)
+unfolding askedBy
 refused-some none receipt h = absurd (bad (cc))
 refused-some (some number) receipt {refusal} h = ap some (ap (λ (r : Refusal). r .number) same)
   where
@@ -35,17 +35,17 @@ apart h = bad (cc)
 -- by the rows of the longer chart
 module _ (s : List ℕ) (x y : ℕ) where
   pub longer-refused : (number : ℕ) → firstOf (admitRows (inserted s x y)) ≡ some number → Refused (record { number = number }) ≡ askedOn s x y
-  unfolding answer
+  unfolding askedBy
   longer-refused number h = rw h
 
   pub longer-admitted : firstOf (admitRows (inserted s x y)) ≡ none → Granted (receiptOn s x y) ≡ askedOn s x y
-  unfolding answer
+  unfolding askedBy
   longer-admitted h = rw h
 
 -- after the rows of the present chart
 module _ (buffer : List ℕ) (len x y : ℕ) where
   pub front-refused : (number : ℕ) → firstOf (frontRows buffer len) ≡ some number → Refused (record { number = number }) ≡ asked buffer len x y
-  unfolding asked askRows answer
+  unfolding asked askRows askedBy
   front-refused number h = rw (first-decides (frontRows buffer len) (admitRows (inserted (take len buffer) x y)) number h)
 
   pub front-passed : firstOf (frontRows buffer len) ≡ none → askedOn (take len buffer) x y ≡ asked buffer len x y
@@ -59,9 +59,9 @@ module _ (s : List ℕ) (admits : Admitted s) (x y : ℕ) where
   read = as-bytes s admits (λ u v. firstOf (admitRows (inserted s u v)) ≡ some (noNodeRow s)) (no-node-refused s admits) x y
 
   pub asked-as-bytes : askedOn s (min x 255) (min y 255) ≡ askedOn s x y
-  unfolding answer
+  unfolding askedBy
   asked-as-bytes = elim read [ inl (p, q) ↦ rw (p, q) | inr (h, k) ↦ rw (h, k) ]
 
   pub inserted-as-bytes : {receipt : Receipt} → askedOn s x y ≡ Granted receipt → inserted s (min x 255) (min y 255) ≡ inserted s x y
-  unfolding answer
+  unfolding askedBy
   inserted-as-bytes h = elim read [ inl (p, q) ↦ rw (p, q) | inr (f, k) ↦ absurd (apart (rw k at h)) ]

@@ -7,7 +7,7 @@ use Rattle.chart.specs.Format.{decode}
 use Rattle.chart.specs.Refusal.{Row, firstOf}
 use Rattle.theory_paths.specs.Admission.{admitRows}
 use Rattle.theory_edits.specs.Splice.{place, inserted}
-use Rattle.theory_edits.specs.Edits.{lengthRow, answer}
+use Rattle.theory_edits.specs.Edits.{lengthRow, askedBy}
 use Rattle.theory_edits.specs.declared.Receipt.{Receipt}
 use Rattle.theory_edits.specs.declared.Asked.{Asked}
 
@@ -19,4 +19,4 @@ receiptOn s from to = record { length = length s; place = place (decode s .edges
 
 -- By the rows of the longer chart.
 abbrev pub askedOn : List ℕ → ℕ → ℕ → Asked
-askedOn s from to = answer (firstOf (admitRows (inserted s from to))) (receiptOn s from to)
+askedOn s from to = askedBy (firstOf (admitRows (inserted s from to))) (receiptOn s from to)

@@ -32,7 +32,7 @@ use Rattle.theory_listing.specs.Admitted.{block-decoded, block-laid}
 use Rattle.call_listing.specs.declared.reader.Extent.{Extent}
 use Rattle.call_listing.specs.declared.reader.Extent.the-variants.{UpTo, Stopped}
 use Rattle.call_listing.specs.Extent.{refused, extentOf, limitedTo}
-use Rattle.call_listing.specs.Chart.{countsFor, Small, lateRows}
+use Rattle.call_listing.specs.Chart.{countsFor, ListedWithin, lateRows}
 use Rattle.call_listing.proofs.TablesLaws.{same-chart}
 
 module _ (bytes : List ℕ) (room : ℕ) where
@@ -59,7 +59,7 @@ module _ (bytes : List ℕ) (room : ℕ) where
         unfolding lateRows firstOf roomRow
         no-row h = rw (no-five, no-six, no-eight, le-ltb room (length bytes) h)
 
-module _ (text : List ℕ) (nodes constructs : ℕ) (small : Small text nodes constructs) where
+module _ (text : List ℕ) (nodes constructs : ℕ) (small : ListedWithin text nodes constructs) where
   abbrev b : Block
   b = small .block
 
@@ -94,11 +94,11 @@ numberIn (Stopped refusal) = refusal .number
 
 module _ (text : List ℕ) where
   -- few enough nodes and constructs were read
-  pub small-read : (last nodes constructs : ℕ) → UpTo last nodes constructs ≡ limitedTo (listed text) → Small text nodes constructs
+  pub small-read : (last nodes constructs : ℕ) → UpTo last nodes constructs ≡ limitedTo (listed text) → ListedWithin text nodes constructs
   unfolding limitedTo
   small-read last nodes constructs h = go (listed text) refl h
     where
-      on : (b : Block) (x : ℕ) → listed text ≡ upTo b x → (y : Bool) → tooMany b ≡ y → UpTo last nodes constructs ≡ pick y (λ u. refused 16) (λ u. extentOf (upTo b x)) → Small text nodes constructs
+      on : (b : Block) (x : ℕ) → listed text ≡ upTo b x → (y : Bool) → tooMany b ≡ y → UpTo last nodes constructs ≡ pick y (λ u. refused 16) (λ u. extentOf (upTo b x)) → ListedWithin text nodes constructs
       on b x r true t q = absurd (bad (cc))
       on b x r false t q =
           let n : nodes ≡ nodeCount b = cc in
@@ -114,7 +114,7 @@ module _ (text : List ℕ) where
             constructs-fit = omega (arith, c, ltb-false 48 (constructCount b) (limits .1));
           }
 
-      go : (read : Read Block) → listed text ≡ read → UpTo last nodes constructs ≡ limitedTo read → Small text nodes constructs
+      go : (read : Read Block) → listed text ≡ read → UpTo last nodes constructs ≡ limitedTo read → ListedWithin text nodes constructs
       go (upTo b x) r q = on b x r (tooMany b) refl q
       go (stopped number) r q = absurd (bad (cc))
 

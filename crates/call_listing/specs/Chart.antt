@@ -20,7 +20,7 @@ abbrev pub countsFor : Block → Chart
 countsFor b = record { edition = writtenEdition; nodes = suc (suc (nodeCount b)); edges = length (blockEdges b); constructs = constructCount b; region = outside }
 
 -- The whole text was read, and its nodes and constructs are within the limits.
-pub record Small (text : List ℕ) (nodes constructs : ℕ) : Type 0 where
+pub record ListedWithin (text : List ℕ) (nodes constructs : ℕ) : Type 0 where
   pub block : Block
   pub last : ℕ
   pub read : listed text ≡ upTo block last

@@ -4,13 +4,13 @@ ghost use mathlib.Core.Path.{_≡_};
 ghost use Prim.Native.Nat.{ℕ, _+_, _*_};
 ghost use lib.ListN.{length, take};
 ghost use Rattle.chart.specs.Checked.{Laid};
-ghost use Rattle.chart_writing.specs.ScratchTrailer.{Small as SmallChart};
+ghost use Rattle.chart_writing.specs.ScratchTrailer.{Small};
 ghost use Rattle.output.specs.Output.{writtenBy, leftBy};
 ghost use Rattle.theory_listing.specs.Tree.{Block};
 ghost use Rattle.theory_listing.specs.Grammar.{upTo, listed};
 ghost use Rattle.theory_listing.specs.Meaning.{blockBytes};
 ghost use Rattle.theory_listing.specs.Call.{listingWritten, listingLeft};
-ghost use Rattle.call_listing.specs.Chart.{countsFor, Small, Tabled, Covers, tableBytes, lateRows};
+ghost use Rattle.call_listing.specs.Chart.{countsFor, ListedWithin, Tabled, Covers, tableBytes, lateRows};
 use crate::reader::Extent;
 use crate::reader::read_limited;
 use crate::records::put_cell;
@@ -38,7 +38,7 @@ fn fill_tables(
     edges: &mut [u8],
     parts: &mut [u8],
 ) -> usize
-    requires { ⌜ ((constructs : ℕ) × Small (now text) count constructs) × (length (now nodes) ≡ 768) × (length (now edges) ≡ 768) × (length (now parts) ≡ 192) ⌝ }
+    requires { ⌜ ((constructs : ℕ) × ListedWithin (now text) count constructs) × (length (now nodes) ≡ 768) × (length (now edges) ≡ 768) × (length (now parts) ≡ 192) ⌝ }
     ensures { λ r. ⌜ ((b : Block) (last : ℕ) → listed (now (text .entry)) ≡ upTo b last → Tabled b count r (now (nodes .exit)) (now (edges .exit)) (now (parts .exit))) ⌝ }
 {
     let finish = count + 1;
@@ -64,7 +64,7 @@ fn fill_tables(
 
 // The bytes of a chart of edition 1, from its tables.
 fn put_chart(out: &mut [u8], chart: Chart, nodes: &[u8], edges: &[u8], parts: &[u8])
-    requires { ⌜ (length (now out) ≡ 3122) × SmallChart chart × Covers chart (now nodes) (now edges) (now parts) ⌝ }
+    requires { ⌜ (length (now out) ≡ 3122) × Small chart × Covers chart (now nodes) (now edges) (now parts) ⌝ }
     ensures { λ _.
         let bytes = 4 * chart .nodes + 2 * chart .edges + 4 * chart .constructs + 16 in
         ⌜ take bytes (now (out .exit)) ≡ tableBytes chart (now (nodes .entry)) (now (edges .entry)) (now (parts .entry)) ⌝ }
@@ -80,7 +80,7 @@ fn put_chart(out: &mut [u8], chart: Chart, nodes: &[u8], edges: &[u8], parts: &[
 
 // The chart of a text, in scratch memory.
 fn draw(text: &[u8], nodes: usize, constructs: usize, out: &mut [u8]) -> Chart
-    requires { ⌜ Small (now text) nodes constructs × (length (now out) ≡ 3122) ⌝ }
+    requires { ⌜ ListedWithin (now text) nodes constructs × (length (now out) ≡ 3122) ⌝ }
     ensures { λ r. ⌜ ((b : Block) (last : ℕ) → listed (now (text .entry)) ≡ upTo b last → (r ≡ countsFor b) × (take (length (blockBytes b)) (now (out .exit)) ≡ blockBytes b)) ⌝ }
 {
     let mut node_table = [0u8; Spot::NODE_BYTES];
@@ -129,7 +129,7 @@ fn hand_over(bytes: &[u8], chart: Chart, out: &mut [u8]) -> Written
 
 // The chart of a text that was read and has few enough nodes and constructs.
 fn write_chart(text: &[u8], nodes: usize, constructs: usize, out: &mut [u8]) -> Written
-    requires { ⌜ Small (now text) nodes constructs ⌝ }
+    requires { ⌜ ListedWithin (now text) nodes constructs ⌝ }
     ensures { λ r. ⌜ r ≡ listingWritten (now (text .entry)) (now (out .entry)) ⌝ }
     ensures { λ _. ⌜ now (out .exit) ≡ listingLeft (now (text .entry)) (now (out .entry)) ⌝ }
 {

@@ -14,7 +14,7 @@ enum Pattern {
     Plain,
     Barrier,
     Inner,
-    Frame,
+    BeginEnd,
     Critical,
     Masked,
     Step,
@@ -34,7 +34,7 @@ fn put_record(out: &mut [u8], at: usize, kind: u8, number: u8) -> usize {
     put_field(out, last, 0)
 }
 
-fn put_frame(out: &mut [u8], at: usize, number: u8) -> usize {
+fn put_begin_end(out: &mut [u8], at: usize, number: u8) -> usize {
     let next = put_record(out, at, Node::BEGIN, number);
     put_record(out, next, Node::END, number)
 }
@@ -58,7 +58,7 @@ fn put_pattern(out: &mut [u8], at: usize, pattern: Pattern, k: u16) -> usize {
         Pattern::Plain => put_record(out, at, Node::PLAIN, Construct::NONE),
         Pattern::Barrier => put_record(out, at, Node::BARRIER, Construct::NONE),
         Pattern::Inner => put_record(out, at, Node::BARRIER, 0),
-        Pattern::Frame => put_frame(out, at, (k % 256) as u8),
+        Pattern::BeginEnd => put_begin_end(out, at, (k % 256) as u8),
         Pattern::Critical => put_record(out, at, Construct::CRITICAL, Construct::NONE),
         Pattern::Masked => put_masked(out, at, k),
         Pattern::Step => put_edge(out, at, number, number + 1),
@@ -129,8 +129,8 @@ fn generate_longest(name: &[u8]) {
     let mut buffer = io::buffer();
     let start_end = repeat(&mut buffer, 0, Pattern::Barrier, 1);
     let plain_end = repeat(&mut buffer, start_end, Pattern::Plain, 94);
-    let frames_end = repeat(&mut buffer, plain_end, Pattern::Frame, 48);
-    let nodes_end = repeat(&mut buffer, frames_end, Pattern::Barrier, 1);
+    let pairs_end = repeat(&mut buffer, plain_end, Pattern::BeginEnd, 48);
+    let nodes_end = repeat(&mut buffer, pairs_end, Pattern::Barrier, 1);
     let edges_end = repeat(&mut buffer, nodes_end, Pattern::Longest, 1024);
     let constructs_end = repeat(&mut buffer, edges_end, Pattern::Masked, 48);
     let ends = Ends {
@@ -147,8 +147,22 @@ pub fn limits() {
     generate(b"nodes-193", Pattern::Plain, 191, Pattern::Step, 192, 0);
     generate(b"edges-1024", Pattern::Plain, 31, Pattern::Grid, 1024, 0);
     generate(b"edges-1025", Pattern::Plain, 31, Pattern::Grid, 1025, 0);
-    generate(b"constructs-48", Pattern::Frame, 48, Pattern::Step, 97, 48);
-    generate(b"constructs-49", Pattern::Frame, 49, Pattern::Step, 99, 49);
+    generate(
+        b"constructs-48",
+        Pattern::BeginEnd,
+        48,
+        Pattern::Step,
+        97,
+        48,
+    );
+    generate(
+        b"constructs-49",
+        Pattern::BeginEnd,
+        49,
+        Pattern::Step,
+        99,
+        49,
+    );
     generate(b"barriers-64", Pattern::Barrier, 62, Pattern::Step, 63, 0);
     generate(b"barriers-65", Pattern::Barrier, 63, Pattern::Step, 64, 0);
     generate_region(b"region-barriers-64", 62, 65);

@@ -13,20 +13,20 @@ use Rattle.chart.proofs.Rows.{none-applies, both-pass, second-decides}
 use Rattle.output.specs.Output.{written, writtenBy}
 use Rattle.output.specs.declared.Written.the-variants.{Bytes}
 use Rattle.output.proofs.Outputs.{bytes-none}
-use Rattle.theory_edits.specs.Edits.{askRows, receiptFor, answer, asked, numberOf, receiptOf, receiptRow, spaceRow, commitRows, insertWritten}
+use Rattle.theory_edits.specs.Edits.{askRows, receiptFor, askedBy, asked, numberOf, receiptOf, receiptRow, spaceRow, commitRows, insertWritten}
 use Rattle.theory_edits.specs.AskCorrect.{AskCorrect}
 use Rattle.theory_edits.specs.declared.Receipt.{Receipt}
 use Rattle.theory_edits.specs.declared.Asked.the-variants.{Admitted}
 
 -- an answer read backwards
-pub granted : (o : Option ℕ) {r q : Receipt} → answer o r ≡ Admitted q → (o ≡ none) × (r ≡ q)
-unfolding answer
+pub granted : (o : Option ℕ) {r q : Receipt} → askedBy o r ≡ Admitted q → (o ≡ none) × (r ≡ q)
+unfolding askedBy
 granted none h = (refl, cc)
 granted (some number) h = absurd (bad (cc))
 
 -- What 02 asks of asking.
 pub ask-correct : (buffer : List ℕ) (len x y : ℕ) → AskCorrect buffer len x y (numberOf (asked buffer len x y)) (receiptOf (asked buffer len x y))
-unfolding asked answer numberOf receiptOf
+unfolding asked askedBy numberOf receiptOf
 ask-correct buffer len x y = record { refuses = λ row h. rw h (refl, refl); admits = λ h. rw h (refl, refl) }
 
 same-receipt : {a b c d : ℕ} → a ≡ c → b ≡ d → _≡_ {A = Receipt} (record { length = a; place = b }) (record { length = c; place = d })
@@ -53,7 +53,7 @@ module _ (buffer : List ℕ) (len : ℕ) (receipt : Receipt) (from to : ℕ) whe
       )
 
   pub committed-asked : {count : ℕ} → insertWritten buffer len receipt from to ≡ Bytes count → asked buffer len from to ≡ Admitted receipt
-  unfolding asked insertWritten commitRows receiptRow writtenBy answer
+  unfolding asked insertWritten commitRows receiptRow writtenBy askedBy
   committed-asked h =
       let (passes, rest) = both-pass (askRows buffer len from to) later (bytes-none _ h .0) in
       let (p, q) = and-both (eqb (receipt .length) (now .length)) (eqb (receipt .place) (now .place)) (not-false _ (none-applies later rest .0)) in

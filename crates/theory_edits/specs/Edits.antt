@@ -34,13 +34,13 @@ askRows buffer len from to =
 unfoldable pub receiptFor : List ℕ → ℕ → ℕ → ℕ → Receipt
 receiptFor buffer len from to = record { length = len; place = place (decode (take len buffer) .edges) from to }
 
-unfoldable pub answer : Option ℕ → Receipt → Asked
-answer none receipt = Admitted receipt
-answer (some number) receipt = Refused (record { number = number })
+unfoldable pub askedBy : Option ℕ → Receipt → Asked
+askedBy none receipt = Admitted receipt
+askedBy (some number) receipt = Refused (record { number = number })
 
 -- Asking, over any bytes, any length and any edge.
 unfoldable pub asked : List ℕ → ℕ → ℕ → ℕ → Asked
-asked buffer len from to = answer (firstOf (askRows buffer len from to)) (receiptFor buffer len from to)
+asked buffer len from to = askedBy (firstOf (askRows buffer len from to)) (receiptFor buffer len from to)
 
 -- 01's number for every case: 0 where the longer chart would be admitted, a refusal's number negated.
 unfoldable pub numberOf : Asked → ℤ

@@ -21,7 +21,7 @@ use Rattle.output.specs.Output.{written, content, writtenBy, leftBy}
 use Rattle.output.specs.declared.Written.{Written}
 use Rattle.output.specs.declared.Written.the-variants.{Bytes, Refused as Written·Refused}
 use Rattle.theory_edits.specs.Splice.{place, longer, shorter, recordAt, recordsFrom, inserted, removed}
-use Rattle.theory_edits.specs.Edits.{lengthRow, askRows, receiptFor, answer, asked, receiptRow, spaceRow, commitRows, insertWritten, insertLeft, noEdgeRow, removeRows, removeWritten, removeLeft}
+use Rattle.theory_edits.specs.Edits.{lengthRow, askRows, receiptFor, askedBy, asked, receiptRow, spaceRow, commitRows, insertWritten, insertLeft, noEdgeRow, removeRows, removeWritten, removeLeft}
 use Rattle.theory_edits.specs.declared.Receipt.{Receipt}
 use Rattle.theory_edits.specs.declared.Asked.{Asked}
 use Rattle.theory_edits.specs.declared.Asked.the-variants.{Admitted, Refused}
@@ -156,7 +156,7 @@ removing e = (removeWritten (e .buffer) (e .len) (e .from) (e .to), removeLeft (
 pub known-edits : (map asking asks ≡ map (λ e. e .gives) asks)
     × (map committing commits ≡ map (λ c. (c .call .gives, c .call .leaves)) commits)
     × (map removing removals ≡ map (λ e. (e .gives, e .leaves)) removals)
-unfolding asks commits removals asking committing removing asked answer askRows lengthRow receiptFor inserted recordsFrom recordAt longer place
+unfolding asks commits removals asking committing removing asked askedBy askRows lengthRow receiptFor inserted recordsFrom recordAt longer place
     insertWritten insertLeft commitRows receiptRow spaceRow removeWritten removeLeft removeRows noEdgeRow removed shorter writtenBy leftBy written content
     admitRows badPaths cutOff reachesAny reaches marks marks? chartRows tableRows trailerRows firstOf badEdges joinsSections framesSection badEdgeAt rises badEdge badBarriers
     tooManyIn barrierOf isBarrier badFrames badFrame framesIn badConstructs strayNode badAlone badConstruct foreignNumber badNodes badNodeAt badOuter badNode badLengths badCounts badMarks badEdition

@@ -162,15 +162,16 @@ module _ (Good : ℕ → ℕ → Type 0) where
 abbrev pub Drawn : (ℕ → ℕ → Type 0) → Cell → Type 0
 Drawn E c = All (E (c .at)) (c .to)
 
+-- it holds of a cell's node
+abbrev pub OfNode : (ℕ → Type 0) → Cell → Type 0
+OfNode P c = P (c .at)
+
 -- Ways in: what is kept along edges and holds where a way enters the block holds of all its nodes, and of what follows it.
 module _ (E : ℕ → ℕ → Type 0) (R : ℕ → Type 0) (keep : (x y : ℕ) → R x → E x y → R y) where
   step : {x y : ℕ} → R x → E x y → R y
   step {x} {y} g d = keep x y g d
 
-  abbrev pub Has : Cell → Type 0
-  Has c = R (c .at)
-
-  pub forth : (r : Block) (o m k t : ℕ) → All (Drawn E) (cells r o m k t) → R (first r k t) → R t × All Has (cells r o m k t)
+  pub forth : (r : Block) (o m k t : ℕ) → All (Drawn E) (cells r o m k t) → R (first r k t) → R t × All (OfNode R) (cells r o m k t)
   unfolding cells first
   forth end o m k t h g = (g, tt)
   forth (plain r) o m k t h g = let f = forth r o m (suc k) t (h .1) (step g (h .0 .0)) in (f .0, (g, f .1))
@@ -180,7 +181,7 @@ module _ (E : ℕ → ℕ → Type 0) (R : ℕ → Type 0) (keep : (x y : ℕ) �
       let d = all-two (E k) (first b (suc k) k) (first r (suc k + nodeCount b) t) (h .0) in
       let f = forth b o m (suc k) k (s .0) (step g (d .0)) in
       let q = forth r o (m + constructCount b) (suc k + nodeCount b) t (s .1) (step g (d .1)) in
-      (q .0, (g, joined Has (cells b o m (suc k) k) _ (f .1) (q .1)))
+      (q .0, (g, joined (OfNode R) (cells b o m (suc k) k) _ (f .1) (q .1)))
   forth (branch a b r) o m k t h g =
       let j = suc k + nodeCount a + nodeCount b in
       let s = split (Drawn E) (cells a o m (suc k) j) _ (h .1) in
@@ -189,23 +190,20 @@ module _ (E : ℕ → ℕ → Type 0) (R : ℕ → Type 0) (keep : (x y : ℕ) �
       let f = forth a o m (suc k) j (s .0) (step g (d .0)) in
       let p = forth b o (m + constructCount a) (suc k + nodeCount a) j (u .0) (step g (d .1)) in
       let q = forth r o (m + constructCount a + constructCount b) (suc j) t (u .1 .1) (step (f .0) (u .1 .0 .0)) in
-      (q .0, (g, joined Has (cells a o m (suc k) j) _ (f .1) (joined Has (cells b o (m + constructCount a) (suc k + nodeCount a) j) _ (p .1) (f .0, q .1))))
+      (q .0, (g, joined (OfNode R) (cells a o m (suc k) j) _ (f .1) (joined (OfNode R) (cells b o (m + constructCount a) (suc k + nodeCount a) j) _ (p .1) (f .0, q .1))))
   forth (around c b r) o m k t h g =
       let e = suc k + nodeCount b in
       let s = split (Drawn E) (cells b m (suc m) (suc k) e) _ (h .1) in
       let f = forth b m (suc m) (suc k) e (s .0) (step g (h .0 .0)) in
       let q = forth r o (suc m + constructCount b) (suc e) t (s .1 .1) (step (f .0) (s .1 .0 .0)) in
-      (q .0, (g, joined Has (cells b m (suc m) (suc k) e) _ (f .1) (f .0, q .1)))
+      (q .0, (g, joined (OfNode R) (cells b m (suc m) (suc k) e) _ (f .1) (f .0, q .1)))
 
 -- Ways out: what is kept against edges and holds of what follows the block holds of all its nodes, and where a way enters it.
 module _ (E : ℕ → ℕ → Type 0) (B : ℕ → Type 0) (keep : (x y : ℕ) → E x y → B y → B x) where
   step-back : {x y : ℕ} → E x y → B y → B x
   step-back {x} {y} d g = keep x y d g
 
-  abbrev pub Meets : Cell → Type 0
-  Meets c = B (c .at)
-
-  pub back : (r : Block) (o m k t : ℕ) → All (Drawn E) (cells r o m k t) → B t → B (first r k t) × All Meets (cells r o m k t)
+  pub back : (r : Block) (o m k t : ℕ) → All (Drawn E) (cells r o m k t) → B t → B (first r k t) × All (OfNode B) (cells r o m k t)
   unfolding cells first
   back end o m k t h g = (g, tt)
   back (plain r) o m k t h g = let f = back r o m (suc k) t (h .1) g in let z = step-back (h .0 .0) (f .0) in (z, (z, f .1))
@@ -216,7 +214,7 @@ module _ (E : ℕ → ℕ → Type 0) (B : ℕ → Type 0) (keep : (x y : ℕ) �
       let q = back r o (m + constructCount b) (suc k + nodeCount b) t (s .1) g in
       let z = step-back (d .1) (q .0) in
       let f = back b o m (suc k) k (s .0) z in
-      (z, (z, joined Meets (cells b o m (suc k) k) _ (f .1) (q .1)))
+      (z, (z, joined (OfNode B) (cells b o m (suc k) k) _ (f .1) (q .1)))
   back (branch a b r) o m k t h g =
       let j = suc k + nodeCount a + nodeCount b in
       let s = split (Drawn E) (cells a o m (suc k) j) _ (h .1) in
@@ -227,7 +225,7 @@ module _ (E : ℕ → ℕ → Type 0) (B : ℕ → Type 0) (keep : (x y : ℕ) �
       let f = back a o m (suc k) j (s .0) y in
       let p = back b o (m + constructCount a) (suc k + nodeCount a) j (u .0) y in
       let z = step-back (d .0) (f .0) in
-      (z, (z, joined Meets (cells a o m (suc k) j) _ (f .1) (joined Meets (cells b o (m + constructCount a) (suc k + nodeCount a) j) _ (p .1) (y, q .1))))
+      (z, (z, joined (OfNode B) (cells a o m (suc k) j) _ (f .1) (joined (OfNode B) (cells b o (m + constructCount a) (suc k + nodeCount a) j) _ (p .1) (y, q .1))))
   back (around c b r) o m k t h g =
       let e = suc k + nodeCount b in
       let s = split (Drawn E) (cells b m (suc m) (suc k) e) _ (h .1) in
@@ -235,4 +233,4 @@ module _ (E : ℕ → ℕ → Type 0) (B : ℕ → Type 0) (keep : (x y : ℕ) �
       let y = step-back (s .1 .0 .0) (q .0) in
       let f = back b m (suc m) (suc k) e (s .0) y in
       let z = step-back (h .0 .0) (f .0) in
-      (z, (z, joined Meets (cells b m (suc m) (suc k) e) _ (f .1) (y, q .1)))
+      (z, (z, joined (OfNode B) (cells b m (suc m) (suc k) e) _ (f .1) (y, q .1)))
