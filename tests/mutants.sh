@@ -10,7 +10,9 @@ git ls-files -z | xargs -0 cp --parents --target-directory "$copy"
 if [ -d target ]; then cp -a target "$copy"; fi
 cd "$copy"
 rm -rf crates/*/must-fail
+# `rt must-fail` also tries the edits of what a crate depends on: only those of the crates named are put there.
 for mutants in tests/mutants/*/; do
-    cp -r "$mutants" "crates/$(basename "$mutants")/must-fail"
+    crate=$(basename "$mutants")
+    if [ $# -eq 0 ] || [[ " $* " == *" $crate "* ]]; then cp -r "$mutants" "crates/$crate/must-fail"; fi
 done
 RT_JOBS=${RT_JOBS:-$((2 * $(nproc)))} rt must-fail "$@"
