@@ -28,9 +28,10 @@ use Rattle.check_nodes.specs.Framed.{Framed}
 use Rattle.mark_tables.specs.Tables.{Accepted, Arranged, Stops}
 use Rattle.mark_tables.proofs.Accepted.{tables, few-constructs, well-formed}
 use Rattle.mark.proofs.Searching.{clear-node, none-back}
+use Rattle.search.specs.declared.edges.Parts.{Parts}
 
-module _ {R : Region} {edges : List (List ℕ)} {places stops : List ℕ} {ups low ins : ℕ} (T : Arranged R edges places stops ups low ins) (S : Stops R stops)
-    (flat : low ≡ 1024) where
+module _ {R : Region} {edges : List (List ℕ)} {places stops : List ℕ} {parts : Parts} (T : Arranged R edges places stops parts) (S : Stops R stops)
+    (flat : parts .low ≡ 1024) where
   edge-rises : (x y : ℕ) → Open R x → Open R y → Edge R x y → x < y
   edge-rises x y p q e =
       let i = T .edge-listed x y e in
@@ -61,8 +62,8 @@ module _ (s : List ℕ) (chart : Chart) (A : Accepted s chart) where
       let finish = finish-inner D (chart .region) (λ o. omega (arith, few-constructs s chart A)) ∙ ap (frameOf (D .nodes) endNode) q in
       W .finish-last (subst (λ (x : ℕ). R .edge x y ≡ true) (sym finish) e)
 
-  pub none-return : {edges : List (List ℕ)} {places stops begins ends : List ℕ} {ups low ins : ℕ} → Arranged R edges places stops ups low ins → Stops R stops
-      → low ≡ 1024 → Framed D beginNode begins → Framed D endNode ends → ((c : ℕ) → c < length (D .constructs) → getD begins c 0 < getD ends c 0)
+  pub none-return : {edges : List (List ℕ)} {places stops begins ends : List ℕ} {parts : Parts} → Arranged R edges places stops parts → Stops R stops
+      → parts .low ≡ 1024 → Framed D beginNode begins → Framed D endNode ends → ((c : ℕ) → c < length (D .constructs) → getD begins c 0 < getD ends c 0)
       → 0 ≡ returning R
   unfolding returning returns
   none-return {begins = begins} {ends} T S flat B E before = sym (mask-empty _ _ (λ c l. false-if (λ h. never c l (free-path R W _ _ h) (truth (opens c)) (truth (closes c)))))

@@ -40,6 +40,7 @@ use Rattle.mark_tables.proofs.Accepted.{tables, few-constructs, well-formed}
 use Rattle.mark_tables.proofs.Columns.{places-first}
 use Rattle.search.specs.Parts.{row}
 use Rattle.search.specs.Search.{Ready, Standing, Spread, Cleared}
+use Rattle.search.specs.declared.edges.Parts.{Parts}
 use Rattle.mark.specs.Joined.{missing, Reaches}
 use Rattle.mark.proofs.Blanks.{missing-counted}
 use Rattle.mark.proofs.JoiningLaws.{masks-reach}
@@ -165,7 +166,7 @@ module _ {R : Region} {stops : List ℕ} (S : Stops R stops) where
 
 -- what a search asks of the tables
 
-pub ready : {p : ℕ} {D : Decoded} {edges : List (List ℕ)} {places : List ℕ} {ups low ins : ℕ} → Handed p D edges places ups low ins → Ready edges places ups low ins
+pub ready : {p : ℕ} {D : Decoded} {edges : List (List ℕ)} {places : List ℕ} {parts : Parts} → Handed p D edges places parts → Ready edges places parts
 ready {p} {D} H = record { count = length (edgesOf p D); stops = H .stops; split = H .split; begins = places-first (H .columns) (H .begins) }
 
 -- the constructs that return: bit c of the mask of the begin of c, in a search from the ends. Of the begins only that of the region's own
@@ -191,7 +192,7 @@ module _ (s : List ℕ) (chart : Chart) (A : Accepted s chart) where
   none-back c x l w e = W .start-first (subst (λ (y : ℕ). R .edge x y ≡ true) (sym (start-begin c l w)) e)
 
   pub ends-reach : (n : ℕ) → n ≡ length (decode s .constructs)
-      → {edges : List (List ℕ)} {places stops begins ends masks : List ℕ} {ups low ins : ℕ} (T : Arranged (reading s chart) edges places stops ups low ins)
+      → {edges : List (List ℕ)} {places stops begins ends masks : List ℕ} {parts : Parts} (T : Arranged (reading s chart) edges places stops parts)
       → Stops (reading s chart) stops → Framed (decode s) beginNode begins → Framed (decode s) endNode ends
       → Spread (Listed (row edges 0) (row edges 1) (T .count)) stops ends n masks
       → maskOf (λ c. has (getD masks (getD begins c 0) 0) c) n ≡ returning (reading s chart)

@@ -34,10 +34,10 @@ pub fn fill_starts(
     masks: &mut [u64; Chart::NODES],
     levels: &mut [u8; Chart::NODES],
 ) -> bool
-    requires { ⌜ (extent .barriers ≤ 64) × (0 < extent .barriers) × (extent .nodes ≤ 192) × (now masks ≡ replicate 192 0) × ((p : ℕ) × (D : Decoded) × Handed p D (now edges) (now places) (extent .parts .ups) (extent .parts .low) (extent .parts .ins)) ⌝ }
+    requires { ⌜ (extent .barriers ≤ 64) × (0 < extent .barriers) × (extent .nodes ≤ 192) × (now masks ≡ replicate 192 0) × ((p : ℕ) × (D : Decoded) × Handed p D (now edges) (now places) (extent .parts)) ⌝ }
     requires { ⌜ ((b : ℕ) → getD (now nodes) b 0 < 192) ⌝ }
-    ensures { λ r. ⌜ ((R : Region) → WellFormed R → Arranged R (now (edges .entry)) (now (places .entry)) (now (stops .entry)) (extent .parts .ups) (extent .parts .low) (extent .parts .ins) → Stops R (now (stops .entry)) → Barriers R (now (nodes .entry)) (extent .barriers) → extent .nodes ≡ R .nodes → r ≡ (lost forward R (barrierAt R 0) || lostBarrier backward R (extent .barriers - 1))) ⌝ }
-    ensures { λ _. ⌜ ((R : Region) → WellFormed R → Arranged R (now (edges .entry)) (now (places .entry)) (now (stops .entry)) (extent .parts .ups) (extent .parts .low) (extent .parts .ins) → Stops R (now (stops .entry)) → Barriers R (now (nodes .entry)) (extent .barriers) → Masks forward R (now (masks .exit)) × Levels forward R (now (levels .exit))) ⌝ }
+    ensures { λ r. ⌜ ((R : Region) → WellFormed R → Arranged R (now (edges .entry)) (now (places .entry)) (now (stops .entry)) (extent .parts) → Stops R (now (stops .entry)) → Barriers R (now (nodes .entry)) (extent .barriers) → extent .nodes ≡ R .nodes → r ≡ (lost forward R (barrierAt R 0) || lostBarrier backward R (extent .barriers - 1))) ⌝ }
+    ensures { λ _. ⌜ ((R : Region) → WellFormed R → Arranged R (now (edges .entry)) (now (places .entry)) (now (stops .entry)) (extent .parts) → Stops R (now (stops .entry)) → Barriers R (now (nodes .entry)) (extent .barriers) → Masks forward R (now (masks .exit)) × Levels forward R (now (levels .exit))) ⌝ }
 {
     let mut all = [0u64; Chart::NODES];
     starts(edges, places, extent, nodes, masks, levels, &mut all);
@@ -54,10 +54,10 @@ pub fn fill_ends(
     extent: Extent,
     masks: &mut [u64; Chart::NODES],
 ) -> bool
-    requires { ⌜ (extent .barriers ≤ 64) × (0 < extent .barriers) × (extent .nodes ≤ 192) × (now masks ≡ replicate 192 0) × ((e : ℕ) × (stops : List ℕ) × Split (now edges) e stops (extent .parts .ups) (extent .parts .low) (extent .parts .ins)) ⌝ }
+    requires { ⌜ (extent .barriers ≤ 64) × (0 < extent .barriers) × (extent .nodes ≤ 192) × (now masks ≡ replicate 192 0) × ((e : ℕ) × (stops : List ℕ) × Split (now edges) e stops (extent .parts)) ⌝ }
     requires { ⌜ ((b : ℕ) → getD (now nodes) b 0 < 192) ⌝ }
-    ensures { λ r. ⌜ ((R : Region) (places stops : List ℕ) → WellFormed R → Arranged R (now (edges .entry)) places stops (extent .parts .ups) (extent .parts .low) (extent .parts .ins) → Stops R stops → Barriers R (now (nodes .entry)) (extent .barriers) → extent .nodes ≡ R .nodes → (lostBarrier backward R (extent .barriers - 1) || r) ≡ lost backward R (barrierAt R (extent .barriers - 1))) ⌝ }
-    ensures { λ _. ⌜ ((R : Region) (places stops : List ℕ) → WellFormed R → Arranged R (now (edges .entry)) places stops (extent .parts .ups) (extent .parts .low) (extent .parts .ins) → Stops R stops → Barriers R (now (nodes .entry)) (extent .barriers) → Masks backward R (now (masks .exit))) ⌝ }
+    ensures { λ r. ⌜ ((R : Region) (places stops : List ℕ) → WellFormed R → Arranged R (now (edges .entry)) places stops (extent .parts) → Stops R stops → Barriers R (now (nodes .entry)) (extent .barriers) → extent .nodes ≡ R .nodes → (lostBarrier backward R (extent .barriers - 1) || r) ≡ lost backward R (barrierAt R (extent .barriers - 1))) ⌝ }
+    ensures { λ _. ⌜ ((R : Region) (places stops : List ℕ) → WellFormed R → Arranged R (now (edges .entry)) places stops (extent .parts) → Stops R stops → Barriers R (now (nodes .entry)) (extent .barriers) → Masks backward R (now (masks .exit))) ⌝ }
 {
     ends(edges, extent, nodes, masks);
     any_missed(masks, extent.nodes, extent.barriers)

@@ -72,7 +72,7 @@ pub fn returns(
     parts: Parts,
 ) -> u64
     requires { ⌜ Accepted (now s) chart × Framed (decode (now s)) beginNode (now begins) × Framed (decode (now s)) endNode (now ends) ⌝ }
-    requires { ⌜ Handed (chart .region) (decode (now s)) (now edges) (now places) (parts .ups) (parts .low) (parts .ins) × ((stops : List ℕ) × (Arranged (reading (now s) chart) (now edges) (now places) stops (parts .ups) (parts .low) (parts .ins) × Stops (reading (now s) chart) stops)) ⌝ }
+    requires { ⌜ Handed (chart .region) (decode (now s)) (now edges) (now places) parts × ((stops : List ℕ) × (Arranged (reading (now s) chart) (now edges) (now places) stops parts × Stops (reading (now s) chart) stops)) ⌝ }
     ensures { λ r. ⌜ r ≡ returning (reading (now (s .entry)) chart) ⌝ }
 {
     let n = chart.constructs;

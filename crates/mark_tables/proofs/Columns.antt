@@ -18,6 +18,7 @@ use Rattle.chart.proofs.Facts.{EdgeFits}
 use Rattle.theory_paths.specs.Graph.{lower, Places}
 use Rattle.theory_paths.specs.Cut.{keeps, cut, edgesOf, CutColumns, listed-edge, edge-listed, edges-long, edges-at}
 use Rattle.search.specs.Parts.{row, Split}
+use Rattle.search.specs.declared.edges.Parts.{Parts}
 use Rattle.mark_tables.proofs.Accepted.{tables}
 use Rattle.mark_tables.specs.Tables.{Accepted, Columns, firstEdge, FirstEdges, Tabled, Arranged, Handed}
 
@@ -56,7 +57,7 @@ module _ (s : List ℕ) (chart : Chart) (A : Accepted s chart) where
       let m : i < length (cut D p) = omega (arith, edges-long D p) in
       rw (edges-at D p i m) (tables s chart A .edges .alone _ (select-passes (length (D .edges)) (keeps D p) i m .0))
 
-  module _ {stops : List ℕ} {table : List (List ℕ)} {total ups low ins : ℕ} (T : Tabled p D stops table total ups low ins) where
+  module _ {stops : List ℕ} {table : List (List ℕ)} {total : ℕ} {parts : Parts} (T : Tabled p D stops table total parts) where
     as-cut : CutColumns D p (row table 0) (row table 1) total
     as-cut = record {
       total = T .count ∙ edges-long D p;
@@ -64,7 +65,7 @@ module _ (s : List ℕ) (chart : Chart) (A : Accepted s chart) where
       to = λ j l. T .columns .to j ∙ ap (λ (e : Edge). e .to) (edges-at D p j (omega (arith, T .count, edges-long D p)));
     }
 
-    pub arranged : {places : List ℕ} → Places (row table 0) total places → Arranged (reading s chart) table places stops ups low ins
+    pub arranged : {places : List ℕ} → Places (row table 0) total places → Arranged (reading s chart) table places stops parts
     arranged P = record {
       count = total;
       split = T .split;
@@ -73,11 +74,11 @@ module _ (s : List ℕ) (chart : Chart) (A : Accepted s chart) where
       edge-listed = edge-listed as-cut;
     }
 
-    pub handed : {places : List ℕ} → FirstEdges (edgesOf p D) places → Handed p D table places ups low ins
+    pub handed : {places : List ℕ} → FirstEdges (edgesOf p D) places → Handed p D table places parts
     unfolding firstEdge
     handed F = record {
       stops = stops;
-      split = subst (λ (n : ℕ). Split table n stops ups low ins) (T .count) (T .split);
+      split = subst (λ (n : ℕ). Split table n stops parts) (T .count) (T .split);
       columns = T .columns;
       begins = F;
       past = F .at (length (D .nodes)) (omega (arith, nodes-length s chart (A .laid), A .laid .nodes-most))

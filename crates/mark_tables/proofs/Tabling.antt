@@ -21,6 +21,7 @@ use Rattle.chart.proofs.Facts.{TablesFit}
 use Rattle.chart.proofs.Records.{nodes-length, edges-length}
 use Rattle.theory_paths.specs.Cut.{keeps, cut, edgesOf, edges-long, edges-at}
 use Rattle.search.specs.Parts.{row, Split, Sized, Next}
+use Rattle.search.specs.declared.edges.Parts.{Parts}
 use Rattle.search.proofs.Placing.{split-none}
 use Rattle.mark_tables.proofs.Accepted.{tables}
 use Rattle.mark_tables.proofs.Columns.{edge-past}
@@ -126,14 +127,14 @@ module _ (D : Decoded) (p : ℕ) where
   )
 
   -- The table after the first n edges of the chart: those of them that are the region's, parted.
-  pub record Tabling (n : ℕ) (stops : List ℕ) (table : List (List ℕ)) (total ups low ins : ℕ) : Type 0 where
+  pub record Tabling (n : ℕ) (stops : List ℕ) (table : List (List ℕ)) (total : ℕ) (parts : Parts) : Type 0 where
     pub columns : Kept n (row table 0) (row table 1) total
     pub sized : Sized table
-    pub split : Split table total stops ups low ins
+    pub split : Split table total stops parts
     -- none of them leaves a higher node than the next edge
     pub most : n < length (D .edges) → (i : ℕ) → i < total → getD (row table 0) i 0 ≤ edgeAt (D .edges) n .from
 
-  pub tabling-none : {table : List (List ℕ)} (stops : List ℕ) → Blank table → Tabling 0 stops table 0 0 1024 0
+  pub tabling-none : {table : List (List ℕ)} (stops : List ℕ) → Blank table → Tabling 0 stops table 0 (record { ups = 0; low = 1024; ins = 0 })
   tabling-none stops b = record {
     columns = kept-none (b .none 0) (b .none 1);
     sized = record { six = b .six; from = b .long 0 (omega arith); to = b .long 1 (omega arith) };
@@ -151,10 +152,10 @@ module _ (D : Decoded) (p : ℕ) where
   most-more n {from = from} {froms = froms} {total = total} next a room old (kept h) i m =
       at-set (λ v. v ≤ edgeAt (D .edges) (n + 1) .from) froms total from i room (λ _. omega arith) (λ z. omega (arith, old i (omega arith)))
 
-  pub tabling-more : (n : ℕ) {flag from to : ℕ} {stops : List ℕ} {old new : List (List ℕ)} {total ups low ins total′ ups′ low′ ins′ : ℕ} → TablesFit D → n < length (D .edges) → total < 1024
-      → flag ≡ flagOf (keeps D p n) → from ≡ edgeAt (D .edges) n .from → to ≡ edgeAt (D .edges) n .to → Tabling n stops old total ups low ins
-      → Stored flag from to (row old 0) (row old 1) total (row new 0) (row new 1) total′ → Split new total′ stops ups′ low′ ins′ × Sized new
-      → Tabling (n + 1) stops new total′ ups′ low′ ins′
+  pub tabling-more : (n : ℕ) {flag from to : ℕ} {stops : List ℕ} {old new : List (List ℕ)} {total total′ : ℕ} {parts parts′ : Parts} → TablesFit D → n < length (D .edges) → total < 1024
+      → flag ≡ flagOf (keeps D p n) → from ≡ edgeAt (D .edges) n .from → to ≡ edgeAt (D .edges) n .to → Tabling n stops old total parts
+      → Stored flag from to (row old 0) (row old 1) total (row new 0) (row new 1) total′ → Split new total′ stops parts′ × Sized new
+      → Tabling (n + 1) stops new total′ parts′
   tabling-more n F l few q a b T S (P, Z) = record {
     columns = kept-flag n q a b (omega (arith, T .sized .from)) (omega (arith, T .sized .to)) (T .columns) S;
     sized = Z;
@@ -162,8 +163,8 @@ module _ (D : Decoded) (p : ℕ) where
     most = λ m. most-more n (next-higher F n m) a (omega (arith, T .sized .from)) (T .most l) S;
   }
 
-  pub tabling-all : {n : ℕ} {stops : List ℕ} {table : List (List ℕ)} {total ups low ins : ℕ} → n ≡ length (D .edges) → Tabling n stops table total ups low ins
-      → Tabled p D stops table total ups low ins
+  pub tabling-all : {n : ℕ} {stops : List ℕ} {table : List (List ℕ)} {total : ℕ} {parts : Parts} → n ≡ length (D .edges) → Tabling n stops table total parts
+      → Tabled p D stops table total parts
   tabling-all q T = let (columns, count) = kept-all (rw q at (T .columns)) in record { six = T .sized .six; count = count; columns = columns; split = T .split }
 
   -- an edge has the flag of the node that it leaves
@@ -176,9 +177,9 @@ unfolding liesWithin
 keeps-all D p n q = rw (eq-eqb p outside q) refl
 
 -- the next edge may stand there
-pub tabling-room : (s : List ℕ) (chart : Chart) → Accepted s chart → {n : ℕ} {stops : List ℕ} {table : List (List ℕ)} {total ups low ins from to : ℕ} → n < chart .edges
-    → from ≡ edgeAt (decode s .edges) n .from → to ≡ edgeAt (decode s .edges) n .to → Tabling (decode s) (chart .region) n stops table total ups low ins
-    → Next table total stops ups low ins from to
+pub tabling-room : (s : List ℕ) (chart : Chart) → Accepted s chart → {n : ℕ} {stops : List ℕ} {table : List (List ℕ)} {total from to : ℕ} {parts : Parts} → n < chart .edges
+    → from ≡ edgeAt (decode s .edges) n .from → to ≡ edgeAt (decode s .edges) n .to → Tabling (decode s) (chart .region) n stops table total parts
+    → Next table total stops parts from to
 tabling-room s chart A {n} l a b T =
     let nodes = nodes-length s chart (A .laid) in
     let edges = edges-length s chart (A .laid) in

@@ -25,6 +25,7 @@ use Rattle.theory_paths.specs.Graph.{Listed, Places}
 use Rattle.theory_paths.specs.Cut.{edgesOf}
 use Rattle.theory_paths.specs.Phases.{Direction, forward, backward, barriers, barrierAt, marks, nearest}
 use Rattle.search.specs.Parts.{row, Split}
+use Rattle.search.specs.declared.edges.Parts.{Parts}
 use Rattle.theory_answers.specs.Numbers.{asked}
 
 -- Bytes of a chart that rows 1 to 9 of the refusals let pass, with its counts, and the number of one of its regions.
@@ -54,11 +55,11 @@ pub record Blank (table : List (List ℕ)) : Type 0 where
   pub none : (r j : ℕ) → getD (row table r) j 0 ≡ 0
 
 -- The table of the edges of a chart as it is read for the region p, parted by stops, and their number.
-pub record Tabled (p : ℕ) (D : Decoded) (stops : List ℕ) (table : List (List ℕ)) (total ups low ins : ℕ) : Type 0 where
+pub record Tabled (p : ℕ) (D : Decoded) (stops : List ℕ) (table : List (List ℕ)) (total : ℕ) (parts : Parts) : Type 0 where
   pub six : length table ≡ 6
   pub count : total ≡ length (edgesOf p D)
   pub columns : Columns (edgesOf p D) (row table 0) (row table 1)
-  pub split : Split table total stops ups low ins
+  pub split : Split table total stops parts
 
 -- An edge leads from x to y; backward: from y to x. And so for any path.
 abbrev pub Along : Direction → Region → ℕ → ℕ → Type 0
@@ -70,18 +71,18 @@ leadsAny forward R x y = reachesAny R x y
 leadsAny backward R x y = reachesAny R y x
 
 -- The table of the region's edges, parted by stops, and the places where the edges of each node begin.
-pub record Arranged (R : Region) (edges : List (List ℕ)) (places stops : List ℕ) (ups low ins : ℕ) : Type 0 where
+pub record Arranged (R : Region) (edges : List (List ℕ)) (places stops : List ℕ) (parts : Parts) : Type 0 where
   pub count : ℕ
-  pub split : Split edges count stops ups low ins
+  pub split : Split edges count stops parts
   pub begins : Places (row edges 0) count places
   pub listed-edge : (x y : ℕ) → Listed (row edges 0) (row edges 1) count x y → Edge R x y
   pub edge-listed : (x y : ℕ) → Edge R x y → Listed (row edges 0) (row edges 1) count x y
 
 -- What the marking is handed: the edges of a chart as it is read for the region p, parted by some stops, and the places where the nodes'
 -- edges begin.
-pub record Handed (p : ℕ) (D : Decoded) (edges : List (List ℕ)) (places : List ℕ) (ups low ins : ℕ) : Type 0 where
+pub record Handed (p : ℕ) (D : Decoded) (edges : List (List ℕ)) (places : List ℕ) (parts : Parts) : Type 0 where
   pub stops : List ℕ
-  pub split : Split edges (length (edgesOf p D)) stops ups low ins
+  pub split : Split edges (length (edgesOf p D)) stops parts
   pub columns : Columns (edgesOf p D) (row edges 0) (row edges 1)
   pub begins : FirstEdges (edgesOf p D) places
   -- past the last node stands the number of edges

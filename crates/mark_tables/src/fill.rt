@@ -25,7 +25,7 @@ fn all_edges(
     table: &mut [[u8; Chart::EDGES]; Parts::ROWS],
 ) -> Loaded
     requires { ⌜ Accepted (now s) chart × Blank (now table) × (chart .region ≡ outside) ⌝ }
-    ensures { λ r. ⌜ Tabled (chart .region) (decode (now (s .entry))) (now (stops .entry)) (now (table .exit)) (r .edges) (r .parts .ups) (r .parts .low) (r .parts .ins) ⌝ }
+    ensures { λ r. ⌜ Tabled (chart .region) (decode (now (s .entry))) (now (stops .entry)) (now (table .exit)) (r .edges) (r .parts) ⌝ }
 {
     let e = chart.edges;
     let mut parts = Parts {
@@ -50,8 +50,8 @@ fn keep(
     table: &mut [[u8; Chart::EDGES]; Parts::ROWS],
     loaded: Loaded,
 ) -> Loaded
-    requires { ⌜ Next (now table) (loaded .edges) (now stops) (loaded .parts .ups) (loaded .parts .low) (loaded .parts .ins) (edge .from) (edge .to) ⌝ }
-    ensures { λ r. ⌜ Split (now (table .exit)) (r .edges) (now (stops .entry)) (r .parts .ups) (r .parts .low) (r .parts .ins) × Sized (now (table .exit)) ⌝ }
+    requires { ⌜ Next (now table) (loaded .edges) (now stops) (loaded .parts) (edge .from) (edge .to) ⌝ }
+    ensures { λ r. ⌜ Split (now (table .exit)) (r .edges) (now (stops .entry)) (r .parts) × Sized (now (table .exit)) ⌝ }
     ensures { λ r. ⌜ Stored flag (edge .from) (edge .to) (row (now (table .entry)) 0) (row (now (table .entry)) 1) (loaded .edges) (row (now (table .exit)) 0) (row (now (table .exit)) 1) (r .edges) ⌝ }
 {
     if flag == 0 {
@@ -73,7 +73,7 @@ fn cut_edges(
     table: &mut [[u8; Chart::EDGES]; Parts::ROWS],
 ) -> Loaded
     requires { ⌜ Accepted (now s) chart × Blank (now table) × (chart .region ≢ outside) ⌝ }
-    ensures { λ r. ⌜ Tabled (chart .region) (decode (now (s .entry))) (now (stops .entry)) (now (table .exit)) (r .edges) (r .parts .ups) (r .parts .low) (r .parts .ins) ⌝ }
+    ensures { λ r. ⌜ Tabled (chart .region) (decode (now (s .entry))) (now (stops .entry)) (now (table .exit)) (r .edges) (r .parts) ⌝ }
 {
     let mut flags = [0u8; Chart::NODES];
     leaving(s, chart, &mut flags);
@@ -103,7 +103,7 @@ pub fn load_edges(
     table: &mut [[u8; Chart::EDGES]; Parts::ROWS],
 ) -> Loaded
     requires { ⌜ Accepted (now s) chart × Blank (now table) ⌝ }
-    ensures { λ r. ⌜ Tabled (chart .region) (decode (now (s .entry))) (now (stops .entry)) (now (table .exit)) (r .edges) (r .parts .ups) (r .parts .low) (r .parts .ins) ⌝ }
+    ensures { λ r. ⌜ Tabled (chart .region) (decode (now (s .entry))) (now (stops .entry)) (now (table .exit)) (r .edges) (r .parts) ⌝ }
 {
     if chart.region == Chart::OUTERMOST {
         return all_edges(s, chart, stops, table);

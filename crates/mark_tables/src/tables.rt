@@ -40,8 +40,8 @@ pub fn load_tables(
     nodes: &mut [u8; Chart::BARRIERS],
 ) -> Extent
     requires { ⌜ Accepted (now s) chart × Blank (now table) × (now places ≡ replicate 193 0) ⌝ }
-    ensures { λ r. ⌜ Arranged (reading (now (s .entry)) chart) (now (table .exit)) (now (places .exit)) (now (stops .exit)) (r .parts .ups) (r .parts .low) (r .parts .ins) ⌝ }
-    ensures { λ r. ⌜ Handed (chart .region) (decode (now (s .entry))) (now (table .exit)) (now (places .exit)) (r .parts .ups) (r .parts .low) (r .parts .ins) ⌝ }
+    ensures { λ r. ⌜ Arranged (reading (now (s .entry)) chart) (now (table .exit)) (now (places .exit)) (now (stops .exit)) (r .parts) ⌝ }
+    ensures { λ r. ⌜ Handed (chart .region) (decode (now (s .entry))) (now (table .exit)) (now (places .exit)) (r .parts) ⌝ }
     ensures { λ r. ⌜ Stops (reading (now (s .entry)) chart) (now (stops .exit)) × Barriers (reading (now (s .entry)) chart) (now (nodes .exit)) (r .barriers) × (r .nodes ≡ chart .nodes) ⌝ }
 {
     load_stops(s, chart, stops);

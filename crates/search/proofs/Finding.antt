@@ -25,6 +25,7 @@ use Rattle.search.proofs.Splitting.{parted-inner, parted-turned, betwee
 use Rattle.search.specs.Fed.{Fed, Owned, Sowed, Stored}
 use Rattle.search.specs.Steps.{Leads, Bounded}
 use Rattle.search.specs.Search.{Standing, Sown, Spread, Cleared, Marked}
+use Rattle.search.specs.declared.edges.Parts.{Parts}
 
 -- the bits of the sources, at the nodes to which their edges lead
 seeds : {E L : ℕ → ℕ → Type 0} {sources own s : List ℕ} {k : ℕ} → Owned sources k own → Fed L own (replicate 192 0) s
@@ -130,7 +131,7 @@ module _ {E : ℕ → ℕ → Type 0} {stops sources masks new : List ℕ} {k : 
     }
 
 -- the edges of a table
-module _ {edges : List (List ℕ)} {e : ℕ} {stops : List ℕ} {ups low ins : ℕ} (T : Split edges e stops ups low ins) where
+module _ {edges : List (List ℕ)} {e : ℕ} {stops : List ℕ} {parts : Parts} (T : Split edges e stops parts) where
   abbrev froms : List ℕ
   froms = row edges 0
 
@@ -141,10 +142,10 @@ module _ {edges : List (List ℕ)} {e : ℕ} {stops : List ℕ} {ups low ins : �
   listed-node x y l = (rw (l .key) at (T .from (l .at)), rw (l .value) at (T .to (l .at)))
 
   -- those that come to stops
-  pub ins-listed : (x y : ℕ) → Between (row edges 4) (row edges 5) 0 ins x y → Listed froms tos e x y × (Clear stops y → ⊥)
+  pub ins-listed : (x y : ℕ) → Between (row edges 4) (row edges 5) 0 (parts .ins) x y → Listed froms tos e x y × (Clear stops y → ⊥)
   ins-listed x y w = rw (w .key, w .value) at (T .come .only (w .at) (w .below))
 
-  pub listed-ins : (x y : ℕ) → Listed froms tos e x y → (Clear stops y → ⊥) → Between (row edges 4) (row edges 5) 0 ins x y
+  pub listed-ins : (x y : ℕ) → Listed froms tos e x y → (Clear stops y → ⊥) → Between (row edges 4) (row edges 5) 0 (parts .ins) x y
   listed-ins x y l n = rw (l .key, l .value) at (T .come .all (l .at) (l .below) (rw (l .value) n))
 
   -- those at the places of a node
@@ -178,29 +179,29 @@ module _ {edges : List (List ℕ)} {e : ℕ} {stops : List ℕ} {ups low ins : �
     pub listed-leads : (x y : ℕ) → Listed froms tos e x y → Leads tos places x y
     listed-leads x y t = let i = listed-placed x y t in record { at = i .at; from = i .from; below = i .below; value = i .value }
 
-module _ {edges : List (List ℕ)} {e : ℕ} {stops : List ℕ} {ups low ins : ℕ} (T : Split edges e stops ups low ins) {sources : List ℕ} {total : ℕ} where
+module _ {edges : List (List ℕ)} {e : ℕ} {stops : List ℕ} {parts : Parts} (T : Split edges e stops parts) {sources : List ℕ} {total : ℕ} where
   -- forward, from any sources
   pub sown-ahead : {places s : List ℕ} → Places (row edges 0) e places → Sowed (row edges 1) places sources total s
       → Sown (Listed (row edges 0) (row edges 1) e) sources total s
   sown-ahead P w = record { long = w .long; mask = λ y. mask-carry (λ b l v. leads-listed T P _ y v) (λ b l v. listed-leads T P _ y v) (w .mask y) }
 
   pub spread-ahead : {s t : List ℕ} → Sown (Listed (row edges 0) (row edges 1) e) sources total s
-      → Carried bitOr (Lies (row edges 2) (row edges 3) ups low) s t → Closed Sub (Lies (row edges 2) (row edges 3) ups low) t
+      → Carried bitOr (Lies (row edges 2) (row edges 3) (parts .ups) (parts .low)) s t → Closed Sub (Lies (row edges 2) (row edges 3) (parts .ups) (parts .low)) t
       → Spread (Listed (row edges 0) (row edges 1) e) stops sources total t
   spread-ahead w = spread (parted-inner (T .plain) (T .to)) (w .long) (w .mask)
 
   module _ (S : Standing stops sources total) where
     -- backward, from the stops
     pub spread-behind : {own old s t : List ℕ} → old ≡ replicate 192 0 → Owned sources total own
-        → Fed (Between (row edges 5) (row edges 4) 0 ins) own old s
-        → Carried bitOr (Lies (row edges 3) (row edges 2) ups low) s t → Closed Sub (Lies (row edges 3) (row edges 2) ups low) t
+        → Fed (Between (row edges 5) (row edges 4) 0 (parts .ins)) own old s
+        → Carried bitOr (Lies (row edges 3) (row edges 2) (parts .ups) (parts .low)) s t → Closed Sub (Lies (row edges 3) (row edges 2) (parts .ups) (parts .low)) t
         → Spread (Listed (row edges 1) (row edges 0) e) stops sources total t
     spread-behind b o f = spread (parted-turned (T .plain) (T .from)) (f .long ∙ rw b (length-replicate {A = ℕ} 192 0))
         (seeds o (rw b at f) (λ x y w. listed-turned y x (ins-listed T y x (between-turned w) .0))
         (λ b y l w. between-turned (listed-ins T y (getD sources b 0) (listed-turned (getD sources b 0) y w) (S .on b l))))
 
     pub marked-starts : {masks new all : List ℕ} → Spread (Listed (row edges 0) (row edges 1) e) stops sources total masks
-        → Stored 0 sources total masks new → Fed (Between (row edges 4) (row edges 5) 0 ins) new masks all
+        → Stored 0 sources total masks new → Fed (Between (row edges 4) (row edges 5) 0 (parts .ins)) new masks all
         → Marked (Listed (row edges 0) (row edges 1) e) stops sources total new all
     marked-starts w c f = marked (listed-node T) w S c f (ins-listed T) (listed-ins T)
 

@@ -18,6 +18,7 @@ use Rattle.search.specs.Parts.{row, Split}
 use Rattle.search.proofs.Splitting.{parted-inner}
 use Rattle.search.specs.Levels.{Each, Begins, Tells}
 use Rattle.search.specs.Search.{Sown}
+use Rattle.search.specs.declared.edges.Parts.{Parts}
 use Rattle.search.proofs.Finding.{past, path-node, listed-node}
 
 -- levels to start from fit
@@ -71,8 +72,8 @@ module _ {E L : ℕ → ℕ → Type 0} (stops : List ℕ) {sources s d u v : Li
           (omega (arith, some y q m), omega arith)
 
 -- forward, along the edges of a table
-pub leveled-ahead : {edges : List (List ℕ)} {e : ℕ} {stops sources s d u v : List ℕ} {ups low ins total : ℕ} → Split edges e stops ups low ins
+pub leveled-ahead : {edges : List (List ℕ)} {e : ℕ} {stops sources s d u v : List ℕ} {parts : Parts} {total : ℕ} → Split edges e stops parts
     → Sown (Listed (row edges 0) (row edges 1) e) sources total s → Each Begins s d
-    → Carried nearer (Lies (row edges 2) (row edges 3) ups low) d u → Closed Follows (Lies (row edges 2) (row edges 3) ups low) u
+    → Carried nearer (Lies (row edges 2) (row edges 3) (parts .ups) (parts .low)) d u → Closed Follows (Lies (row edges 2) (row edges 3) (parts .ups) (parts .low)) u
     → Each Tells u v → Leveled (Listed (row edges 0) (row edges 1) e) (Clear stops) (Clear stops) sources total v
 leveled-ahead {stops = stops} T = leveled stops (parted-inner (T .plain) (T .to)) (listed-node T)

@@ -9,12 +9,13 @@ use lib.Seq.{getD-set-same, getD-set-other}
 use Rattle.lists.specs.Store.{at-set}
 use Rattle.theory_paths.specs.Graph.{Listed, Rising}
 use Rattle.theory_paths.specs.Found.{Clear}
-use Rattle.search.specs.Parts.{Kept, Parted, Put, Come, Noted, row, Beside, Split, Sized, Next}
+use Rattle.search.specs.Parts.{Kept, Parted, PutIn, Come, NotedIn, row, Beside, Split, Sized, Next}
+use Rattle.search.specs.declared.edges.Parts.{Parts}
 use Rattle.search.proofs.Splitting.{parted-none, come-none, put-turn, come-turn}
 
 -- before the first edge
 pub split-none : {edges : List (List ℕ)} (stops : List ℕ) → ((r : ℕ) → r < 6 → length (row edges r) ≡ 1024) → ((r i : ℕ) → getD (row edges r) i 0 < 192)
-    → Split edges 0 stops 0 1024 0
+    → Split edges 0 stops (record { ups = 0; low = 1024; ins = 0 })
 split-none stops long node = record {
   few = omega arith;
   from = node 0;
@@ -65,7 +66,7 @@ rising-more keys {j} x room order most i k l m =
     (λ e. at-set (λ v. v ≤ x) keys j x i room (λ _. omega arith) (λ n. most i (omega arith)))
     (λ n. rw (getD-set-other keys j i x 0 (λ e. omega arith)) (order i k l (omega arith)))
 
-module _ {stops : List ℕ} {j : ℕ} {l : List (List ℕ)} {ups low ins x y : ℕ} (N : Next l j stops ups low ins x y) where
+module _ {stops : List ℕ} {j : ℕ} {l : List (List ℕ)} {parts : Parts} {x y : ℕ} (N : Next l j stops parts x y) where
   abbrev keys : List ℕ
   keys = set (row l 0) j x
 
@@ -93,12 +94,11 @@ module _ {stops : List ℕ} {j : ℕ} {l : List (List ℕ)} {ups low ins x y : �
   order : Rising keys (j + 1)
   order = rising-more (row l 0) x in-keys (N .split .order) (N .most)
 
-  pub split-more : {keep : ℕ} {k m n : List (List ℕ)} {ups′ low′ ins′ : ℕ} → row k 0 ≡ set (row l 0) j x → row k 1 ≡ set (row l 1) j y → Beside 0 1 l k
+  pub split-more : {keep : ℕ} {k m n : List (List ℕ)} {mid parts′ : Parts} → row k 0 ≡ set (row l 0) j x → row k 1 ≡ set (row l 1) j y → Beside 0 1 l k
       → ((keep ≡ 0 → ⊥) → Clear stops x × Clear stops y) → (keep ≡ 0 → Clear stops x → Clear stops y → ⊥)
-      → Put x y keep (row k 2) (row k 3) ups low (row m 2) (row m 3) ups′ low′ → Beside 2 3 k m
-      → Noted x y (getD stops y 0) (row m 4) (row m 5) ins (row n 4) (row n 5) ins′ → Beside 4 5 m n
-      → (Split n (j + 1) stops ups′ low′ ins′ × Sized n) × ((row n 0 ≡ set (row l 0) j x) × (row n 1 ≡ set (row l 1) j y))
-  split-more {keep} {k} {m} {n} {ups′} {low′} {ins′} a b c yes-kept no-kept p d q e = (
+      → PutIn x y keep k parts m mid → NotedIn x y (getD stops y 0) m mid n parts′
+      → (Split n (j + 1) stops parts′ × Sized n) × ((row n 0 ≡ set (row l 0) j x) × (row n 1 ≡ set (row l 1) j y))
+  split-more {keep} {k} {m} {n} {mid} {parts′} a b c yes-kept no-kept p q = (
     (
       record {
         few = omega (arith, N .within);
@@ -108,16 +108,16 @@ module _ {stops : List ℕ} {j : ℕ} {l : List (List ℕ)} {ups low ins x y : �
         plain = rw (froms, tos) plain;
         come = rw (froms, tos) come;
       },
-      record { six = e .long ∙ d .long ∙ c .long ∙ N .sized .six; from = ap length froms ∙ length-set (row l 0) j x ∙ N .sized .from; to = ap length tos ∙ length-set (row l 1) j y ∙ N .sized .to },
+      record { six = q .beside .long ∙ p .beside .long ∙ c .long ∙ N .sized .six; from = ap length froms ∙ length-set (row l 0) j x ∙ N .sized .from; to = ap length tos ∙ length-set (row l 1) j y ∙ N .sized .to },
     ),
     (froms, tos),
   )
     where
       ends : (r : ℕ) → r < 2 → row n r ≡ row k r
-      ends r h = e .same r (λ z. omega arith) (λ z. omega arith) ∙ d .same r (λ z. omega arith) (λ z. omega arith)
+      ends r h = q .beside .same r (λ z. omega arith) (λ z. omega arith) ∙ p .beside .same r (λ z. omega arith) (λ z. omega arith)
 
       before : (r : ℕ) → 4 ≤ r → row m r ≡ row l r
-      before r h = d .same r (λ z. omega arith) (λ z. omega arith) ∙ c .same r (λ z. omega arith) (λ z. omega arith)
+      before r h = p .beside .same r (λ z. omega arith) (λ z. omega arith) ∙ c .same r (λ z. omega arith) (λ z. omega arith)
 
       froms : row n 0 ≡ keys
       froms = ends 0 (omega arith) ∙ a
@@ -125,13 +125,13 @@ module _ {stops : List ℕ} {j : ℕ} {l : List (List ℕ)} {ups low ins x y : �
       tos : row n 1 ≡ values
       tos = ends 1 (omega arith) ∙ b
 
-      plain : Parted keys values stops (j + 1) (row n 2) (row n 3) ups′ low′
+      plain : Parted keys values stops (j + 1) (row n 2) (row n 3) (parts′ .ups) (parts′ .low)
       plain =
-          rw (e .same 2 (λ z. omega arith) (λ z. omega arith), e .same 3 (λ z. omega arith) (λ z. omega arith))
+          rw (q .ups, q .low, q .beside .same 2 (λ z. omega arith) (λ z. omega arith), q .beside .same 3 (λ z. omega arith) (λ z. omega arith))
           (put-turn order (omega arith) (rw (← own-x) (N .from)) (rw (← own-y) (N .to)) (parted-same old-keys old-values (N .split .plain)) (rw (own-x, own-y) at yes-kept) (rw (own-x, own-y) at no-kept)
-          (rw (own-x, own-y, c .same 2 (λ z. omega arith) (λ z. omega arith), c .same 3 (λ z. omega arith) (λ z. omega arith)) at p))
+          (rw (own-x, own-y, c .same 2 (λ z. omega arith) (λ z. omega arith), c .same 3 (λ z. omega arith) (λ z. omega arith)) at (p .put)))
 
-      come : Come keys values stops (j + 1) (row n 4) (row n 5) ins′
+      come : Come keys values stops (j + 1) (row n 4) (row n 5) (parts′ .ins)
       come =
           come-turn (N .within) (rw (← own-x) (N .from)) (rw (← own-y) (N .to)) (come-same old-keys old-values (N .split .come))
-          (rw (own-x, own-y, before 4 (omega arith), before 5 (omega arith)) at q)
+          (rw (own-x, own-y, before 4 (omega arith), before 5 (omega arith), p .ins) at (q .noted))

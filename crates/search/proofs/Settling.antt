@@ -15,6 +15,7 @@ use Rattle.theory_paths.specs.Found.{Clear, Reached, Leveled}
 use Rattle.search.specs.Parts.{row, Split}
 use Rattle.search.specs.Levels.{Each, Shows}
 use Rattle.search.specs.Search.{Standing, Sown, Spread, Lone, Settled}
+use Rattle.search.specs.declared.edges.Parts.{Parts}
 use Rattle.search.proofs.Finding.{listed-placed}
 
 -- the two sources keep their masks
@@ -74,7 +75,7 @@ module _ {E : ℕ → ℕ → Type 0} (stops sources : List ℕ) {levels : List 
   })
 
 -- forward, along the edges of a table
-module _ {edges : List (List ℕ)} {e : ℕ} {stops : List ℕ} {ups low ins : ℕ} (T : Split edges e stops ups low ins) {places : List ℕ} (sources : List ℕ) {k : ℕ}
+module _ {edges : List (List ℕ)} {e : ℕ} {stops : List ℕ} {parts : Parts} (T : Split edges e stops parts) {places : List ℕ} (sources : List ℕ) {k : ℕ}
     (P : Places (row edges 0) e places) (a : Lone places sources k) where
   lone-first : (b y : ℕ) → b < k → Listed (row edges 0) (row edges 1) e (getD sources b 0) y → b ≡ 0
   lone-first b y l t = go (ℕ-discrete b 0)

@@ -9,6 +9,7 @@ use lib.ListN.{length, getD, set}
 use Rattle.theory_paths.specs.Graph.{Listed, Rising}
 use Rattle.theory_paths.specs.Found.{Clear}
 use Rattle.search.specs.Sweep.{Between, Lies}
+use Rattle.search.specs.declared.edges.Parts.{Parts}
 
 -- An edge that is kept: one of the first j, from no stop, to none.
 pub record Kept (keys values stops : List ℕ) (j x y : ℕ) : Type 0 where
@@ -64,14 +65,27 @@ pub record Beside (a b : ℕ) (old new : List (List ℕ)) : Type 0 where
   pub long : length new ≡ length old
   pub same : (r : ℕ) → (r ≡ a → ⊥) → (r ≡ b → ⊥) → row new r ≡ row old r
 
+-- One edge more between the two parts of a table; the other rows and the other part stay.
+pub record PutIn (x y keep : ℕ) (old : List (List ℕ)) (parts : Parts) (new : List (List ℕ)) (parts′ : Parts) : Type 0 where
+  pub put : Put x y keep (row old 2) (row old 3) (parts .ups) (parts .low) (row new 2) (row new 3) (parts′ .ups) (parts′ .low)
+  pub beside : Beside 2 3 old new
+  pub ins : parts′ .ins ≡ parts .ins
+
+-- One edge more behind those of a table that come to stops; the other rows and the other parts stay.
+pub record NotedIn (x y stop : ℕ) (old : List (List ℕ)) (parts : Parts) (new : List (List ℕ)) (parts′ : Parts) : Type 0 where
+  pub noted : Noted x y stop (row old 4) (row old 5) (parts .ins) (row new 4) (row new 5) (parts′ .ins)
+  pub beside : Beside 4 5 old new
+  pub ups : parts′ .ups ≡ parts .ups
+  pub low : parts′ .low ≡ parts .low
+
 -- The table of the first e edges.
-pub record Split (edges : List (List ℕ)) (e : ℕ) (stops : List ℕ) (ups low ins : ℕ) : Type 0 where
+pub record Split (edges : List (List ℕ)) (e : ℕ) (stops : List ℕ) (parts : Parts) : Type 0 where
   pub few : e ≤ 1024
   pub from : (j : ℕ) → getD (row edges 0) j 0 < 192
   pub to : (j : ℕ) → getD (row edges 1) j 0 < 192
   pub order : Rising (row edges 0) e
-  pub plain : Parted (row edges 0) (row edges 1) stops e (row edges 2) (row edges 3) ups low
-  pub come : Come (row edges 0) (row edges 1) stops e (row edges 4) (row edges 5) ins
+  pub plain : Parted (row edges 0) (row edges 1) stops e (row edges 2) (row edges 3) (parts .ups) (parts .low)
+  pub come : Come (row edges 0) (row edges 1) stops e (row edges 4) (row edges 5) (parts .ins)
 
 -- A table of edges has six rows; those of all edges have room for 1024.
 pub record Sized (edges : List (List ℕ)) : Type 0 where
@@ -80,8 +94,8 @@ pub record Sized (edges : List (List ℕ)) : Type 0 where
   pub to : length (row edges 1) ≡ 1024
 
 -- An edge from x to y may stand behind the first j of a split table: there is room, and it leaves no lower node than they do.
-pub record Next (edges : List (List ℕ)) (j : ℕ) (stops : List ℕ) (ups low ins x y : ℕ) : Type 0 where
-  pub split : Split edges j stops ups low ins
+pub record Next (edges : List (List ℕ)) (j : ℕ) (stops : List ℕ) (parts : Parts) (x y : ℕ) : Type 0 where
+  pub split : Split edges j stops parts
   pub sized : Sized edges
   pub within : j < 1024
   pub from : x < 192

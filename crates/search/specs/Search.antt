@@ -9,12 +9,13 @@ use Rattle.theory_paths.specs.Graph.{Places}
 use Rattle.theory_paths.specs.Found.{Clear, Reached, Found}
 use Rattle.search.specs.Parts.{row, Split}
 use Rattle.search.specs.Levels.{Shows}
+use Rattle.search.specs.declared.edges.Parts.{Parts}
 
 -- The table is that of some edges and stops.
-pub record Ready (edges : List (List ℕ)) (places : List ℕ) (ups low ins : ℕ) : Type 0 where
+pub record Ready (edges : List (List ℕ)) (places : List ℕ) (parts : Parts) : Type 0 where
   pub count : ℕ
   pub stops : List ℕ
-  pub split : Split edges count stops ups low ins
+  pub split : Split edges count stops parts
   pub begins : Places (row edges 0) count places
 
 -- The sources are the nodes on which stops stand.

@@ -4,7 +4,7 @@ ghost use mathlib.Core.Path.{_≡_};
 ghost use Prim.Native.Nat.{_+_, _≤_, _<_};
 ghost use lib.ListN.{getD, length, set};
 ghost use Rattle.theory_paths.specs.Found.{Clear};
-ghost use Rattle.search.specs.Parts.{row, Put, Noted, Beside, Split, Sized, Next};
+ghost use Rattle.search.specs.Parts.{row, PutIn, NotedIn, Split, Sized, Next};
 use chart::format::Chart;
 
 // Of the edges between nodes that may be passed the rising ones stand in front, up to `ups`, the falling ones at the back, from `low` on;
@@ -95,8 +95,7 @@ fn put(
     parts: Parts,
 ) -> Parts
     requires { ⌜ (parts .ups < parts .low) × (parts .low ≤ 1024) × (length (now edges) ≡ 6) ⌝ }
-    ensures { λ r. ⌜ Put from to keep (row (now (edges .entry)) 2) (row (now (edges .entry)) 3) (parts .ups) (parts .low) (row (now (edges .exit)) 2) (row (now (edges .exit)) 3) (r .ups) (r .low) ⌝ }
-    ensures { λ r. ⌜ Beside 2 3 (now (edges .entry)) (now (edges .exit)) × (r .ins ≡ parts .ins) ⌝ }
+    ensures { λ r. ⌜ PutIn from to keep (now (edges .entry)) parts (now (edges .exit)) r ⌝ }
 {
     let at = pick(from, to, parts.ups, parts.low - 1);
     edges[Parts::PLAIN_FROM][at] = from;
@@ -128,8 +127,7 @@ fn note(
     parts: Parts,
 ) -> Parts
     requires { ⌜ (parts .ins < 1024) × (to < 192) × (length (now edges) ≡ 6) ⌝ }
-    ensures { λ r. ⌜ Noted from to (getD (now (stops .entry)) to 0) (row (now (edges .entry)) 4) (row (now (edges .entry)) 5) (parts .ins) (row (now (edges .exit)) 4) (row (now (edges .exit)) 5) (r .ins) ⌝ }
-    ensures { λ r. ⌜ Beside 4 5 (now (edges .entry)) (now (edges .exit)) × (r .ups ≡ parts .ups) × (r .low ≡ parts .low) ⌝ }
+    ensures { λ r. ⌜ NotedIn from to (getD (now (stops .entry)) to 0) (now (edges .entry)) parts (now (edges .exit)) r ⌝ }
 {
     let at = parts.ins;
     edges[Parts::STOP_FROM][at] = from;
@@ -150,8 +148,8 @@ pub fn place(
     j: usize,
     parts: Parts,
 ) -> Parts
-    requires { ⌜ Next (now edges) j (now stops) (parts .ups) (parts .low) (parts .ins) from to ⌝ }
-    ensures { λ r. ⌜ Split (now (edges .exit)) (j + 1) (now (stops .entry)) (r .ups) (r .low) (r .ins) × Sized (now (edges .exit)) ⌝ }
+    requires { ⌜ Next (now edges) j (now stops) parts from to ⌝ }
+    ensures { λ r. ⌜ Split (now (edges .exit)) (j + 1) (now (stops .entry)) r × Sized (now (edges .exit)) ⌝ }
     ensures { λ _. ⌜ (row (now (edges .exit)) 0 ≡ set (row (now (edges .entry)) 0) j from) × (row (now (edges .exit)) 1 ≡ set (row (now (edges .entry)) 1) j to) ⌝ }
 {
     edges[Parts::FROM][j] = from;

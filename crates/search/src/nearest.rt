@@ -17,9 +17,9 @@ use chart::format::Chart;
 
 // The levels of the nodes that may be passed, from those of the nodes to which the sources' edges lead.
 fn swept(edges: &[[u8; Chart::EDGES]; Parts::ROWS], parts: Parts, levels: &mut [u8; Chart::NODES])
-    requires { ⌜ ((e : ℕ) × (stops : List ℕ) × Split (now edges) e stops (parts .ups) (parts .low) (parts .ins)) ⌝ }
+    requires { ⌜ ((e : ℕ) × (stops : List ℕ) × Split (now edges) e stops parts) ⌝ }
     requires { ⌜ ((masks : List ℕ) × Each Begins masks (now levels)) ⌝ }
-    ensures { λ _. ⌜ ((e : ℕ) (stops sources masks : List ℕ) (total : ℕ) → Split (now (edges .entry)) e stops (parts .ups) (parts .low) (parts .ins) → Sown (Listed (row (now (edges .entry)) 0) (row (now (edges .entry)) 1) e) sources total masks → Each Begins masks (now (levels .entry)) → Leveled (Listed (row (now (edges .entry)) 0) (row (now (edges .entry)) 1) e) (Clear stops) (Clear stops) sources total (now (levels .exit))) ⌝ }
+    ensures { λ _. ⌜ ((e : ℕ) (stops sources masks : List ℕ) (total : ℕ) → Split (now (edges .entry)) e stops parts → Sown (Listed (row (now (edges .entry)) 0) (row (now (edges .entry)) 1) e) sources total masks → Each Begins masks (now (levels .entry)) → Leveled (Listed (row (now (edges .entry)) 0) (row (now (edges .entry)) 1) e) (Clear stops) (Clear stops) sources total (now (levels .exit))) ⌝ }
 {
     measure(
         &edges[Parts::PLAIN_FROM],
@@ -40,9 +40,9 @@ fn searched(
     total: usize,
     levels: &mut [u8; Chart::NODES],
 )
-    requires { ⌜ (total ≤ 64) × ((ups : ℕ) × (low : ℕ) × (ins : ℕ) × Ready (now edges) (now places) ups low ins) ⌝ }
+    requires { ⌜ (total ≤ 64) × ((parts : Parts) × Ready (now edges) (now places) parts) ⌝ }
     requires { ⌜ ((b : ℕ) → getD (now nodes) b 0 < 192) ⌝ }
-    ensures { λ _. ⌜ ((e : ℕ) (stops : List ℕ) (ups low ins : ℕ) → Split (now (edges .entry)) e stops ups low ins → Places (row (now (edges .entry)) 0) e (now (places .entry)) → Standing stops (now (nodes .entry)) total → Leveled (Listed (row (now (edges .entry)) 0) (row (now (edges .entry)) 1) e) (Clear stops) (Clear stops) (now (nodes .entry)) total (now (levels .exit))) ⌝ }
+    ensures { λ _. ⌜ ((e : ℕ) (stops : List ℕ) (parts : Parts) → Split (now (edges .entry)) e stops parts → Places (row (now (edges .entry)) 0) e (now (places .entry)) → Standing stops (now (nodes .entry)) total → Leveled (Listed (row (now (edges .entry)) 0) (row (now (edges .entry)) 1) e) (Clear stops) (Clear stops) (now (nodes .entry)) total (now (levels .exit))) ⌝ }
 {
     *levels = [0u8; Chart::NODES];
     mark(nodes, total, levels);
@@ -68,10 +68,10 @@ pub fn fewest(
     nodes: &[u8; Chart::BARRIERS],
     levels: &mut [u8; Chart::NODES],
 )
-    requires { ⌜ (extent .barriers ≤ 64) × Ready (now edges) (now places) (extent .parts .ups) (extent .parts .low) (extent .parts .ins) ⌝ }
+    requires { ⌜ (extent .barriers ≤ 64) × Ready (now edges) (now places) (extent .parts) ⌝ }
     requires { ⌜ ((b : ℕ) → getD (now nodes) b 0 < 192) ⌝ }
     requires { ⌜ ((masks : List ℕ) × Each Begins masks (now levels)) ⌝ }
-    ensures { λ _. ⌜ ((e : ℕ) (stops masks : List ℕ) → Split (now (edges .entry)) e stops (extent .parts .ups) (extent .parts .low) (extent .parts .ins) → Places (row (now (edges .entry)) 0) e (now (places .entry)) → Standing stops (now (nodes .entry)) (extent .barriers) → Sown (Listed (row (now (edges .entry)) 0) (row (now (edges .entry)) 1) e) (now (nodes .entry)) (extent .barriers) masks → Each Begins masks (now (levels .entry)) → Leveled (Listed (row (now (edges .entry)) 0) (row (now (edges .entry)) 1) e) (Clear stops) (Clear stops) (now (nodes .entry)) (extent .barriers) (now (levels .exit))) ⌝ }
+    ensures { λ _. ⌜ ((e : ℕ) (stops masks : List ℕ) → Split (now (edges .entry)) e stops (extent .parts) → Places (row (now (edges .entry)) 0) e (now (places .entry)) → Standing stops (now (nodes .entry)) (extent .barriers) → Sown (Listed (row (now (edges .entry)) 0) (row (now (edges .entry)) 1) e) (now (nodes .entry)) (extent .barriers) masks → Each Begins masks (now (levels .entry)) → Leveled (Listed (row (now (edges .entry)) 0) (row (now (edges .entry)) 1) e) (Clear stops) (Clear stops) (now (nodes .entry)) (extent .barriers) (now (levels .exit))) ⌝ }
 {
     if far(extent.parts, extent.barriers) {
         searched(edges, places, nodes, extent.barriers, levels);

@@ -33,9 +33,9 @@ fn depart(
     masks: &mut [u64; Chart::NODES],
     levels: &mut [u8; Chart::NODES],
 )
-    requires { ⌜ (total ≤ 64) × (now masks ≡ replicate 192 0) × ((ups : ℕ) × (low : ℕ) × (ins : ℕ) × Ready (now edges) (now places) ups low ins) ⌝ }
+    requires { ⌜ (total ≤ 64) × (now masks ≡ replicate 192 0) × ((parts : Parts) × Ready (now edges) (now places) parts) ⌝ }
     requires { ⌜ ((b : ℕ) → getD (now sources) b 0 < 192) ⌝ }
-    ensures { λ _. ⌜ ((e : ℕ) (stops : List ℕ) (ups low ins : ℕ) → Split (now (edges .entry)) e stops ups low ins → Places (row (now (edges .entry)) 0) e (now (places .entry)) → Sown (Listed (row (now (edges .entry)) 0) (row (now (edges .entry)) 1) e) (now (sources .entry)) total (now (masks .exit))) ⌝ }
+    ensures { λ _. ⌜ ((e : ℕ) (stops : List ℕ) (parts : Parts) → Split (now (edges .entry)) e stops parts → Places (row (now (edges .entry)) 0) e (now (places .entry)) → Sown (Listed (row (now (edges .entry)) 0) (row (now (edges .entry)) 1) e) (now (sources .entry)) total (now (masks .exit))) ⌝ }
     ensures { λ _. ⌜ Each Begins (now (masks .exit)) (now (levels .exit)) ⌝ }
 {
     sow(&edges[Parts::TO], places, sources, total, masks, levels);
@@ -43,9 +43,9 @@ fn depart(
 
 // On from there, past no stop.
 fn proceed(edges: &[[u8; Chart::EDGES]; Parts::ROWS], parts: Parts, masks: &mut [u64; Chart::NODES])
-    requires { ⌜ ((e : ℕ) × (stops : List ℕ) × Split (now edges) e stops (parts .ups) (parts .low) (parts .ins)) ⌝ }
+    requires { ⌜ ((e : ℕ) × (stops : List ℕ) × Split (now edges) e stops parts) ⌝ }
     requires { ⌜ (length (now masks) ≡ 192) × ((y : ℕ) → getD (now masks) y 0 < 18446744073709551616) ⌝ }
-    ensures { λ _. ⌜ ((e : ℕ) (stops sources : List ℕ) (total : ℕ) → Split (now (edges .entry)) e stops (parts .ups) (parts .low) (parts .ins) → Sown (Listed (row (now (edges .entry)) 0) (row (now (edges .entry)) 1) e) sources total (now (masks .entry)) → Spread (Listed (row (now (edges .entry)) 0) (row (now (edges .entry)) 1) e) stops sources total (now (masks .exit))) ⌝ }
+    ensures { λ _. ⌜ ((e : ℕ) (stops sources : List ℕ) (total : ℕ) → Split (now (edges .entry)) e stops parts → Sown (Listed (row (now (edges .entry)) 0) (row (now (edges .entry)) 1) e) sources total (now (masks .entry)) → Spread (Listed (row (now (edges .entry)) 0) (row (now (edges .entry)) 1) e) stops sources total (now (masks .exit))) ⌝ }
 {
     close(
         &edges[Parts::PLAIN_FROM],
@@ -66,9 +66,9 @@ pub fn ahead(
     total: usize,
     masks: &mut [u64; Chart::NODES],
 )
-    requires { ⌜ (total ≤ 64) × (now masks ≡ replicate 192 0) × Ready (now edges) (now places) (parts .ups) (parts .low) (parts .ins) ⌝ }
+    requires { ⌜ (total ≤ 64) × (now masks ≡ replicate 192 0) × Ready (now edges) (now places) parts ⌝ }
     requires { ⌜ ((b : ℕ) → getD (now sources) b 0 < 192) ⌝ }
-    ensures { λ _. ⌜ ((e : ℕ) (stops : List ℕ) → Split (now (edges .entry)) e stops (parts .ups) (parts .low) (parts .ins) → Places (row (now (edges .entry)) 0) e (now (places .entry)) → Spread (Listed (row (now (edges .entry)) 0) (row (now (edges .entry)) 1) e) stops (now (sources .entry)) total (now (masks .exit))) ⌝ }
+    ensures { λ _. ⌜ ((e : ℕ) (stops : List ℕ) → Split (now (edges .entry)) e stops parts → Places (row (now (edges .entry)) 0) e (now (places .entry)) → Spread (Listed (row (now (edges .entry)) 0) (row (now (edges .entry)) 1) e) stops (now (sources .entry)) total (now (masks .exit))) ⌝ }
 {
     let mut levels = [0u8; Chart::NODES];
     depart(edges, places, sources, total, masks, &mut levels);
@@ -84,8 +84,8 @@ fn behind(
     masks: &mut [u64; Chart::NODES],
 )
     requires { ⌜ (total ≤ 64) × (now masks ≡ replicate 192 0) × ((b : ℕ) → getD (now sources) b 0 < 192) ⌝ }
-    requires { ⌜ ((e : ℕ) × (stops : List ℕ) × Split (now edges) e stops (parts .ups) (parts .low) (parts .ins)) ⌝ }
-    ensures { λ _. ⌜ ((e : ℕ) (stops : List ℕ) → Split (now (edges .entry)) e stops (parts .ups) (parts .low) (parts .ins) → Standing stops (now (sources .entry)) total → Spread (Listed (row (now (edges .entry)) 1) (row (now (edges .entry)) 0) e) stops (now (sources .entry)) total (now (masks .exit))) ⌝ }
+    requires { ⌜ ((e : ℕ) × (stops : List ℕ) × Split (now edges) e stops parts) ⌝ }
+    ensures { λ _. ⌜ ((e : ℕ) (stops : List ℕ) → Split (now (edges .entry)) e stops parts → Standing stops (now (sources .entry)) total → Spread (Listed (row (now (edges .entry)) 1) (row (now (edges .entry)) 0) e) stops (now (sources .entry)) total (now (masks .exit))) ⌝ }
 {
     let mut own = [0u64; Chart::NODES];
     stand(sources, total, &mut own);
@@ -149,8 +149,8 @@ fn onward(
     masks: &mut [u64; Chart::NODES],
 )
     requires { ⌜ (extent .barriers ≤ 64) × ((b : ℕ) → getD (now sources) b 0 < 192) ⌝ }
-    requires { ⌜ ((e : ℕ) × (stops : List ℕ) × Split (now edges) e stops (extent .parts .ups) (extent .parts .low) (extent .parts .ins) × Sown (Listed (row (now edges) 0) (row (now edges) 1) e) (now sources) (extent .barriers) (now masks)) ⌝ }
-    ensures { λ _. ⌜ ((e : ℕ) (stops : List ℕ) → Split (now (edges .entry)) e stops (extent .parts .ups) (extent .parts .low) (extent .parts .ins) → Places (row (now (edges .entry)) 0) e (now (places .entry)) → Standing stops (now (sources .entry)) (extent .barriers) → Sown (Listed (row (now (edges .entry)) 0) (row (now (edges .entry)) 1) e) (now (sources .entry)) (extent .barriers) (now (masks .entry)) → Leveled (Listed (row (now (edges .entry)) 0) (row (now (edges .entry)) 1) e) (Clear stops) (Clear stops) (now (sources .entry)) (extent .barriers) (now (levels .entry)) → Spread (Listed (row (now (edges .entry)) 0) (row (now (edges .entry)) 1) e) stops (now (sources .entry)) (extent .barriers) (now (masks .exit))) ⌝ }
+    requires { ⌜ ((e : ℕ) × (stops : List ℕ) × Split (now edges) e stops (extent .parts) × Sown (Listed (row (now edges) 0) (row (now edges) 1) e) (now sources) (extent .barriers) (now masks)) ⌝ }
+    ensures { λ _. ⌜ ((e : ℕ) (stops : List ℕ) → Split (now (edges .entry)) e stops (extent .parts) → Places (row (now (edges .entry)) 0) e (now (places .entry)) → Standing stops (now (sources .entry)) (extent .barriers) → Sown (Listed (row (now (edges .entry)) 0) (row (now (edges .entry)) 1) e) (now (sources .entry)) (extent .barriers) (now (masks .entry)) → Leveled (Listed (row (now (edges .entry)) 0) (row (now (edges .entry)) 1) e) (Clear stops) (Clear stops) (now (sources .entry)) (extent .barriers) (now (levels .entry)) → Spread (Listed (row (now (edges .entry)) 0) (row (now (edges .entry)) 1) e) stops (now (sources .entry)) (extent .barriers) (now (masks .exit))) ⌝ }
     ensures { λ _. ⌜ length (now (masks .exit)) ≡ 192 ⌝ }
 {
     if lone(places, sources, extent.barriers) {
@@ -170,9 +170,9 @@ pub fn starts(
     levels: &mut [u8; Chart::NODES],
     all: &mut [u64; Chart::NODES],
 )
-    requires { ⌜ (extent .barriers ≤ 64) × (now masks ≡ replicate 192 0) × Ready (now edges) (now places) (extent .parts .ups) (extent .parts .low) (extent .parts .ins) ⌝ }
+    requires { ⌜ (extent .barriers ≤ 64) × (now masks ≡ replicate 192 0) × Ready (now edges) (now places) (extent .parts) ⌝ }
     requires { ⌜ ((b : ℕ) → getD (now nodes) b 0 < 192) ⌝ }
-    ensures { λ _. ⌜ ((e : ℕ) (stops : List ℕ) → Split (now (edges .entry)) e stops (extent .parts .ups) (extent .parts .low) (extent .parts .ins) → Places (row (now (edges .entry)) 0) e (now (places .entry)) → Standing stops (now (nodes .entry)) (extent .barriers) → Marked (Listed (row (now (edges .entry)) 0) (row (now (edges .entry)) 1) e) stops (now (nodes .entry)) (extent .barriers) (now (masks .exit)) (now (all .exit)) × Leveled (Listed (row (now (edges .entry)) 0) (row (now (edges .entry)) 1) e) (Clear stops) (Clear stops) (now (nodes .entry)) (extent .barriers) (now (levels .exit))) ⌝ }
+    ensures { λ _. ⌜ ((e : ℕ) (stops : List ℕ) → Split (now (edges .entry)) e stops (extent .parts) → Places (row (now (edges .entry)) 0) e (now (places .entry)) → Standing stops (now (nodes .entry)) (extent .barriers) → Marked (Listed (row (now (edges .entry)) 0) (row (now (edges .entry)) 1) e) stops (now (nodes .entry)) (extent .barriers) (now (masks .exit)) (now (all .exit)) × Leveled (Listed (row (now (edges .entry)) 0) (row (now (edges .entry)) 1) e) (Clear stops) (Clear stops) (now (nodes .entry)) (extent .barriers) (now (levels .exit))) ⌝ }
 {
     let total = extent.barriers;
     let parts = extent.parts;
@@ -199,8 +199,8 @@ pub fn ends(
     masks: &mut [u64; Chart::NODES],
 )
     requires { ⌜ (extent .barriers ≤ 64) × (now masks ≡ replicate 192 0) × ((b : ℕ) → getD (now nodes) b 0 < 192) ⌝ }
-    requires { ⌜ ((e : ℕ) × (stops : List ℕ) × Split (now edges) e stops (extent .parts .ups) (extent .parts .low) (extent .parts .ins)) ⌝ }
-    ensures { λ _. ⌜ ((e : ℕ) (stops : List ℕ) → Split (now (edges .entry)) e stops (extent .parts .ups) (extent .parts .low) (extent .parts .ins) → Standing stops (now (nodes .entry)) (extent .barriers) → Cleared (Listed (row (now (edges .entry)) 1) (row (now (edges .entry)) 0) e) stops (now (nodes .entry)) (extent .barriers) (now (masks .exit))) ⌝ }
+    requires { ⌜ ((e : ℕ) × (stops : List ℕ) × Split (now edges) e stops (extent .parts)) ⌝ }
+    ensures { λ _. ⌜ ((e : ℕ) (stops : List ℕ) → Split (now (edges .entry)) e stops (extent .parts) → Standing stops (now (nodes .entry)) (extent .barriers) → Cleared (Listed (row (now (edges .entry)) 1) (row (now (edges .entry)) 0) e) stops (now (nodes .entry)) (extent .barriers) (now (masks .exit))) ⌝ }
 {
     behind(edges, extent.parts, nodes, extent.barriers, masks);
     clear(nodes, extent.barriers, masks);

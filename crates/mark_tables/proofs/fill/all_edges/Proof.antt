@@ -13,7 +13,7 @@ use Rattle.mark_tables.proofs.fill.all_edges.Tie as tie
 
 abbrev Inv-loop : tie.InvT-loop
 Inv-loop s chart stops table₀ e parts₀ i₀ table parts i =
-    (i ≤ chart .edges) × Tabling (decode s) (chart .region) i stops table i (parts .ups) (parts .low) (parts .ins)
+    (i ≤ chart .edges) × Tabling (decode s) (chart .region) i stops table i parts
 
 abbrev μ-loop : tie.MeasureT-loop
 μ-loop s chart stops table₀ e parts₀ i₀ table parts i = chart .edges - i

@@ -15,7 +15,7 @@ use Rattle.mark_tables.proofs.fill.cut_edges.Tie as tie
 
 abbrev Inv-loop : tie.InvT-loop
 Inv-loop s chart stops table₀ flags e loaded₀ i₀ table loaded i =
-    (i ≤ chart .edges) × Tabling (decode s) (chart .region) i stops table (loaded .edges) (loaded .parts .ups) (loaded .parts .low) (loaded .parts .ins)
+    (i ≤ chart .edges) × Tabling (decode s) (chart .region) i stops table (loaded .edges) (loaded .parts)
 
 abbrev μ-loop : tie.MeasureT-loop
 μ-loop s chart stops table₀ flags e loaded₀ i₀ table loaded i = chart .edges - i
@@ -35,7 +35,7 @@ wide-requires c κs = search needs
 -- the edge of a turn, and the room for it
 room : (c : tie.After-read Inv-loop μ-loop)
     → (let l = c .before .before .loop in
-    Next (l .table) (l .loaded .edges) (c .before .before .before .before .before .before .args .stops .now) (l .loaded .parts .ups) (l .loaded .parts .low) (l .loaded .parts .ins)
+    Next (l .table) (l .loaded .edges) (c .before .before .before .before .before .before .args .stops .now) (l .loaded .parts)
     (c .read .result .from) (c .read .result .to))
 room c =
     let l = c .before .before in

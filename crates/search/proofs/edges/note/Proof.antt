@@ -30,7 +30,12 @@ returns c =
     let start = c .before .before in
     let pre = start .pre in
     let (first, second, rest) = wrote (start .args .edges .now) 4 5 (start .args .parts .ins) (start .args .from) (start .args .to) (omega (arith, pre .2)) (omega (arith, pre .2)) (λ e. omega arith) in
-    (record { is-s = first; is-t = second; none = c .count .ensures .0; one = c .count .ensures .1 }, (rest, refl, refl))
+    record {
+      noted = record { is-s = first; is-t = second; none = c .count .ensures .0; one = c .count .ensures .1 };
+      beside = rest;
+      ups = refl;
+      low = refl;
+    }
 
 pub note-spec : {M : Type 1} → statement M
 note-spec = tie.close (tie.spec index-1-edges index-2-edges index-1-edges-2 index-2-edges-2 element-copy-out-count count-requires returns)

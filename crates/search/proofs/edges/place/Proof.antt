@@ -32,8 +32,8 @@ note-requires c κs =
     let put = c .before in
     let start = put .before .before .before in
     let N = start .pre in
-    let (p, (b, same)) = put .put .ensures in
-    (omega (arith, N .split .come .few, N .within, same), N .to, (simp length-set at (b .long)) ∙ N .sized .six)
+    let p = put .put .ensures in
+    (omega (arith, N .split .come .few, N .within, p .ins), N .to, (simp length-set at (p .beside .long)) ∙ N .sized .six)
 
 returns : tie.Need-returns
 returns c =
@@ -42,9 +42,7 @@ returns c =
     let start = kept .before in
     let N = start .pre in
     let (f, t, b) = wrote (start .args .edges .now) 0 1 (start .args .j) (start .args .from) (start .args .to) (omega (arith, N .sized .six)) (omega (arith, N .sized .six)) (λ e. omega arith) in
-    let (p, (d, same)) = put .put .ensures in
-    let (q, (e, ups, low)) = c .note .ensures in
-    rw (ups, low) (split-more N f t b (kept .kept .ensures .0) (kept .kept .ensures .1) p d (rw same at q) e)
+    split-more N f t b (kept .kept .ensures .0) (kept .kept .ensures .1) (put .put .ensures) (c .note .ensures)
 
 pub place-spec : {M : Type 1} → statement M
 place-spec =

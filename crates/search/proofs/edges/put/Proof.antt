@@ -46,7 +46,11 @@ returns c =
     let picked = c .before .before .before .before in
     let pre = picked .before .before .pre in
     let (first, second, rest) = wrote (picked .before .before .args .edges .now) 2 3 (picked .pick .result) (picked .before .before .args .from) (picked .before .before .args .to) (omega (arith, pre .2)) (omega (arith, pre .2)) (λ e. omega arith) in
-    (rw (first, second) (put-is _ _ _ _ _ _ _ _ _ _ (pre .0) (picked .pick .ensures) (c .before .before .before .rises .ensures) (c .before .falls .ensures)), (rest, refl))
+    record {
+      put = rw (first, second) (put-is _ _ _ _ _ _ _ _ _ _ (pre .0) (picked .pick .ensures) (c .before .before .before .rises .ensures) (c .before .falls .ensures));
+      beside = rest;
+      ins = refl;
+    }
 
 pub put-spec : {M : Type 1} → statement M
 put-spec =

@@ -10,7 +10,7 @@ searched-requires : tie.Need-searched-requires
 searched-requires c κs = search needs
 
 returns : tie.Need-returns
-returns c = λ e stops masks T P S w B. c .searched .ensures e stops _ _ _ T P S
+returns c = λ e stops masks T P S w B. c .searched .ensures e stops _ T P S
 
 swept-requires : tie.Need-swept-requires
 swept-requires c κs = search needs

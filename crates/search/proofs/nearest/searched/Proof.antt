@@ -18,11 +18,11 @@ index-1-search c = search needs
 search-requires : tie.Need-search-requires
 search-requires c κs =
     let marked = c .before .before in
-    let ((few, (ups, low, ins, ready)), nodes) = marked .before .before .before .pre in
+    let ((few, (_, ready)), nodes) = marked .before .before .before .pre in
     ((few, bounded (ready .split) (ready .begins), marked .mark .ensures .1), nodes)
 
 returns : tie.Need-returns
-returns c = λ e stops ups low ins T P S. leveled-starts T S P (c .before .before .before .mark .ensures .0) (c .search .ensures)
+returns c = λ e stops _ T P S. leveled-starts T S P (c .before .before .before .mark .ensures .0) (c .search .ensures)
 
 pub searched-spec : {M : Type 1} → statement M
 searched-spec =

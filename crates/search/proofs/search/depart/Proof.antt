@@ -10,12 +10,12 @@ index-1-sow c = search needs
 
 sow-requires : tie.Need-sow-requires
 sow-requires c κs =
-    let ((few, blank, (ups, low, ins, ready)), sources) = c .before .before .before .pre in
+    let ((few, blank, (_, ready)), sources) = c .before .before .before .pre in
     let T = ready .split in
     ((few, blank, bounded T (ready .begins) .place), (T .to, sources))
 
 returns : tie.Need-returns
-returns c = ((λ e stops ups low ins T P. sown-ahead T P (c .sow .ensures .0)), c .sow .ensures .1)
+returns c = ((λ e stops _ T P. sown-ahead T P (c .sow .ensures .0)), c .sow .ensures .1)
 
 pub depart-spec : {M : Type 1} → statement M
 depart-spec = tie.close (tie.spec index-1-sow sow-requires returns)

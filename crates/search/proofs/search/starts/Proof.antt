@@ -20,7 +20,7 @@ gone c = c .before .before .before
 depart-requires : tie.Need-depart-requires
 depart-requires c κs =
     let ((few, blank, ready), nodes) = c .before .before .before .pre in
-    ((few, blank, (_, _, _, ready)), nodes)
+    ((few, blank, (_, ready)), nodes)
 
 fewest-requires : tie.Need-fewest-requires
 fewest-requires c κs =
@@ -32,7 +32,7 @@ onward-requires : tie.Need-onward-requires
 onward-requires c κs =
     let departed = c .before .before .before .before in
     let ((few, blank, ready), nodes) = start departed .pre in
-    let w = departed .depart .ensures .0 _ _ _ _ _ (ready .split) (ready .begins) in
+    let w = departed .depart .ensures .0 _ _ _ (ready .split) (ready .begins) in
     ((few, nodes), (_, _, ready .split, w))
 
 clear-requires : tie.Need-clear-requires
@@ -57,7 +57,7 @@ returns : tie.Need-returns
 returns c = λ e stops T P S.
     let cleared = c .before .before .before .before .before in
     let p = gone cleared in
-    let w = left p .depart .ensures .0 e stops _ _ _ T P in
+    let w = left p .depart .ensures .0 e stops _ T P in
     let v = p .before .before .before .fewest .ensures e stops _ T P S w (left p .depart .ensures .1) in
     (marked-starts T S (p .onward .ensures .0 e stops T P S w v) (cleared .clear .ensures) (c .feed .ensures), v)
 
