@@ -14,7 +14,7 @@ use Rattle.lists.specs.Store.{at-set}
 use Rattle.theory_paths.specs.Graph.{Listed, Rising}
 use Rattle.theory_paths.specs.Found.{Clear}
 use Rattle.theory_paths.specs.FoundLaws.{listed-turned}
-use Rattle.search.specs.Sweep.{Between, Lies, Ahead, place}
+use Rattle.search.specs.Sweep.{Between, Lies, Ahead, Lists, place}
 use Rattle.search.specs.SweepLaws.{Inner}
 use Rattle.search.specs.Parts.{Kept, Parted, Put, Come, Noted}
 
@@ -322,25 +322,45 @@ module _ {keys values stops : List ℕ} {e : ℕ} {s t : List ℕ} {ups low : �
   }
 
   -- forward
-  pub ups-ahead : Ahead s t 0 ups false
+  ups-ahead : Ahead s t 0 ups false
   unfolding place
   ups-ahead a k l m n q = absurd (omega (arith, i .rising a k (omega arith) n, i .up k n .1))
 
-  pub downs-ahead : Ahead s t low 1024 false
+  downs-ahead : Ahead s t low 1024 false
   unfolding place
   downs-ahead a k l m n q = inr (omega (arith, i .falling a k l (omega arith) n, i .down k (omega arith) n .1))
 
   -- backward, along the edges turned round
-  pub ups-back : Ahead t s 0 ups true
+  ups-back : Ahead t s 0 ups true
   unfolding place
   ups-back a k l m n q =
       let a′ = 0 + (ups - 1 - a) in
       let k′ = 0 + (ups - 1 - k) in
       absurd (omega (arith, i .rising k′ a′ (omega arith) (omega arith), i .up a′ (omega arith) .1))
 
-  pub downs-back : Ahead t s low 1024 true
+  downs-back : Ahead t s low 1024 true
   unfolding place
   downs-back a k l m n q =
       let a′ = low + (1024 - 1 - a) in
       let k′ = low + (1024 - 1 - k) in
       inl (omega (arith, i .falling k′ a′ (omega arith) (omega arith) (omega arith), i .down a′ (omega arith) (omega arith) .1))
+
+  pub lists-ahead : e ≤ 1024 → Lists s t ups low false
+  lists-ahead few = record {
+    ups-most = omega (arith, i .few, i .top);
+    low-most = i .top;
+    key = i .node-s;
+    value = i .node-t;
+    rising = ups-ahead;
+    falling = downs-ahead;
+  }
+
+  pub lists-back : e ≤ 1024 → Lists t s ups low true
+  lists-back few = record {
+    ups-most = omega (arith, i .few, i .top);
+    low-most = i .top;
+    key = i .node-t;
+    value = i .node-s;
+    rising = ups-back;
+    falling = downs-back;
+  }

@@ -7,7 +7,7 @@ use mathlib.Core.List.{List}
 use Prim.Native.Nat.{ℕ, _+_, _<_}
 use native.Mathlib.Omega.{arith}
 use lib.ListN.{length, getD}
-use Rattle.search.specs.Sweep.{Between, Lies, Run, Carried, start, Closed, Ahead, weight, flag, Kind}
+use Rattle.search.specs.Sweep.{Between, Lies, Run, Carried, start, Closed, Lists, weight, flag, Kind}
 use Rattle.search.specs.SweepLaws.{flag-le, flag-some, flag-none}
 use Rattle.search.proofs.Runs.{run-swept, run-carried, run-closed, quiet-closed, carried-on}
 
@@ -24,42 +24,43 @@ pub record Closing (f : ℕ → ℕ → ℕ) (C : ℕ → ℕ → Type 0) (B : �
   pub rising : new ≡ 0 → Closed C (Between keys values 0 ups) t
 
 module _ {f : ℕ → ℕ → ℕ} {R C : ℕ → ℕ → Type 0} {g : ℕ → ℕ} {B : ℕ → Type 0} (K : Kind f R C g B)
-    (keys values : List ℕ) (ups low : ℕ) (back : Bool) (kn : (j : ℕ) → getD keys j 0 < 192) (vn : (j : ℕ) → getD values j 0 < 192)
-    (first : Ahead keys values 0 ups back) (second : Ahead keys values low 1024 back) where
-  pub begin : {s : List ℕ} → length s ≡ 192 → ((y : ℕ) → B (getD s y 0)) → Half f B keys values ups low s s
-  begin l b = record { long = l; bound = b; carried = start }
-
-  pub rise : {s t u : List ℕ} {n : ℕ} → Half f B keys values ups low s t → Run f keys values 0 ups back t ups u n
+    {keys values : List ℕ} {ups low : ℕ} {back : Bool} (L : Lists keys values ups low back) where
+  rise : {s t u : List ℕ} {n : ℕ} → Half f B keys values ups low s t → Run f keys values 0 ups back t ups u n
       → Half f B keys values ups low s u × Closed C (Between keys values 0 ups) u
   rise h r =
-      let w = run-swept K keys values 0 ups back kn vn (h .long) (h .bound) r in (
+      let w = run-swept K keys values 0 ups back (L .key) (L .value) (h .long) (h .bound) r in (
         record {
           long = w .long;
           bound = w .bound;
-          carried = carried-on (h .carried) (run-carried K keys values 0 ups back kn vn (λ x y. inl) (omega arith) r);
+          carried = carried-on (h .carried) (run-carried K keys values 0 ups back (L .key) (L .value) (λ x y. inl) (omega arith) r);
         },
-        run-closed K keys values 0 ups back kn vn first (h .long) (h .bound) r,
+        run-closed K keys values 0 ups back (L .key) (L .value) (L .rising) (h .long) (h .bound) r,
       )
 
-  pub fall : {s t u : List ℕ} {n : ℕ} → Half f B keys values ups low s t → Closed C (Between keys values 0 ups) t
+  fall : {s t u : List ℕ} {n : ℕ} → Half f B keys values ups low s t → Closed C (Between keys values 0 ups) t
       → Run f keys values low 1024 back t 1024 u n → Closing f C B keys values ups low s u n
   fall h c r =
-      let w = run-swept K keys values low 1024 back kn vn (h .long) (h .bound) r in
+      let w = run-swept K keys values low 1024 back (L .key) (L .value) (h .long) (h .bound) r in
       record {
         half = record {
           long = w .long;
           bound = w .bound;
-          carried = carried-on (h .carried) (run-carried K keys values low 1024 back kn vn (λ x y. inr) (omega arith) r);
+          carried = carried-on (h .carried) (run-carried K keys values low 1024 back (L .key) (L .value) (λ x y. inr) (omega arith) r);
         };
-        falling = run-closed K keys values low 1024 back kn vn second (h .long) (h .bound) r;
+        falling = run-closed K keys values low 1024 back (L .key) (L .value) (L .falling) (h .long) (h .bound) r;
         rising = λ e. quiet-closed K w e c;
       }
+
+  -- the first two sweeps
+  pub opened : {s t u : List ℕ} {m n : ℕ} → length s ≡ 192 → ((y : ℕ) → B (getD s y 0))
+      → Run f keys values 0 ups back s ups t m → Run f keys values low 1024 back t 1024 u n → Closing f C B keys values ups low s u n
+  opened l b r q = let (h, c) = rise (record { long = l; bound = b; carried = start }) r in fall h c q
 
   -- a turn whose first sweep is quiet
   pub still : {s t u : List ℕ} {m n : ℕ} → Closing f C B keys values ups low s t m → (m ≡ 0 → ⊥) → n ≡ 0 → Run f keys values 0 ups back t ups u n
       → Closing f C B keys values ups low s u n × (weight g u + flag n < weight g t + flag m)
   still {m = m} {n = n} i o e r =
-      let w = run-swept K keys values 0 ups back kn vn (i .half .long) (i .half .bound) r in
+      let w = run-swept K keys values 0 ups back (L .key) (L .value) (i .half .long) (i .half .bound) r in
       let (h, c) = rise (i .half) r in (
         record { half = h; falling = quiet-closed K w e (i .falling); rising = λ _. c },
         omega (arith, w .less, flag-some m o, flag-none n e),
@@ -70,9 +71,9 @@ module _ {f : ℕ → ℕ → ℕ} {R C : ℕ → ℕ → Type 0} {g : ℕ → �
       → Run f keys values 0 ups back t ups u n → Run f keys values low 1024 back u 1024 v k
       → Closing f C B keys values ups low s v k × (weight g v + flag k < weight g t + flag m)
   again {m = m} {n = n} {k = k} i o e r q =
-      let w = run-swept K keys values 0 ups back kn vn (i .half .long) (i .half .bound) r in
+      let w = run-swept K keys values 0 ups back (L .key) (L .value) (i .half .long) (i .half .bound) r in
       let (h, c) = rise (i .half) r in
-      let z = run-swept K keys values low 1024 back kn vn (h .long) (h .bound) q in
+      let z = run-swept K keys values low 1024 back (L .key) (L .value) (h .long) (h .bound) q in
       (fall h c q, omega (arith, w .loud e, z .less, flag-some m o, flag-le k))
 
 pub closing-closed : {f : ℕ → ℕ → ℕ} {C : ℕ → ℕ → Type 0} {B : ℕ → Type 0} {keys values : List ℕ} {ups low : ℕ} {s t : List ℕ} {new : ℕ}

@@ -4,7 +4,7 @@ ghost use Prim.Native.Nat.{ℕ, _≤_, _<_};
 ghost use lib.Bits.{bitOr};
 ghost use lib.ListN.{getD, length};
 ghost use Rattle.lists.specs.Mask.{Sub};
-ghost use Rattle.search.specs.Sweep.{Lies, Step, Run, Carried, Closed, Ahead, place};
+ghost use Rattle.search.specs.Sweep.{Lies, Step, Run, Carried, Closed, Lists, place};
 use chart::format::Chart;
 
 // The place of turn j: from a up, or from b down.
@@ -70,11 +70,8 @@ pub fn close(
     back: bool,
     masks: &mut [u64; Chart::NODES],
 )
-    requires { ⌜ (ups ≤ 1024) × (low ≤ 1024) × (length (now masks) ≡ 192) ⌝ }
-    requires { ⌜ ((j : ℕ) → getD (now keys) j 0 < 192) ⌝ }
-    requires { ⌜ ((j : ℕ) → getD (now values) j 0 < 192) ⌝ }
+    requires { ⌜ Lists (now keys) (now values) ups low back × (length (now masks) ≡ 192) ⌝ }
     requires { ⌜ ((y : ℕ) → getD (now masks) y 0 < 18446744073709551616) ⌝ }
-    requires { ⌜ Ahead (now keys) (now values) 0 ups back × Ahead (now keys) (now values) low 1024 back ⌝ }
     ensures { λ _. ⌜ Carried bitOr (Lies (now (keys .entry)) (now (values .entry)) ups low) (now (masks .entry)) (now (masks .exit)) ⌝ }
     ensures { λ _. ⌜ Closed Sub (Lies (now (keys .entry)) (now (values .entry)) ups low) (now (masks .exit)) ⌝ }
 {

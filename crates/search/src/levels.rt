@@ -2,7 +2,7 @@
 ghost use mathlib.Core.Path.{_≡_};
 ghost use Prim.Native.Nat.{ℕ, _≤_, _<_, min};
 ghost use lib.ListN.{getD, length};
-ghost use Rattle.search.specs.Sweep.{Lies, Run, Carried, Closed, Ahead};
+ghost use Rattle.search.specs.Sweep.{Lies, Run, Carried, Closed, Lists};
 ghost use Rattle.search.specs.LevelLaws.{nearer, Follows};
 use crate::close::place_of;
 use chart::format::Chart;
@@ -73,11 +73,8 @@ pub fn measure(
     back: bool,
     levels: &mut [u8; Chart::NODES],
 )
-    requires { ⌜ (ups ≤ 1024) × (low ≤ 1024) × (length (now levels) ≡ 192) ⌝ }
-    requires { ⌜ ((j : ℕ) → getD (now keys) j 0 < 192) ⌝ }
-    requires { ⌜ ((j : ℕ) → getD (now values) j 0 < 192) ⌝ }
+    requires { ⌜ Lists (now keys) (now values) ups low back × (length (now levels) ≡ 192) ⌝ }
     requires { ⌜ ((y : ℕ) → getD (now levels) y 0 ≤ 254) ⌝ }
-    requires { ⌜ Ahead (now keys) (now values) 0 ups back × Ahead (now keys) (now values) low 1024 back ⌝ }
     ensures { λ _. ⌜ Carried nearer (Lies (now (keys .entry)) (now (values .entry)) ups low) (now (levels .entry)) (now (levels .exit)) ⌝ }
     ensures { λ _. ⌜ Closed Follows (Lies (now (keys .entry)) (now (values .entry)) ups low) (now (levels .exit)) ⌝ }
 {

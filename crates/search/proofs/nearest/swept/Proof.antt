@@ -1,9 +1,8 @@
 -- `search::nearest::swept` meets its contract: sweeps, then the levels as they are told.
 -- Assumes nothing.
-use native.Mathlib.Omega.{arith}
 use borrow.Author.Needs.{needs}
 use Rattle.search.specs.SweepLaws.{carried-long}
-use Rattle.search.proofs.Splitting.{ups-ahead, downs-ahead}
+use Rattle.search.proofs.Splitting.{lists-ahead}
 use Rattle.search.proofs.Leveling.{begins-fit, leveled-ahead}
 use Rattle.search.proofs.nearest.swept.Statement.{statement}
 use Rattle.search.proofs.nearest.swept.Tie as tie
@@ -17,8 +16,7 @@ index-1-measure-2 c = search needs
 measure-requires : tie.Need-measure-requires
 measure-requires c κs =
     let ((e, stops, T), (masks, B)) = c .before .before .before .pre in
-    let P = T .plain in
-    ((omega (arith, P .few, P .top, T .few), P .top, B .long), (P .node-s, (P .node-t, (begins-fit B, (ups-ahead P, downs-ahead P)))))
+    ((lists-ahead (T .plain) (T .few), B .long), begins-fit B)
 
 tell-requires : tie.Need-tell-requires
 tell-requires c κs =

@@ -3,7 +3,7 @@
 use mathlib.Core.Path.{refl}
 use native.Mathlib.Omega.{arith}
 use borrow.Author.Needs.{needs}
-use Rattle.search.proofs.Splitting.{ups-back, downs-back}
+use Rattle.search.proofs.Splitting.{lists-back}
 use Rattle.search.proofs.Finding.{fed-fits, spread-behind}
 use Rattle.search.proofs.search.behind.Statement.{statement}
 use Rattle.search.proofs.search.behind.Tie as tie
@@ -36,9 +36,8 @@ close-requires : tie.Need-close-requires
 close-requires c κs =
     let fd = c .before .before .before in
     let ((few, blank, sources), (e, stops, T)) = stood fd .before .before .pre in
-    let P = T .plain in
     let (long, fits) = fed-fits blank few (stood fd .stand .ensures) (fd .feed .ensures) in
-    ((omega (arith, P .few, P .top, T .few), P .top, long), (P .node-t, (P .node-s, (fits, (ups-back P, downs-back P)))))
+    ((lists-back (T .plain) (T .few), long), fits)
 
 returns : tie.Need-returns
 returns c =

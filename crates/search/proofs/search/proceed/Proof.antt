@@ -1,8 +1,7 @@
 -- `search::search::proceed` meets its contract: sweeps along the edges between nodes that may be passed.
 -- Assumes nothing.
-use native.Mathlib.Omega.{arith}
 use borrow.Author.Needs.{needs}
-use Rattle.search.proofs.Splitting.{ups-ahead, downs-ahead}
+use Rattle.search.proofs.Splitting.{lists-ahead}
 use Rattle.search.proofs.Finding.{spread-ahead}
 use Rattle.search.proofs.search.proceed.Statement.{statement}
 use Rattle.search.proofs.search.proceed.Tie as tie
@@ -16,8 +15,7 @@ index-1-close-2 c = search needs
 close-requires : tie.Need-close-requires
 close-requires c κs =
     let ((e, stops, T), (long, fits)) = c .before .before .before .pre in
-    let P = T .plain in
-    ((omega (arith, P .few, P .top, T .few), P .top, long), (P .node-s, (P .node-t, (fits, (ups-ahead P, downs-ahead P)))))
+    ((lists-ahead (T .plain) (T .few), long), fits)
 
 returns : tie.Need-returns
 returns c = λ e stops sources total T w. spread-ahead T w (c .close .ensures .0) (c .close .ensures .1)
