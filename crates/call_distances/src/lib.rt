@@ -17,9 +17,7 @@ use mark_regions::outermost::Entered;
 use mark_tables::closed::load_closed;
 use output::Written;
 use output::room_for;
-
-// What is written for a barrier, and for a node outside the region.
-const NO_DISTANCE: u8 = 255;
+use theory_calls::Distance;
 
 // The byte of a node. Both numbers are handed over, so that nothing is read in a branch and several nodes are taken at once.
 fn distance_byte(level: u8, closed: u8) -> u8
@@ -28,7 +26,7 @@ fn distance_byte(level: u8, closed: u8) -> u8
     if closed == 0 {
         return level;
     }
-    NO_DISTANCE
+    Distance::AT_BARRIER
 }
 
 // The first n bytes of out become the distances of the first n nodes.

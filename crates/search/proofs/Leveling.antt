@@ -13,7 +13,7 @@ use Rattle.theory_paths.specs.Graph.{Listed}
 use Rattle.theory_paths.specs.Found.{Clear, Reached, ReachedIn, Leveled}
 use Rattle.search.specs.Sweep.{Lies, Carried, Closed}
 use Rattle.search.specs.SweepLaws.{Inner}
-use Rattle.search.specs.LevelLaws.{nearer, Follows, First, Begun, Measured, levels-found}
+use Rattle.search.specs.LevelLaws.{nearer, Follows, FromSource, Begun, Measured, levels-found}
 use Rattle.search.specs.Parts.{row, Split}
 use Rattle.search.proofs.Splitting.{parted-inner}
 use Rattle.search.specs.Levels.{Each, Begins, Tells}
@@ -41,7 +41,7 @@ module _ {E L : ℕ → ℕ → Type 0} (stops : List ℕ) {sources s d u v : Li
     all = λ b y l q e. omega (arith, begins .at y (q .0) .1 (some-bit (sown .mask y) .1 (b, (l, e))));
   }
     where
-      only : (y : ℕ) → y < 192 → getD d y 0 < 254 → Dec (getD s y 0 ≡ 0) → (getD d y 0 ≡ 1) × First E sources k y
+      only : (y : ℕ) → y < 192 → getD d y 0 < 254 → Dec (getD s y 0 ≡ 0) → (getD d y 0 ≡ 1) × FromSource E sources k y
       only y l h (yes e) = absurd (omega (arith, begins .at y l .0 e))
       only y l h (no n) =
           let (b, (m, e)) = some-bit (sown .mask y) .0 n in

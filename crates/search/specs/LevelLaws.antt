@@ -51,7 +51,7 @@ told-new (x ∷ l) zero v h e p = omega (arith, flag-some (254 - v) (λ z. omega
 told-new (x ∷ l) (suc i) v h e p = omega (arith, told-new l i v (omega arith) e p)
 
 -- A source has an edge to y.
-pub record First (E : ℕ → ℕ → Type 0) (sources : List ℕ) (k y : ℕ) : Type 0 where
+pub record FromSource (E : ℕ → ℕ → Type 0) (sources : List ℕ) (k y : ℕ) : Type 0 where
   pub source : ℕ
   pub below : source < k
   pub edge : E (getD sources source 0) y
@@ -59,7 +59,7 @@ pub record First (E : ℕ → ℕ → Type 0) (sources : List ℕ) (k y : ℕ) :
 -- The levels to start with.
 pub record Begun (E : ℕ → ℕ → Type 0) (Q : ℕ → Type 0) (sources : List ℕ) (k : ℕ) (d : List ℕ) : Type 0 where
   pub long : length d ≡ 192
-  pub only : (y : ℕ) → Q y → getD d y 0 < 254 → (getD d y 0 ≡ 1) × First E sources k y
+  pub only : (y : ℕ) → Q y → getD d y 0 < 254 → (getD d y 0 ≡ 1) × FromSource E sources k y
   pub all : (b y : ℕ) → b < k → Q y → E (getD sources b 0) y → getD d y 0 ≤ 1
 
 -- What they are in the end, 254 where there is no path.

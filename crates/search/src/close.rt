@@ -7,6 +7,9 @@ ghost use Rattle.lists.specs.Mask.{Sub};
 ghost use Rattle.search.specs.Sweep.{Lies, Step, Run, Carried, Closed, Lists, place};
 use chart::format::Chart;
 
+// Fewer edges than these are few.
+pub const FEW: usize = 200;
+
 // The place of turn j: from a up, or from b down.
 pub fn place_of(a: usize, b: usize, j: usize, back: bool) -> usize
     requires { ⌜ (a ≤ j) × (j < b) × (b ≤ 1024) ⌝ }
@@ -50,7 +53,7 @@ fn sweep(
     requires { ⌜ ((j : ℕ) → getD (now values) j 0 < 192) ⌝ }
     ensures { λ r. ⌜ Run bitOr (now (keys .entry)) (now (values .entry)) a b back (now (masks .entry)) b (now (masks .exit)) r ⌝ }
 {
-    let few = b - a < 200;
+    let few = b - a < FEW;
     let mut new = 0;
     let mut j = a;
     while j < b {
@@ -76,11 +79,11 @@ pub fn close(
     ensures { λ _. ⌜ Closed Sub (Lies (now (keys .entry)) (now (values .entry)) ups low) (now (masks .exit)) ⌝ }
 {
     let mut new = sweep(keys, values, 0, ups, back, masks);
-    new = sweep(keys, values, low, 1024, back, masks);
+    new = sweep(keys, values, low, Chart::EDGES, back, masks);
     while new != 0 {
         new = sweep(keys, values, 0, ups, back, masks);
         if new != 0 {
-            new = sweep(keys, values, low, 1024, back, masks);
+            new = sweep(keys, values, low, Chart::EDGES, back, masks);
         }
     }
 }

@@ -1,13 +1,24 @@
-// Levels closed along edges: a node's level is at most one more than that of a node before it. 254 is no level.
+// Levels closed along edges: a node's level is at most one more than that of a node before it.
 ghost use mathlib.Core.Path.{_≡_};
 ghost use Prim.Native.Nat.{ℕ, _≤_, _<_, min};
 ghost use lib.ListN.{getD, length};
 ghost use Rattle.search.specs.Sweep.{Lies, Run, Carried, Closed, Lists};
 ghost use Rattle.search.specs.LevelLaws.{nearer, Follows};
+use crate::close::FEW;
 use crate::close::place_of;
 use chart::format::Chart;
 
-pub const NONE: u8 = 254;
+// The fewest edges to a node from a source, while they are swept.
+pub struct Level {
+    pub edges: u8,
+}
+
+impl Level {
+    pub const NONE: u8 = 254;
+}
+
+// The number of no node.
+const NO_NODE: u8 = 255;
 
 // The smaller of two levels.
 fn smaller(a: u8, b: u8) -> u8
@@ -47,9 +58,9 @@ fn ascend(
     requires { ⌜ ((y : ℕ) → getD (now levels) y 0 ≤ 254) ⌝ }
     ensures { λ r. ⌜ Run nearer (now (keys .entry)) (now (values .entry)) a b back (now (levels .entry)) b (now (levels .exit)) r ⌝ }
 {
-    let few = b - a < 200;
+    let few = b - a < FEW;
     let mut new = 0;
-    let mut last = 255;
+    let mut last = NO_NODE;
     let mut level = 0;
     let mut j = a;
     while j < b {
@@ -79,11 +90,11 @@ pub fn measure(
     ensures { λ _. ⌜ Closed Follows (Lies (now (keys .entry)) (now (values .entry)) ups low) (now (levels .exit)) ⌝ }
 {
     let mut new = ascend(keys, values, 0, ups, back, levels);
-    new = ascend(keys, values, low, 1024, back, levels);
+    new = ascend(keys, values, low, Chart::EDGES, back, levels);
     while new != 0 {
         new = ascend(keys, values, 0, ups, back, levels);
         if new != 0 {
-            new = ascend(keys, values, low, 1024, back, levels);
+            new = ascend(keys, values, low, Chart::EDGES, back, levels);
         }
     }
 }

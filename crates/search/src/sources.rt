@@ -7,7 +7,7 @@ ghost use lib.ListN.{getD, length, replicate};
 ghost use Rattle.search.specs.Sweep.{Between};
 ghost use Rattle.search.specs.Fed.{Fed, Owned, Sowed, Stored};
 ghost use Rattle.search.specs.Levels.{Each, Begins};
-use crate::levels::NONE;
+use crate::levels::Level;
 use chart::cursor::wide;
 use chart::format::Chart;
 use masks::bits::bit;
@@ -72,7 +72,7 @@ pub fn sow(
     ensures { λ _. ⌜ Sowed (now (values .entry)) (now (places .entry)) (now (sources .entry)) total (now (masks .exit)) ⌝ }
     ensures { λ _. ⌜ Each Begins (now (masks .exit)) (now (levels .exit)) ⌝ }
 {
-    *levels = [NONE; Chart::NODES];
+    *levels = [Level::NONE; Chart::NODES];
     let mut b = 0;
     while b < total {
         let x = wide(sources[b]);

@@ -2,14 +2,14 @@
 ghost use mathlib.Core.Path.{_≡_};
 ghost use lib.ListN.{length};
 ghost use Rattle.search.specs.Levels.{Each, Tells, Shows};
-use crate::levels::NONE;
+use crate::levels::Level;
 use chart::format::Chart;
 
 // A level as it is told: 0 for none.
 fn told(level: u8) -> u8
     ensures { λ r. ⌜ Tells level r ⌝ }
 {
-    if level < NONE {
+    if level < Level::NONE {
         return level;
     }
     0

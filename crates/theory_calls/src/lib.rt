@@ -31,6 +31,16 @@ pub enum Answered {
     Refused(Refusal),
 }
 
+// A byte of Distances: the fewest edges to a node from a barrier.
+pub struct Distance {
+    pub edges: u8,
+}
+
+impl Distance {
+    // for a node outside the region too
+    pub const AT_BARRIER: u8 = 255;
+}
+
 // What Witnessed answers.
 pub enum Witnessed {
     Yes,
