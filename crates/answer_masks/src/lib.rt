@@ -1,16 +1,15 @@
 // The entrance of the calls that answer pairs: rows 1 to 10 and 23 of the refusals, and everything that the answers of a region are read off.
 ghost use mathlib.Core.Path.{_≡_};
-ghost use Prim.Native.Nat.{ℕ, _<_};
-ghost use lib.ListN.{getD, replicate};
-ghost use Rattle.chart.specs.Format.{decode};
+ghost use mathlib.Core.Logic.{_≢_};
+ghost use lib.ListN.{replicate};
+ghost use Rattle.chart.specs.Format.{outside, decode};
 ghost use Rattle.chart.specs.Scope.{beginNode, endNode};
 ghost use Rattle.chart.specs.Refusal.{firstOf};
-ghost use Rattle.chart.specs.Checked.{countsOf, readFor, answer, checked, reading};
+ghost use Rattle.chart.specs.Checked.{countsOf, readFor, answer, checked};
 ghost use Rattle.chart.specs.declared.format.Checked.the-variants.{Passed};
 ghost use Rattle.check_nodes.specs.Framed.{Framed};
 ghost use Rattle.theory_paths.specs.Admission.{admitRows, regionRows};
 ghost use Rattle.mark_tables.specs.Tables.{Accepted};
-ghost use Rattle.answer_constructs.specs.Marks.{Held, Kinds};
 ghost use Rattle.answer_masks.specs.Surveyed.{checkedOf, Survey};
 ghost use Rattle.answer_masks.specs.declared.Surveyed.the-variants.{Marked};
 use answer_constructs::chains::Sets;
@@ -26,9 +25,10 @@ use check_chart::check::check;
 use mark::boundaries::fill_ends;
 use mark::boundaries::fill_starts;
 use mark::returns::returns;
-use mark_regions::entrance::enter;
+use mark_regions::inner::bad_region;
 use mark_regions::outermost::Entered;
-use mark_tables::load::frames;
+use mark_regions::outermost::enter_region;
+use mark_regions::outermost::refuses;
 use mark_tables::tables::load_tables;
 use search::edges::Parts;
 
@@ -38,17 +38,18 @@ pub enum Surveyed {
     Refused(Refusal),
 }
 
-// Row 10 and the masks, of a chart that rows 1 to 9 let pass, given where its constructs begin and end.
-fn survey_chart(
+// Row 10, which is asked of the outermost region alone, and the masks of any region of a chart that rows 1 to 9 let pass, given where its
+// constructs begin and end. The region's tables are loaded once, and all masks are found by them.
+fn survey_region(
     s: &[u8],
     chart: Chart,
     begin_nodes: &[u8; Chart::BARRIERS],
     end_nodes: &[u8; Chart::BARRIERS],
     marks: &mut MaskTable,
 ) -> Surveyed
-    requires { ⌜ (checked (now s) ≡ Passed chart) × (now marks ≡ replicate 3 (replicate 192 0)) ⌝ }
+    requires { ⌜ Accepted (now s) chart × (chart .region ≡ outside → checked (now s) ≡ Passed chart) × (now marks ≡ replicate 3 (replicate 192 0)) ⌝ }
     requires { ⌜ Framed (decode (now s)) beginNode (now «begin_nodes») × Framed (decode (now s)) endNode (now «end_nodes») ⌝ }
-    ensures { λ r. ⌜ checkedOf r ≡ answer (firstOf (admitRows (now (s .entry)))) (countsOf (now (s .entry))) ⌝ }
+    ensures { λ r. ⌜ (chart .region ≡ outside → checkedOf r ≡ answer (firstOf (admitRows (now (s .entry)))) (countsOf (now (s .entry)))) × (chart .region ≢ outside → checkedOf r ≡ Passed chart) ⌝ }
     ensures { λ r. ⌜ ((chart : Chart) (sets : Sets) → r ≡ Marked chart sets → Survey (now (s .entry)) chart (now (marks .exit)) sets) ⌝ }
 {
     let mut edges = [[0u8; Chart::EDGES]; Parts::ROWS];
@@ -58,11 +59,13 @@ fn survey_chart(
     let mut levels = [0u8; Chart::NODES];
     let extent = load_tables(s, chart, &mut edges, &mut places, &mut stops, &mut nodes);
     let starts = &mut marks[STARTS];
-    if fill_starts(&edges, &places, &stops, &nodes, extent, starts, &mut levels) {
+    let unreached = fill_starts(&edges, &places, &stops, &nodes, extent, starts, &mut levels);
+    if refuses(chart, unreached) {
         return Surveyed::Refused(Refusal::PATHS);
     }
     let ends = &mut marks[ENDS];
-    if fill_ends(&edges, &nodes, extent, ends) {
+    let stuck = fill_ends(&edges, &nodes, extent, ends);
+    if refuses(chart, stuck) {
         return Surveyed::Refused(Refusal::PATHS);
     }
     let parts = extent.parts;
@@ -71,68 +74,50 @@ fn survey_chart(
     Surveyed::Marked(chart, sets)
 }
 
-// The first of rows 1 to 10 that applies, or all masks of all nodes, of the outermost region.
-fn survey_outermost(s: &[u8], marks: &mut MaskTable) -> Surveyed
-    requires { ⌜ now marks ≡ replicate 3 (replicate 192 0) ⌝ }
-    ensures { λ r. ⌜ checkedOf r ≡ answer (firstOf (admitRows (now (s .entry)))) (countsOf (now (s .entry))) ⌝ }
-    ensures { λ r. ⌜ ((chart : Chart) (sets : Sets) → r ≡ Marked chart sets → Survey (now (s .entry)) chart (now (marks .exit)) sets) ⌝ }
-{
-    let mut begin_nodes = [0u8; Chart::BARRIERS];
-    let mut end_nodes = [0u8; Chart::BARRIERS];
-    match check(s, &mut begin_nodes, &mut end_nodes) {
-        Checked::Refused(refusal) => Surveyed::Refused(refusal),
-        Checked::Passed(chart) => survey_chart(s, chart, &begin_nodes, &end_nodes, marks),
-    }
-}
-
-// What each node of any region of a chart holds, and the constructs of each kind.
-fn hold(s: &[u8], chart: Chart, held: &mut [u64; Chart::NODES]) -> Sets
-    requires { ⌜ Accepted (now s) chart × (now held ≡ replicate 192 0) ⌝ }
-    ensures { λ r. ⌜ Kinds (reading (now (s .entry)) chart) r ⌝ }
-    ensures { λ _. ⌜ ((x : ℕ) → x < chart .nodes → Held (reading (now (s .entry)) chart) x (getD (now (held .exit)) x 0)) ⌝ }
-{
-    let mut edges = [[0u8; Chart::EDGES]; Parts::ROWS];
-    let mut places = [0usize; Chart::PLACES];
-    let mut stops = [0u8; Chart::NODES];
-    let mut nodes = [0u8; Chart::BARRIERS];
-    let extent = load_tables(s, chart, &mut edges, &mut places, &mut stops, &mut nodes);
-    let mut begin_nodes = [0u8; Chart::BARRIERS];
-    let mut end_nodes = [0u8; Chart::BARRIERS];
-    frames(s, chart, &mut begin_nodes, &mut end_nodes);
-    let parts = extent.parts;
-    let returning = returns(s, chart, &begin_nodes, &end_nodes, &edges, &places, parts);
-    fill_held(s, chart, returning, held)
-}
-
-// The first of rows 1 to 10 and 23 that applies, or all masks of all nodes, of any region: the entrance marks it, and its tables are loaded
-// once more for what the nodes hold.
-fn survey_inner(s: &[u8], region: usize, marks: &mut MaskTable) -> Surveyed
-    requires { ⌜ now marks ≡ replicate 3 (replicate 192 0) ⌝ }
+// Rows 10 and 23, and all masks of all nodes of a parallel's region, of a chart that rows 1 to 9 let pass. The outermost region is marked
+// for row 10, beside the masks.
+fn survey_inner(
+    s: &[u8],
+    chart: Chart,
+    region: usize,
+    begin_nodes: &[u8; Chart::BARRIERS],
+    end_nodes: &[u8; Chart::BARRIERS],
+    marks: &mut MaskTable,
+) -> Surveyed
+    requires { ⌜ (checked (now s) ≡ Passed chart) × (region ≢ outside) × (now marks ≡ replicate 3 (replicate 192 0)) ⌝ }
+    requires { ⌜ Framed (decode (now s)) beginNode (now «begin_nodes») × Framed (decode (now s)) endNode (now «end_nodes») ⌝ }
     ensures { λ r. ⌜ checkedOf r ≡ answer (firstOf (regionRows (now (s .entry)) region)) (readFor (countsOf (now (s .entry))) region) ⌝ }
     ensures { λ r. ⌜ ((chart : Chart) (sets : Sets) → r ≡ Marked chart sets → Survey (now (s .entry)) chart (now (marks .exit)) sets) ⌝ }
 {
     let mut starts = [0u64; Chart::NODES];
     let mut ends = [0u64; Chart::NODES];
     let mut levels = [0u8; Chart::NODES];
-    match enter(s, region, &mut starts, &mut ends, &mut levels) {
+    match enter_region(s, chart, &mut starts, &mut ends, &mut levels) {
         Entered::Refused(refusal) => Surveyed::Refused(refusal),
-        Entered::Marked(chart, _) => {
-            marks[STARTS] = starts;
-            marks[ENDS] = ends;
-            let sets = hold(s, chart, &mut marks[HELD]);
-            Surveyed::Marked(chart, sets)
+        Entered::Marked(whole, _) => {
+            if bad_region(s, whole, region) {
+                return Surveyed::Refused(Refusal::REGION);
+            }
+            survey_region(s, whole.read_for(region), begin_nodes, end_nodes, marks)
         }
     }
 }
 
-// The first of rows 1 to 10 and 23 that applies, or all masks of all nodes of the region, which are 0 before. The outermost one is loaded and marked once.
+// The first of rows 1 to 10 and 23 that applies, or all masks of all nodes of the region, which are 0 before.
 pub fn survey(s: &[u8], region: usize, marks: &mut MaskTable) -> Surveyed
     requires { ⌜ now marks ≡ replicate 3 (replicate 192 0) ⌝ }
     ensures { λ r. ⌜ checkedOf r ≡ answer (firstOf (regionRows (now (s .entry)) region)) (readFor (countsOf (now (s .entry))) region) ⌝ }
     ensures { λ r. ⌜ ((chart : Chart) (sets : Sets) → r ≡ Marked chart sets → Survey (now (s .entry)) chart (now (marks .exit)) sets) ⌝ }
 {
-    if region == Chart::OUTERMOST {
-        return survey_outermost(s, marks);
+    let mut begin_nodes = [0u8; Chart::BARRIERS];
+    let mut end_nodes = [0u8; Chart::BARRIERS];
+    match check(s, &mut begin_nodes, &mut end_nodes) {
+        Checked::Refused(refusal) => Surveyed::Refused(refusal),
+        Checked::Passed(chart) => {
+            if region == Chart::OUTERMOST {
+                return survey_region(s, chart, &begin_nodes, &end_nodes, marks);
+            }
+            survey_inner(s, chart, region, &begin_nodes, &end_nodes, marks)
+        }
     }
-    survey_inner(s, region, marks)
 }

@@ -27,7 +27,7 @@ use Rattle.mark_tables.proofs.Loading.{barriers-most, barriers-below}
 use Rattle.mark_tables.proofs.Rows.{refused-paths, admits}
 use Rattle.mark.specs.Joined.{lost, lostBarrier, lostIn}
 use Rattle.mark.proofs.JoiningLaws.{some-barrier, barrier-lost, both-ways}
-use Rattle.mark_regions.specs.Entered.{entered}
+use Rattle.mark_regions.specs.Entered.{entered, admitted}
 use Rattle.mark_regions.specs.declared.outermost.Entered.the-variants.{Marked, Refused}
 
 pub entered-refused : (o : Option ℕ) (counts : Chart) (barriers : ℕ) {refusal : Refusal} → entered o counts barriers ≡ Refused refusal → o ≡ some (refusal .number)
@@ -80,7 +80,7 @@ module _ (s : List ℕ) (chart : Chart) (h : checked s ≡ Passed chart) where
   unfolding checked
   same = passed-none _ (countsOf s) chart h .1
 
-  read-whole : chart .region ≡ outside
+  pub read-whole : chart .region ≡ outside
   unfolding countsOf
   read-whole = sym (ap (λ (k : Chart). k .region) same)
 
@@ -122,12 +122,12 @@ module _ (s : List ℕ) (chart : Chart) (h : checked s ≡ Passed chart) where
   -- the answer of the entrance
 
   pub refuses : (number : ℕ) → firstOf (admitRows s) ≡ some number
-      → Refused (record { number = number }) ≡ entered (firstOf (admitRows s)) (countsOf s) (length (barriers (region (decode s))))
+      → Refused (record { number = number }) ≡ admitted s
   unfolding entered
   refuses number e = rw e
 
   pub marks : (total : ℕ) → total ≡ length (barriers (reading s chart)) → firstOf (admitRows s) ≡ none
-      → Marked chart total ≡ entered (firstOf (admitRows s)) (countsOf s) (length (barriers (region (decode s))))
+      → Marked chart total ≡ admitted s
   unfolding entered
   marks total q e =
       let n : total ≡ length (barriers (region (decode s))) = q ∙ ap (λ (r : Region). length (barriers r)) outermost in

@@ -24,13 +24,9 @@ use Rattle.chart.proofs.Facts.{Named, names-fit}
 use Rattle.theory_paths.specs.Admission.{admitRows, badRegion, regionRows}
 use Rattle.theory_paths.specs.AdmissionLaws.{outermost-rows}
 use Rattle.theory_paths.specs.Phases.{barriers}
-use Rattle.mark_regions.specs.Entered.{entered}
+use Rattle.mark_regions.specs.Entered.{entered, admitted, admittedFor}
 use Rattle.mark_regions.specs.declared.outermost.Entered.{Entered}
 use Rattle.mark_regions.specs.declared.outermost.Entered.the-variants.{Marked, Refused}
-
--- the answer for the region p
-abbrev pub answer : List ℕ → ℕ → Entered
-answer s p = entered (firstOf (regionRows s p)) (readFor (countsOf s) p) (length (barriers (regionOf p (decode s))))
 
 -- a number names a parallel's region where that construct is a parallel
 module _ (D : Decoded) (p : ℕ) (n : p ≢ outside) where
@@ -49,17 +45,17 @@ module _ (s : List ℕ) (p : ℕ) where
   abbrev last : List Row
   last = record { number = 23; applies = badRegion (decode s) p } ∷ []
 
-  pub refused-first : (number : ℕ) → firstOf (admitRows s) ≡ some number → Refused (record { number = number }) ≡ answer s p
+  pub refused-first : (number : ℕ) → firstOf (admitRows s) ≡ some number → Refused (record { number = number }) ≡ admittedFor s p
   unfolding regionRows entered
   refused-first number h = rw (first-decides (admitRows s) last number h)
 
   module _ (admits : firstOf (admitRows s) ≡ none) where
-    pub refused-region : badRegion (decode s) p ≡ true → Refused (record { number = 23 }) ≡ answer s p
+    pub refused-region : badRegion (decode s) p ≡ true → Refused (record { number = 23 }) ≡ admittedFor s p
     unfolding regionRows entered firstOf
     refused-region b = rw (second-decides (admitRows s) last admits, b)
 
     pub marked-region : {chart : Chart} {total : ℕ} → chart ≡ readFor (countsOf s) p → total ≡ length (barriers (regionOf p (decode s)))
-        → badRegion (decode s) p ≡ false → Marked chart total ≡ answer s p
+        → badRegion (decode s) p ≡ false → Marked chart total ≡ admittedFor s p
     unfolding regionRows entered firstOf
     marked-region c q b = rw (second-decides (admitRows s) last admits, b, c, q)
 
@@ -68,7 +64,7 @@ module _ (s : List ℕ) (p : ℕ) where
   named h = names-fit (decode s .constructs) p h
 
 -- for the outermost region row 23 never applies
-pub marked-outermost : (s : List ℕ) {r : Entered} → r ≡ entered (firstOf (admitRows s)) (countsOf s) (length (barriers (regionOf outside (decode s)))) → (p : ℕ) → p ≡ outside
-    → r ≡ answer s p
+pub marked-outermost : (s : List ℕ) {r : Entered} → r ≡ admitted s → (p : ℕ) → p ≡ outside
+    → r ≡ admittedFor s p
 unfolding countsOf
 marked-outermost s e p q = rw (q, outermost-rows s) e

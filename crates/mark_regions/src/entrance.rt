@@ -3,14 +3,8 @@
 // parallel's region is marked after that, and needs no row of its own.
 ghost use mathlib.Core.Path.{_≡_};
 ghost use Prim.Native.Nat.{ℕ};
-ghost use lib.ListN.{length, replicate};
-ghost use Rattle.chart.specs.Format.{decode};
-ghost use Rattle.chart.specs.Reading.{regionOf};
-ghost use Rattle.chart.specs.Refusal.{firstOf};
-ghost use Rattle.chart.specs.Checked.{countsOf, readFor};
-ghost use Rattle.theory_paths.specs.Admission.{regionRows};
-ghost use Rattle.theory_paths.specs.Phases.{barriers as barriersOf};
-ghost use Rattle.mark_regions.specs.Entered.{entered, Entry};
+ghost use lib.ListN.{replicate};
+ghost use Rattle.mark_regions.specs.Entered.{admittedFor, Entry};
 ghost use Rattle.mark_regions.specs.declared.outermost.Entered.the-variants.{Marked};
 use crate::inner::enter_inner;
 use crate::outermost::Entered;
@@ -26,7 +20,7 @@ pub fn enter(
     levels: &mut [u8; Chart::NODES],
 ) -> Entered
     requires { ⌜ (now starts ≡ replicate 192 0) × (now ends ≡ replicate 192 0) ⌝ }
-    ensures { λ r. ⌜ r ≡ entered (firstOf (regionRows (now (s .entry)) region)) (readFor (countsOf (now (s .entry))) region) (length (barriersOf (regionOf region (decode (now (s .entry)))))) ⌝ }
+    ensures { λ r. ⌜ r ≡ admittedFor (now (s .entry)) region ⌝ }
     ensures { λ r. ⌜ ((chart : Chart) (total : ℕ) → r ≡ Marked chart total → Entry (now (s .entry)) chart total (now (starts .exit)) (now (ends .exit)) (now (levels .exit))) ⌝ }
 {
     match enter_outermost(s, starts, ends, levels) {

@@ -1,16 +1,15 @@
 // Rows 1 to 10 of the refusals, and the masks of the outermost region of a chart that none of them refuses, with the fewest edges from a
 // barrier to each node that is none.
 ghost use mathlib.Core.Path.{_≡_};
+ghost use mathlib.Core.Logic.{_≢_};
+ghost use mathlib.Core.Bool.{false};
 ghost use Prim.Native.Nat.{ℕ};
-ghost use lib.ListN.{length, replicate};
-ghost use Rattle.chart.specs.Format.{decode};
-ghost use Rattle.chart.specs.Reading.{region};
-ghost use Rattle.chart.specs.Refusal.{firstOf};
-ghost use Rattle.chart.specs.Checked.{countsOf, checked};
+ghost use lib.ListN.{replicate};
+ghost use Rattle.chart.specs.Format.{outside};
+ghost use Rattle.chart.specs.Checked.{checked};
 ghost use Rattle.chart.specs.declared.format.Checked.the-variants.{Passed};
-ghost use Rattle.theory_paths.specs.Admission.{admitRows};
-ghost use Rattle.theory_paths.specs.Phases.{barriers as barriersOf};
-ghost use Rattle.mark_regions.specs.Entered.{entered, Entry};
+ghost use Rattle.mark_tables.specs.Tables.{Accepted};
+ghost use Rattle.mark_regions.specs.Entered.{admitted, marked, Entry};
 ghost use Rattle.mark_regions.specs.declared.outermost.Entered.the-variants.{Marked};
 use chart::format::Chart;
 use chart::format::Checked;
@@ -27,16 +26,27 @@ pub enum Entered {
     Refused(Refusal),
 }
 
-// Row 10 and the masks, of a chart that rows 1 to 9 let pass.
-fn enter_chart(
+// Whether a node that the marking found cut off refuses the chart: row 10 is asked of the outermost region alone.
+pub fn refuses(chart: Chart, lost: bool) -> bool
+    ensures { λ r. ⌜ (chart .region ≡ outside → r ≡ lost) × (chart .region ≢ outside → r ≡ false) ⌝ }
+{
+    if chart.region == Chart::OUTERMOST {
+        return lost;
+    }
+    false
+}
+
+// Row 10 and the masks of any region, which are 0 before, of a chart that rows 1 to 9 let pass.
+pub fn enter_region(
     s: &[u8],
     chart: Chart,
     starts: &mut [u64; Chart::NODES],
     ends: &mut [u64; Chart::NODES],
     levels: &mut [u8; Chart::NODES],
 ) -> Entered
-    requires { ⌜ (checked (now s) ≡ Passed chart) × (now starts ≡ replicate 192 0) × (now ends ≡ replicate 192 0) ⌝ }
-    ensures { λ r. ⌜ r ≡ entered (firstOf (admitRows (now (s .entry)))) (countsOf (now (s .entry))) (length (barriersOf (region (decode (now (s .entry)))))) ⌝ }
+    requires { ⌜ Accepted (now s) chart × (chart .region ≡ outside → checked (now s) ≡ Passed chart) ⌝ }
+    requires { ⌜ (now starts ≡ replicate 192 0) × (now ends ≡ replicate 192 0) ⌝ }
+    ensures { λ r. ⌜ (chart .region ≡ outside → r ≡ admitted (now (s .entry))) × (chart .region ≢ outside → r ≡ marked (now (s .entry)) chart) ⌝ }
     ensures { λ r. ⌜ ((chart : Chart) (total : ℕ) → r ≡ Marked chart total → Entry (now (s .entry)) chart total (now (starts .exit)) (now (ends .exit)) (now (levels .exit))) ⌝ }
 {
     let mut edges = [[0u8; Chart::EDGES]; Parts::ROWS];
@@ -44,10 +54,12 @@ fn enter_chart(
     let mut stops = [0u8; Chart::NODES];
     let mut nodes = [0u8; Chart::BARRIERS];
     let extent = load_tables(s, chart, &mut edges, &mut places, &mut stops, &mut nodes);
-    if fill_starts(&edges, &places, &stops, &nodes, extent, starts, levels) {
+    let unreached = fill_starts(&edges, &places, &stops, &nodes, extent, starts, levels);
+    if refuses(chart, unreached) {
         return Entered::Refused(Refusal::PATHS);
     }
-    if fill_ends(&edges, &nodes, extent, ends) {
+    let stuck = fill_ends(&edges, &nodes, extent, ends);
+    if refuses(chart, stuck) {
         return Entered::Refused(Refusal::PATHS);
     }
     Entered::Marked(chart, extent.barriers)
@@ -61,13 +73,13 @@ pub fn enter_outermost(
     levels: &mut [u8; Chart::NODES],
 ) -> Entered
     requires { ⌜ (now starts ≡ replicate 192 0) × (now ends ≡ replicate 192 0) ⌝ }
-    ensures { λ r. ⌜ r ≡ entered (firstOf (admitRows (now (s .entry)))) (countsOf (now (s .entry))) (length (barriersOf (region (decode (now (s .entry)))))) ⌝ }
+    ensures { λ r. ⌜ r ≡ admitted (now (s .entry)) ⌝ }
     ensures { λ r. ⌜ ((chart : Chart) (total : ℕ) → r ≡ Marked chart total → Entry (now (s .entry)) chart total (now (starts .exit)) (now (ends .exit)) (now (levels .exit))) ⌝ }
 {
     let mut begin_nodes = [0u8; Chart::BARRIERS];
     let mut end_nodes = [0u8; Chart::BARRIERS];
     match check(s, &mut begin_nodes, &mut end_nodes) {
         Checked::Refused(refusal) => Entered::Refused(refusal),
-        Checked::Passed(chart) => enter_chart(s, chart, starts, ends, levels),
+        Checked::Passed(chart) => enter_region(s, chart, starts, ends, levels),
     }
 }

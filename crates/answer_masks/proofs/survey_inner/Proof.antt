@@ -1,74 +1,121 @@
--- `answer_masks::survey_inner` meets its contract: rows, starts and ends from the entrance, and what each node holds.
+-- `answer_masks::survey_inner` meets its contract: row 10 from the outermost region's marking, row 23, and the region's own masks.
 -- Assumes nothing.
-use mathlib.Core.Path.{_≡_, refl, sym, _∙_}
+use mathlib.Core.Path.{_≡_, refl, ap, sym, _∙_, subst}
+use mathlib.Core.Logic.{_≢_}
+use lib.ListN.{length}
 use borrow.Author.Needs.{needs}
 use Rattle.lists.specs.Truth.{bad}
-use Rattle.chart.specs.Checked.{answer}
-use Rattle.mark_regions.proofs.Entering.{entered-refused, entered-marked, entered-counts}
-use Rattle.answer_constructs.proofs.Nodes.{all-marks}
+use Rattle.chart.specs.Format.{outside}
+use Rattle.chart.specs.Checked.{readFor, answer, reading}
+use Rattle.chart.specs.declared.format.Chart.{Chart}
+use Rattle.theory_paths.specs.Phases.{barriers}
+use Rattle.mark_tables.specs.Tables.{Accepted}
+use Rattle.mark_tables.proofs.Accepted.{accepted, accepted-for}
+use Rattle.mark_regions.specs.Entered.{admitted}
+use Rattle.mark_regions.proofs.Entering.{read-whole, entered-refused, entered-marked, entered-counts}
+use Rattle.mark_regions.proofs.Naming.{refused-first, refused-region, marked-region, named}
 use Rattle.answer_masks.specs.Surveyed.{checkedOf}
 use Rattle.answer_masks.proofs.survey_inner.Statement.{statement}
 use Rattle.answer_masks.proofs.survey_inner.Tie as tie
 
-enter-requires : tie.Need-enter-requires
-enter-requires c κs = search needs
+-- where the function was called
+abbrev start : (c : tie.After-enter-region) → tie.Start
+start c = c .before .before .before .before .before
+
+-- what the marking of the outermost region answers
+outer : (c : tie.After-enter-region) → c .enter-region .result ≡ admitted (start c .args .s .now)
+outer c = c .enter-region .ensures .0 .0 (read-whole _ _ (start c .pre .0 .0))
+
+enter-region-requires : tie.Need-enter-region-requires
+enter-region-requires c κs = let h = c .before .before .before .before .pre .0 .0 in ((accepted _ _ h, λ _. h), (refl, refl))
 
 enum-known-refusal : tie.Need-enum-known-refusal
 enum-known-refusal c = search needs
 
-enum-known-chart : tie.Need-enum-known-chart
-enum-known-chart c = search needs
+enum-known-whole : tie.Need-enum-known-whole
+enum-known-whole c = search needs
 
-element-set-from-marks : tie.Need-element-set-from-marks
-element-set-from-marks c = search needs
-
-element-set-from-marks-2 : tie.Need-element-set-from-marks-2
-element-set-from-marks-2 c = search needs
-
-index-1-hold : tie.Need-index-1-hold
-index-1-hold c = search needs
-
-hold-requires : tie.Need-hold-requires
-hold-requires c κs =
-    let m = c .before .before in
+bad-region-requires : tie.Need-bad-region-requires
+bad-region-requires c κs =
+    let m = c .before in
     let k = m .before .before in
-    (k .enter .ensures .1 _ _ (m .chart .given .1) .accepted, rw (k .before .before .before .before .before .pre) refl)
+    (k .enter-region .ensures .1 _ _ (m .whole .given .1) .accepted .laid, start k .pre .0 .1)
 
+-- row 23
 returns : tie.Need-returns
 unfolding checkedOf answer
 returns c =
-    let k = c .before .before .before in
-    let n = entered-refused _ _ _ (sym (k .enter .ensures .0) ∙ c .before .refusal .given .1) in
+    let asked = c .before in
+    let m = asked .before .before in
+    let k = m .before .before in
+    let e = start k in
+    let admits = entered-marked _ _ _ (sym (outer k) ∙ m .whole .given .1) in
+    let n = entered-refused _ _ _ (sym (refused-region (e .args .s .now) (e .args .region) admits (sym (asked .bad-region .ensures) ∙ c .if1 .taken))) in
     (rw n, λ chart sets q. absurd (bad (cc)))
 
+-- row 10
 returns-2 : tie.Need-returns-2
 unfolding checkedOf answer
 returns-2 c =
-    let m = c .before .before .before in
+    let k = c .before .before .before in
+    let e = start k in
+    let n = entered-refused _ _ _ (sym (outer k) ∙ c .before .refusal .given .1) in
+    (rw (entered-refused _ _ _ (sym (refused-first (e .args .s .now) (e .args .region) _ n))), λ chart sets q. absurd (bad (cc)))
+
+read-for-requires : tie.Need-read-for-requires
+read-for-requires c κs = search needs
+
+-- where row 23 was asked, and where the outermost region was marked
+abbrev asked : (c : tie.After-read-for) → tie.After-bad-region
+asked c = c .before .before
+
+abbrev entered : (c : tie.After-read-for) → tie.After-whole
+entered c = asked c .before .before
+
+-- the chart as it is read is none of the outermost region
+inner : (c : tie.After-read-for) → c .read-for .result .region ≢ outside
+inner c q = start (entered c .before .before) .pre .0 .1 (sym (ap (λ (k : Chart). k .region) (c .read-for .ensures)) ∙ q)
+
+survey-region-requires : tie.Need-survey-region-requires
+survey-region-requires c κs =
+    let read = c .before in
+    let m = entered read in
     let k = m .before .before in
-    let e = k .before .before .before .before .before in
-    let h = sym (k .enter .ensures .0) ∙ m .chart .given .1 in
-    let E = k .enter .ensures .1 _ _ (m .chart .given .1) in (
-      rw (entered-marked _ _ _ h, entered-counts _ _ _ h),
-      λ chart sets q.
-          let a : m .chart .given .0 .0 ≡ chart = cc in
-          let b : c .hold .result ≡ sets = cc in
-          rw (← a, ← b) (record {
-            accepted = E .accepted;
-            marked = all-marks _ _ (E .accepted) (e .args .marks .now) _ _ _ (rw (e .pre) refl) (E .has-starts) (E .has-ends) (c .hold .ensures .1) (c .hold .ensures .0);
-          }),
+    let e = start k in
+    let A = k .enter-region .ensures .1 _ _ (m .whole .given .1) .accepted in
+    let N = named (e .args .s .now) (e .args .region) (sym (asked read .bad-region .ensures) ∙ read .before .if1 .left) in (
+      (
+        subst (Accepted (e .args .s .now)) (sym (read .read-for .ensures)) (accepted-for _ _ A (e .args .region) N),
+        λ q. absurd (inner read q),
+        e .pre .0 .2,
+      ),
+      e .pre .1,
     )
+
+returns-3 : tie.Need-returns-3
+unfolding answer
+returns-3 c =
+    let read = c .before .before in
+    let m = entered read in
+    let k = m .before .before in
+    let e = start k in
+    let s = e .args .s .now in
+    let p = e .args .region in
+    let h = sym (outer k) ∙ m .whole .given .1 in
+    let same = read .read-for .ensures ∙ ap (λ (k : Chart). readFor k p) (sym (entered-counts _ _ _ h)) in
+    let marked = marked-region s p (entered-marked _ _ _ h) same (ap (λ (k : Chart). length (barriers (reading s k))) same) (sym (asked read .bad-region .ensures) ∙ read .before .if1 .left) in
+    (c .survey-region .ensures .0 .1 (inner read) ∙ rw (entered-marked _ _ _ (sym marked), same) refl, c .survey-region .ensures .1)
 
 pub survey-inner-spec : {M : Type 1} → statement M
 survey-inner-spec =
     tie.close
     (tie.spec
-    enter-requires
+    enter-region-requires
     enum-known-refusal
-    enum-known-chart
-    element-set-from-marks
-    element-set-from-marks-2
-    index-1-hold
-    hold-requires
+    enum-known-whole
+    bad-region-requires
     returns
-    returns-2)
+    read-for-requires
+    survey-region-requires
+    returns-2
+    returns-3)
