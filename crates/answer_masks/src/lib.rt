@@ -98,7 +98,8 @@ fn survey_inner(
             if bad_region(s, whole, region) {
                 return Surveyed::Refused(Refusal::REGION);
             }
-            survey_region(s, whole.read_for(region), begin_nodes, end_nodes, marks)
+            let inner = whole.read_for(region);
+            survey_region(s, inner, begin_nodes, end_nodes, marks)
         }
     }
 }

@@ -49,5 +49,6 @@ pub fn enter_inner(
     // marks of the outermost region stand there
     *starts = [0u64; Chart::NODES];
     *ends = [0u64; Chart::NODES];
-    enter_region(s, chart.read_for(region), starts, ends, levels)
+    let inner = chart.read_for(region);
+    enter_region(s, inner, starts, ends, levels)
 }
