@@ -4,15 +4,19 @@
 use mathlib.Core.Path.{_≡_}
 use mathlib.Core.Bool.{Bool, true, false, _&&_, _||_, not}
 use mathlib.Core.List.{List}
-use Prim.Native.Nat.{ℕ, _-_, _≤_, _<_}
+use Prim.Native.Nat.{ℕ, _-_, _^_, _≤_, _<_}
 use lib.Dec.{eqb}
 use lib.ListN.{length, getD}
-use Rattle.lists.specs.Mask.{Has, Sub}
+use Rattle.lists.specs.Mask.{Has, Sub, Mask}
 use Rattle.lists.specs.Range.{any}
 use Rattle.chart.specs.Region.{Region}
-use Rattle.theory_paths.specs.Found.{Reached}
+use Rattle.chart.specs.WellFormed.{WellFormed}
+use Rattle.theory_paths.specs.Path.{Open}
+use Rattle.theory_paths.specs.Found.{Reached, Found}
 use Rattle.theory_paths.specs.Phases.{Direction, forward, backward, barriers, barrierAt}
-use Rattle.mark_tables.specs.Tables.{leadsAny}
+use Rattle.mark_tables.specs.Tables.{Along, leadsAny, Arranged, Stops, Barriers}
+use Rattle.search.specs.declared.edges.Parts.{Parts}
+use Rattle.search.specs.declared.edges.Extent.{Extent}
 
 -- By the mask of barrier b a path past no barrier leads there from barrier c; against the masks: by that of c, from b to c.
 abbrev pub Told : Bool → List ℕ → List ℕ → ℕ → ℕ → ℕ → Type 0
@@ -23,6 +27,10 @@ Told true masks nodes total b c = Has (getD masks (getD nodes c 0) 0) b
 pub data Joined (T : ℕ → ℕ → Type 0) (first : ℕ) : ℕ → Type 0 where
   own : {b : ℕ} → Has first b → Joined T first b
   more : {b c : ℕ} → Joined T first c → T b c → Joined T first b
+
+-- The mask of those that T joins to the source, where T speaks of the first `total` barriers alone.
+abbrev pub JoinedTo : (ℕ → ℕ → Type 0) → ℕ → ℕ → ℕ → Type 0
+JoinedTo T source total mask = ((b c : ℕ) → T b c → b < total) → Mask (Joined T (2 ^ source)) total mask
 
 -- What a pass over the barriers makes of those joined before, when it has come to the pairs with D: what T joins to one of them is joined.
 pub record Passed (T D : ℕ → ℕ → Type 0) (before all : ℕ) : Type 0 where
@@ -51,3 +59,16 @@ pub record Reaches (E : ℕ → ℕ → Type 0) (P : ℕ → Type 0) (sources : 
 -- So it is forward from the first barrier, or backward from the last.
 abbrev pub lostIn : Region → Bool
 lostIn R = lost forward R (barrierAt R 0) || lost backward R (barrierAt R (length (barriers R) - 1))
+
+-- Of each region of which the masks are what a search from its barriers finds, in a direction, P holds.
+abbrev pub FoundAlong : Direction → List ℕ → ℕ → List ℕ → (Region → Type 0) → Type 0
+FoundAlong d nodes total masks P = (R : Region) → WellFormed R → Barriers R nodes total → Found (Along d R) (Open R) nodes total masks → P R
+
+-- Of each region that the tables are of, P holds.
+abbrev pub TablesOf : List (List ℕ) → List ℕ → List ℕ → List ℕ → Extent → (Region → Type 0) → Type 0
+TablesOf edges places stops nodes extent P =
+    (R : Region) → WellFormed R → Arranged R edges places stops (extent .parts) → Stops R stops → Barriers R nodes (extent .barriers) → P R
+
+-- The table is that of the region, parted by stops on its barriers.
+abbrev pub ArrangedBy : Region → List (List ℕ) → List ℕ → Parts → Type 0
+ArrangedBy R edges places parts = (stops : List ℕ) × (Arranged R edges places stops parts × Stops R stops)

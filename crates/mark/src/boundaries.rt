@@ -5,13 +5,11 @@ ghost use mathlib.Core.Bool.{_||_};
 ghost use mathlib.Core.List.{List};
 ghost use Prim.Native.Nat.{ℕ, _-_, _≤_, _<_};
 ghost use lib.ListN.{getD, replicate};
-ghost use Rattle.chart.specs.Region.{Region};
-ghost use Rattle.chart.specs.WellFormed.{WellFormed};
 ghost use Rattle.chart.specs.Format.{Decoded};
 ghost use Rattle.theory_paths.specs.Phases.{forward, backward, barrierAt};
-ghost use Rattle.mark_tables.specs.Tables.{Arranged, Handed, Stops, Barriers, Masks, Levels};
-ghost use Rattle.search.specs.Parts.{Split};
-ghost use Rattle.mark.specs.Joined.{lost, lostBarrier};
+ghost use Rattle.mark_tables.specs.Tables.{Handed, Masks, Levels};
+ghost use Rattle.search.specs.Promises.{Table};
+ghost use Rattle.mark.specs.Joined.{lost, lostBarrier, TablesOf};
 use crate::joining::any_apart;
 use crate::joining::any_missed;
 use crate::joining::any_stuck;
@@ -34,10 +32,13 @@ pub fn fill_starts(
     masks: &mut [u64; Chart::NODES],
     levels: &mut [u8; Chart::NODES],
 ) -> bool
-    requires { ⌜ (extent .barriers ≤ 64) × (0 < extent .barriers) × (extent .nodes ≤ 192) × (now masks ≡ replicate 192 0) × ((p : ℕ) × (D : Decoded) × Handed p D (now edges) (now places) (extent .parts)) ⌝ }
+    requires { ⌜ (extent .barriers ≤ 64) × (0 < extent .barriers) × (extent .nodes ≤ 192) × (now masks ≡ replicate 192 0)
+        × ((p : ℕ) × (D : Decoded) × Handed p D (now edges) (now places) (extent .parts)) ⌝ }
     requires { ⌜ ((b : ℕ) → getD (now nodes) b 0 < 192) ⌝ }
-    ensures { λ r. ⌜ ((R : Region) → WellFormed R → Arranged R (now (edges .entry)) (now (places .entry)) (now (stops .entry)) (extent .parts) → Stops R (now (stops .entry)) → Barriers R (now (nodes .entry)) (extent .barriers) → extent .nodes ≡ R .nodes → r ≡ (lost forward R (barrierAt R 0) || lostBarrier backward R (extent .barriers - 1))) ⌝ }
-    ensures { λ _. ⌜ ((R : Region) → WellFormed R → Arranged R (now (edges .entry)) (now (places .entry)) (now (stops .entry)) (extent .parts) → Stops R (now (stops .entry)) → Barriers R (now (nodes .entry)) (extent .barriers) → Masks forward R (now (masks .exit)) × Levels forward R (now (levels .exit))) ⌝ }
+    ensures { λ r. ⌜ TablesOf (now (edges .entry)) (now (places .entry)) (now (stops .entry)) (now (nodes .entry)) extent
+        (λ R. extent .nodes ≡ R .nodes → r ≡ (lost forward R (barrierAt R 0) || lostBarrier backward R (extent .barriers - 1))) ⌝ }
+    ensures { λ _. ⌜ TablesOf (now (edges .entry)) (now (places .entry)) (now (stops .entry)) (now (nodes .entry)) extent
+        (λ R. Masks forward R (now (masks .exit)) × Levels forward R (now (levels .exit))) ⌝ }
 {
     let mut all = [0u64; Chart::NODES];
     starts(edges, places, extent, nodes, masks, levels, &mut all);
@@ -54,10 +55,11 @@ pub fn fill_ends(
     extent: Extent,
     masks: &mut [u64; Chart::NODES],
 ) -> bool
-    requires { ⌜ (extent .barriers ≤ 64) × (0 < extent .barriers) × (extent .nodes ≤ 192) × (now masks ≡ replicate 192 0) × ((e : ℕ) × (stops : List ℕ) × Split (now edges) e stops (extent .parts)) ⌝ }
+    requires { ⌜ (extent .barriers ≤ 64) × (0 < extent .barriers) × (extent .nodes ≤ 192) × (now masks ≡ replicate 192 0) × Table (now edges) (extent .parts) ⌝ }
     requires { ⌜ ((b : ℕ) → getD (now nodes) b 0 < 192) ⌝ }
-    ensures { λ r. ⌜ ((R : Region) (places stops : List ℕ) → WellFormed R → Arranged R (now (edges .entry)) places stops (extent .parts) → Stops R stops → Barriers R (now (nodes .entry)) (extent .barriers) → extent .nodes ≡ R .nodes → (lostBarrier backward R (extent .barriers - 1) || r) ≡ lost backward R (barrierAt R (extent .barriers - 1))) ⌝ }
-    ensures { λ _. ⌜ ((R : Region) (places stops : List ℕ) → WellFormed R → Arranged R (now (edges .entry)) places stops (extent .parts) → Stops R stops → Barriers R (now (nodes .entry)) (extent .barriers) → Masks backward R (now (masks .exit))) ⌝ }
+    ensures { λ r. ⌜ ((places stops : List ℕ) → TablesOf (now (edges .entry)) places stops (now (nodes .entry)) extent
+        (λ R. extent .nodes ≡ R .nodes → (lostBarrier backward R (extent .barriers - 1) || r) ≡ lost backward R (barrierAt R (extent .barriers - 1)))) ⌝ }
+    ensures { λ _. ⌜ ((places stops : List ℕ) → TablesOf (now (edges .entry)) places stops (now (nodes .entry)) extent (λ R. Masks backward R (now (masks .exit)))) ⌝ }
 {
     ends(edges, extent, nodes, masks);
     any_missed(masks, extent.nodes, extent.barriers)

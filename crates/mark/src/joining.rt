@@ -8,15 +8,9 @@ ghost use lib.Bits.{bitAnd, bitOr};
 ghost use lib.Dec.{eqb};
 ghost use lib.ListN.{getD};
 ghost use Rattle.lists.specs.Range.{count};
-ghost use Rattle.lists.specs.Mask.{Mask};
 ghost use Rattle.lists.specs.Bits.{has as Bits·has};
-ghost use Rattle.chart.specs.Region.{Region};
-ghost use Rattle.chart.specs.WellFormed.{WellFormed};
-ghost use Rattle.theory_paths.specs.Path.{Open};
-ghost use Rattle.theory_paths.specs.Found.{Found};
 ghost use Rattle.theory_paths.specs.Phases.{Direction, forward, backward};
-ghost use Rattle.mark_tables.specs.Tables.{Along, Barriers};
-ghost use Rattle.mark.specs.Joined.{Told, Joined, Passed, lostBarrier, missing};
+ghost use Rattle.mark.specs.Joined.{Told, JoinedTo, Passed, lostBarrier, missing, FoundAlong};
 use chart::cursor::wide;
 use chart::format::Chart;
 use masks::bits::bit;
@@ -114,7 +108,7 @@ fn joined(
 ) -> u64
     requires { ⌜ (total ≤ 64) × (source < total) ⌝ }
     requires { ⌜ ((b : ℕ) → getD (now nodes) b 0 < 192) ⌝ }
-    ensures { λ r. ⌜ (((b c : ℕ) → Told against (now (masks .entry)) (now (nodes .entry)) total b c → b < total) → Mask (Joined (Told against (now (masks .entry)) (now (nodes .entry)) total) (2 ^ source)) total r) ⌝ }
+    ensures { λ r. ⌜ JoinedTo (Told against (now (masks .entry)) (now (nodes .entry)) total) source total r ⌝ }
 {
     let mut all = bit(source);
     while ones(all) < total {
@@ -131,7 +125,7 @@ fn joined(
 pub fn any_apart(masks: &[u64; Chart::NODES], nodes: &[u8; Chart::BARRIERS], total: usize) -> bool
     requires { ⌜ (total ≤ 64) × (0 < total) ⌝ }
     requires { ⌜ ((b : ℕ) → getD (now nodes) b 0 < 192) ⌝ }
-    ensures { λ r. ⌜ ((d : Direction) (R : Region) → WellFormed R → Barriers R (now (nodes .entry)) total → Found (Along d R) (Open R) (now (nodes .entry)) total (now (masks .entry)) → r ≡ lostBarrier d R 0) ⌝ }
+    ensures { λ r. ⌜ ((d : Direction) → FoundAlong d (now (nodes .entry)) total (now (masks .entry)) (λ R. r ≡ lostBarrier d R 0)) ⌝ }
 {
     ones(joined(masks, nodes, total, 0, false)) < total
 }
@@ -140,7 +134,7 @@ pub fn any_apart(masks: &[u64; Chart::NODES], nodes: &[u8; Chart::BARRIERS], tot
 pub fn any_stuck(masks: &[u64; Chart::NODES], nodes: &[u8; Chart::BARRIERS], total: usize) -> bool
     requires { ⌜ (total ≤ 64) × (0 < total) ⌝ }
     requires { ⌜ ((b : ℕ) → getD (now nodes) b 0 < 192) ⌝ }
-    ensures { λ r. ⌜ ((R : Region) → WellFormed R → Barriers R (now (nodes .entry)) total → Found (Along forward R) (Open R) (now (nodes .entry)) total (now (masks .entry)) → r ≡ lostBarrier backward R (total - 1)) ⌝ }
+    ensures { λ r. ⌜ FoundAlong forward (now (nodes .entry)) total (now (masks .entry)) (λ R. r ≡ lostBarrier backward R (total - 1)) ⌝ }
 {
     ones(joined(masks, nodes, total, total - 1, true)) < total
 }

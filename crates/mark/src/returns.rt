@@ -1,7 +1,6 @@
 // Which constructs return: one search from their ends, past no barrier.
 ghost use mathlib.Core.Path.{_≡_};
 ghost use mathlib.Core.Bool.{true, cond};
-ghost use mathlib.Core.List.{List};
 ghost use Prim.Native.Nat.{ℕ, _^_, _≤_, _<_};
 ghost use lib.Bits.{bitOr};
 ghost use lib.ListN.{getD};
@@ -12,7 +11,8 @@ ghost use Rattle.chart.specs.Scope.{beginNode, endNode};
 ghost use Rattle.chart.specs.Checked.{reading};
 ghost use Rattle.check_nodes.specs.Framed.{Framed};
 ghost use Rattle.theory_paths.specs.Phases.{returning};
-ghost use Rattle.mark_tables.specs.Tables.{Accepted, Arranged, Handed, Stops};
+ghost use Rattle.mark_tables.specs.Tables.{Accepted, Handed};
+ghost use Rattle.mark.specs.Joined.{ArrangedBy};
 use chart::cursor::wide;
 use chart::format::Chart;
 use masks::bits::has;
@@ -72,7 +72,7 @@ pub fn returns(
     parts: Parts,
 ) -> u64
     requires { ⌜ Accepted (now s) chart × Framed (decode (now s)) beginNode (now begins) × Framed (decode (now s)) endNode (now ends) ⌝ }
-    requires { ⌜ Handed (chart .region) (decode (now s)) (now edges) (now places) parts × ((stops : List ℕ) × (Arranged (reading (now s) chart) (now edges) (now places) stops parts × Stops (reading (now s) chart) stops)) ⌝ }
+    requires { ⌜ Handed (chart .region) (decode (now s)) (now edges) (now places) parts × ArrangedBy (reading (now s) chart) (now edges) (now places) parts ⌝ }
     ensures { λ r. ⌜ r ≡ returning (reading (now (s .entry)) chart) ⌝ }
 {
     let n = chart.constructs;

@@ -133,6 +133,10 @@ pub data Stored (flag from to : ℕ) (froms tos : List ℕ) (total : ℕ) : List
   left : flag ≡ 0 → Stored flag from to froms tos total froms tos total
   kept : (flag ≡ 0 → ⊥) → Stored flag from to froms tos total (set froms total from) (set tos total to) (total + 1)
 
+-- The same of the first two rows of a table.
+abbrev pub StoredIn : ℕ → ℕ → ℕ → List (List ℕ) → ℕ → List (List ℕ) → ℕ → Type 0
+StoredIn flag from to old total new = Stored flag from to (row old 0) (row old 1) total (row new 0) (row new 1)
+
 -- A flag on each construct that lies in the region p, at any depth; the others of these and all other places have none.
 abbrev pub Within : Decoded → ℕ → List ℕ → Type 0
 Within D p flags = Written (λ q. cond (liesWithin (D .constructs) p q) 1 0) (length (D .constructs)) flags

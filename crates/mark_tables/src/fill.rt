@@ -2,8 +2,8 @@
 ghost use mathlib.Core.Path.{_≡_};
 ghost use mathlib.Core.Logic.{_≢_};
 ghost use Rattle.chart.specs.Format.{outside, decode};
-ghost use Rattle.search.specs.Parts.{row, Split, Sized, Next};
-ghost use Rattle.mark_tables.specs.Tables.{Accepted, Blank, Tabled, Stored};
+ghost use Rattle.search.specs.Parts.{Split, Sized, Next};
+ghost use Rattle.mark_tables.specs.Tables.{Accepted, Blank, Tabled, StoredIn};
 use crate::cut::leaving;
 use chart::cursor::wide;
 use chart::format::Chart;
@@ -52,7 +52,7 @@ fn keep(
 ) -> Loaded
     requires { ⌜ Next (now table) (loaded .edges) (now stops) (loaded .parts) (edge .from) (edge .to) ⌝ }
     ensures { λ r. ⌜ Split (now (table .exit)) (r .edges) (now (stops .entry)) (r .parts) × Sized (now (table .exit)) ⌝ }
-    ensures { λ r. ⌜ Stored flag (edge .from) (edge .to) (row (now (table .entry)) 0) (row (now (table .entry)) 1) (loaded .edges) (row (now (table .exit)) 0) (row (now (table .exit)) 1) (r .edges) ⌝ }
+    ensures { λ r. ⌜ StoredIn flag (edge .from) (edge .to) (now (table .entry)) (loaded .edges) (now (table .exit)) (r .edges) ⌝ }
 {
     if flag == 0 {
         return loaded;

@@ -7,3 +7,4 @@ pub mod Invariant
 pub mod Fed
 pub mod Levels
 pub mod Search
+pub mod Promises

@@ -44,3 +44,7 @@ pub data Run (values : List ℕ) (v a : ℕ) (d q : List ℕ) (n : ℕ) : ℕ �
   none : Run values v a d q n a d q n
   more : {b : ℕ} {d₁ q₁ : List ℕ} {n₁ : ℕ} {d₂ q₂ : List ℕ} {n₂ : ℕ} → Run values v a d q n b d₁ q₁ n₁
       → Visited (getD values b 0) v d₁ q₁ n₁ d₂ q₂ n₂ → Run values v a d q n (b + 1) d₂ q₂ n₂
+
+-- All edges of x lead to their nodes.
+abbrev pub Expanded : List ℕ → List ℕ → ℕ → ℕ → List ℕ → List ℕ → ℕ → List ℕ → List ℕ → ℕ → Type 0
+Expanded values places x v d q n = Run values v (getD places x 0) d q n (getD places (x + 1) 0)

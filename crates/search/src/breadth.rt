@@ -4,7 +4,7 @@ ghost use mathlib.Core.Path.{_≡_};
 ghost use Prim.Native.Nat.{ℕ, _+_, _≤_, _<_};
 ghost use lib.ListN.{getD, length};
 ghost use Rattle.theory_paths.specs.Found.{Clear, Leveled};
-ghost use Rattle.search.specs.Steps.{Leads, Bounded, Room, firstOf, tailOf, Visited, Run};
+ghost use Rattle.search.specs.Steps.{Leads, Bounded, Room, firstOf, tailOf, Visited, Expanded};
 ghost use Rattle.search.specs.Invariant.{State};
 use chart::cursor::wide;
 use chart::format::Chart;
@@ -62,7 +62,7 @@ fn expand(
     before: usize,
 ) -> usize
     requires { ⌜ Room (now levels) (now queue) before × (x < 192) × (0 < level) × Bounded (now values) (now places) ⌝ }
-    ensures { λ r. ⌜ Run (now (values .entry)) level (getD (now (places .entry)) x 0) (now (levels .entry)) (now (queue .entry)) before (getD (now (places .entry)) (x + 1) 0) (now (levels .exit)) (now (queue .exit)) r ⌝ }
+    ensures { λ r. ⌜ Expanded (now (values .entry)) (now (places .entry)) x level (now (levels .entry)) (now (queue .entry)) before (now (levels .exit)) (now (queue .exit)) r ⌝ }
 {
     let from = wide(x);
     let to = places[from + 1];

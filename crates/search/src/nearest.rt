@@ -2,11 +2,9 @@
 ghost use mathlib.Core.List.{List};
 ghost use Prim.Native.Nat.{ℕ, _≤_, _<_};
 ghost use lib.ListN.{getD};
-ghost use Rattle.theory_paths.specs.Graph.{Listed, Places};
-ghost use Rattle.theory_paths.specs.Found.{Clear, Leveled};
-ghost use Rattle.search.specs.Parts.{row, Split};
 ghost use Rattle.search.specs.Levels.{Each, Begins};
-ghost use Rattle.search.specs.Search.{Ready, Standing, Sown};
+ghost use Rattle.search.specs.Search.{Ready};
+ghost use Rattle.search.specs.Promises.{Table, Sweeps, Searches, Measures};
 use crate::breadth::search;
 use crate::edges::Extent;
 use crate::edges::Parts;
@@ -17,9 +15,9 @@ use chart::format::Chart;
 
 // The levels of the nodes that may be passed, from those of the nodes to which the sources' edges lead.
 fn swept(edges: &[[u8; Chart::EDGES]; Parts::ROWS], parts: Parts, levels: &mut [u8; Chart::NODES])
-    requires { ⌜ ((e : ℕ) × (stops : List ℕ) × Split (now edges) e stops parts) ⌝ }
+    requires { ⌜ Table (now edges) parts ⌝ }
     requires { ⌜ ((masks : List ℕ) × Each Begins masks (now levels)) ⌝ }
-    ensures { λ _. ⌜ ((e : ℕ) (stops sources masks : List ℕ) (total : ℕ) → Split (now (edges .entry)) e stops parts → Sown (Listed (row (now (edges .entry)) 0) (row (now (edges .entry)) 1) e) sources total masks → Each Begins masks (now (levels .entry)) → Leveled (Listed (row (now (edges .entry)) 0) (row (now (edges .entry)) 1) e) (Clear stops) (Clear stops) sources total (now (levels .exit))) ⌝ }
+    ensures { λ _. ⌜ Sweeps (now (edges .entry)) parts (now (levels .entry)) (now (levels .exit)) ⌝ }
 {
     measure(
         &edges[Parts::PLAIN_FROM],
@@ -42,7 +40,7 @@ fn searched(
 )
     requires { ⌜ (total ≤ 64) × ((parts : Parts) × Ready (now edges) (now places) parts) ⌝ }
     requires { ⌜ ((b : ℕ) → getD (now nodes) b 0 < 192) ⌝ }
-    ensures { λ _. ⌜ ((e : ℕ) (stops : List ℕ) (parts : Parts) → Split (now (edges .entry)) e stops parts → Places (row (now (edges .entry)) 0) e (now (places .entry)) → Standing stops (now (nodes .entry)) total → Leveled (Listed (row (now (edges .entry)) 0) (row (now (edges .entry)) 1) e) (Clear stops) (Clear stops) (now (nodes .entry)) total (now (levels .exit))) ⌝ }
+    ensures { λ _. ⌜ Searches (now (edges .entry)) (now (places .entry)) (now (nodes .entry)) total (now (levels .exit)) ⌝ }
 {
     *levels = [0u8; Chart::NODES];
     mark(nodes, total, levels);
@@ -71,7 +69,7 @@ pub fn fewest(
     requires { ⌜ (extent .barriers ≤ 64) × Ready (now edges) (now places) (extent .parts) ⌝ }
     requires { ⌜ ((b : ℕ) → getD (now nodes) b 0 < 192) ⌝ }
     requires { ⌜ ((masks : List ℕ) × Each Begins masks (now levels)) ⌝ }
-    ensures { λ _. ⌜ ((e : ℕ) (stops masks : List ℕ) → Split (now (edges .entry)) e stops (extent .parts) → Places (row (now (edges .entry)) 0) e (now (places .entry)) → Standing stops (now (nodes .entry)) (extent .barriers) → Sown (Listed (row (now (edges .entry)) 0) (row (now (edges .entry)) 1) e) (now (nodes .entry)) (extent .barriers) masks → Each Begins masks (now (levels .entry)) → Leveled (Listed (row (now (edges .entry)) 0) (row (now (edges .entry)) 1) e) (Clear stops) (Clear stops) (now (nodes .entry)) (extent .barriers) (now (levels .exit))) ⌝ }
+    ensures { λ _. ⌜ Measures (now (edges .entry)) (now (places .entry)) (extent .parts) (now (nodes .entry)) (extent .barriers) (now (levels .entry)) (now (levels .exit)) ⌝ }
 {
     if far(extent.parts, extent.barriers) {
         searched(edges, places, nodes, extent.barriers, levels);

@@ -7,11 +7,10 @@ ghost use mathlib.Core.Bool.{true};
 ghost use mathlib.Core.List.{List};
 ghost use Prim.Native.Nat.{ℕ, _+_, _≤_, _<_};
 ghost use lib.ListN.{getD, length, replicate};
-ghost use Rattle.theory_paths.specs.Graph.{Listed, Places};
-ghost use Rattle.theory_paths.specs.Found.{Clear, Leveled};
-ghost use Rattle.search.specs.Parts.{row, Split};
+ghost use Rattle.search.specs.Parts.{Split};
 ghost use Rattle.search.specs.Levels.{Each, Begins};
-ghost use Rattle.search.specs.Search.{Ready, Standing, Sown, Spread, Cleared, Marked, Lone, Settled};
+ghost use Rattle.search.specs.Search.{Ready, Sown, Lone, Settled};
+ghost use Rattle.search.specs.Promises.{Goes, Table, Departs, Proceeds, SpreadsAhead, SpreadsBehind, GoesOn, Starts, Ends};
 use crate::close::close;
 use crate::edges::Extent;
 use crate::edges::Parts;
@@ -35,7 +34,7 @@ fn depart(
 )
     requires { ⌜ (total ≤ 64) × (now masks ≡ replicate 192 0) × ((parts : Parts) × Ready (now edges) (now places) parts) ⌝ }
     requires { ⌜ ((b : ℕ) → getD (now sources) b 0 < 192) ⌝ }
-    ensures { λ _. ⌜ ((e : ℕ) (stops : List ℕ) (parts : Parts) → Split (now (edges .entry)) e stops parts → Places (row (now (edges .entry)) 0) e (now (places .entry)) → Sown (Listed (row (now (edges .entry)) 0) (row (now (edges .entry)) 1) e) (now (sources .entry)) total (now (masks .exit))) ⌝ }
+    ensures { λ _. ⌜ Departs (now (edges .entry)) (now (places .entry)) (now (sources .entry)) total (now (masks .exit)) ⌝ }
     ensures { λ _. ⌜ Each Begins (now (masks .exit)) (now (levels .exit)) ⌝ }
 {
     sow(&edges[Parts::TO], places, sources, total, masks, levels);
@@ -43,9 +42,9 @@ fn depart(
 
 // On from there, past no stop.
 fn proceed(edges: &[[u8; Chart::EDGES]; Parts::ROWS], parts: Parts, masks: &mut [u64; Chart::NODES])
-    requires { ⌜ ((e : ℕ) × (stops : List ℕ) × Split (now edges) e stops parts) ⌝ }
+    requires { ⌜ Table (now edges) parts ⌝ }
     requires { ⌜ (length (now masks) ≡ 192) × ((y : ℕ) → getD (now masks) y 0 < 18446744073709551616) ⌝ }
-    ensures { λ _. ⌜ ((e : ℕ) (stops sources : List ℕ) (total : ℕ) → Split (now (edges .entry)) e stops parts → Sown (Listed (row (now (edges .entry)) 0) (row (now (edges .entry)) 1) e) sources total (now (masks .entry)) → Spread (Listed (row (now (edges .entry)) 0) (row (now (edges .entry)) 1) e) stops sources total (now (masks .exit))) ⌝ }
+    ensures { λ _. ⌜ Proceeds (now (edges .entry)) parts (now (masks .entry)) (now (masks .exit)) ⌝ }
 {
     close(
         &edges[Parts::PLAIN_FROM],
@@ -68,7 +67,7 @@ pub fn ahead(
 )
     requires { ⌜ (total ≤ 64) × (now masks ≡ replicate 192 0) × Ready (now edges) (now places) parts ⌝ }
     requires { ⌜ ((b : ℕ) → getD (now sources) b 0 < 192) ⌝ }
-    ensures { λ _. ⌜ ((e : ℕ) (stops : List ℕ) → Split (now (edges .entry)) e stops parts → Places (row (now (edges .entry)) 0) e (now (places .entry)) → Spread (Listed (row (now (edges .entry)) 0) (row (now (edges .entry)) 1) e) stops (now (sources .entry)) total (now (masks .exit))) ⌝ }
+    ensures { λ _. ⌜ SpreadsAhead (now (edges .entry)) (now (places .entry)) parts (now (sources .entry)) total (now (masks .exit)) ⌝ }
 {
     let mut levels = [0u8; Chart::NODES];
     depart(edges, places, sources, total, masks, &mut levels);
@@ -84,8 +83,8 @@ fn behind(
     masks: &mut [u64; Chart::NODES],
 )
     requires { ⌜ (total ≤ 64) × (now masks ≡ replicate 192 0) × ((b : ℕ) → getD (now sources) b 0 < 192) ⌝ }
-    requires { ⌜ ((e : ℕ) × (stops : List ℕ) × Split (now edges) e stops parts) ⌝ }
-    ensures { λ _. ⌜ ((e : ℕ) (stops : List ℕ) → Split (now (edges .entry)) e stops parts → Standing stops (now (sources .entry)) total → Spread (Listed (row (now (edges .entry)) 1) (row (now (edges .entry)) 0) e) stops (now (sources .entry)) total (now (masks .exit))) ⌝ }
+    requires { ⌜ Table (now edges) parts ⌝ }
+    ensures { λ _. ⌜ SpreadsBehind (now (edges .entry)) parts (now (sources .entry)) total (now (masks .exit)) ⌝ }
 {
     let mut own = [0u64; Chart::NODES];
     stand(sources, total, &mut own);
@@ -149,8 +148,8 @@ fn onward(
     masks: &mut [u64; Chart::NODES],
 )
     requires { ⌜ (extent .barriers ≤ 64) × ((b : ℕ) → getD (now sources) b 0 < 192) ⌝ }
-    requires { ⌜ ((e : ℕ) × (stops : List ℕ) × Split (now edges) e stops (extent .parts) × Sown (Listed (row (now edges) 0) (row (now edges) 1) e) (now sources) (extent .barriers) (now masks)) ⌝ }
-    ensures { λ _. ⌜ ((e : ℕ) (stops : List ℕ) → Split (now (edges .entry)) e stops (extent .parts) → Places (row (now (edges .entry)) 0) e (now (places .entry)) → Standing stops (now (sources .entry)) (extent .barriers) → Sown (Listed (row (now (edges .entry)) 0) (row (now (edges .entry)) 1) e) (now (sources .entry)) (extent .barriers) (now (masks .entry)) → Leveled (Listed (row (now (edges .entry)) 0) (row (now (edges .entry)) 1) e) (Clear stops) (Clear stops) (now (sources .entry)) (extent .barriers) (now (levels .entry)) → Spread (Listed (row (now (edges .entry)) 0) (row (now (edges .entry)) 1) e) stops (now (sources .entry)) (extent .barriers) (now (masks .exit))) ⌝ }
+    requires { ⌜ ((e : ℕ) × (stops : List ℕ) × Split (now edges) e stops (extent .parts) × Sown (Goes (now edges) e) (now sources) (extent .barriers) (now masks)) ⌝ }
+    ensures { λ _. ⌜ GoesOn (now (edges .entry)) (now (places .entry)) (extent .parts) (now (sources .entry)) (extent .barriers) (now (levels .entry)) (now (masks .entry)) (now (masks .exit)) ⌝ }
     ensures { λ _. ⌜ length (now (masks .exit)) ≡ 192 ⌝ }
 {
     if lone(places, sources, extent.barriers) {
@@ -172,7 +171,7 @@ pub fn starts(
 )
     requires { ⌜ (extent .barriers ≤ 64) × (now masks ≡ replicate 192 0) × Ready (now edges) (now places) (extent .parts) ⌝ }
     requires { ⌜ ((b : ℕ) → getD (now nodes) b 0 < 192) ⌝ }
-    ensures { λ _. ⌜ ((e : ℕ) (stops : List ℕ) → Split (now (edges .entry)) e stops (extent .parts) → Places (row (now (edges .entry)) 0) e (now (places .entry)) → Standing stops (now (nodes .entry)) (extent .barriers) → Marked (Listed (row (now (edges .entry)) 0) (row (now (edges .entry)) 1) e) stops (now (nodes .entry)) (extent .barriers) (now (masks .exit)) (now (all .exit)) × Leveled (Listed (row (now (edges .entry)) 0) (row (now (edges .entry)) 1) e) (Clear stops) (Clear stops) (now (nodes .entry)) (extent .barriers) (now (levels .exit))) ⌝ }
+    ensures { λ _. ⌜ Starts (now (edges .entry)) (now (places .entry)) (extent .parts) (now (nodes .entry)) (extent .barriers) (now (masks .exit)) (now (all .exit)) (now (levels .exit)) ⌝ }
 {
     let total = extent.barriers;
     let parts = extent.parts;
@@ -199,8 +198,8 @@ pub fn ends(
     masks: &mut [u64; Chart::NODES],
 )
     requires { ⌜ (extent .barriers ≤ 64) × (now masks ≡ replicate 192 0) × ((b : ℕ) → getD (now nodes) b 0 < 192) ⌝ }
-    requires { ⌜ ((e : ℕ) × (stops : List ℕ) × Split (now edges) e stops (extent .parts)) ⌝ }
-    ensures { λ _. ⌜ ((e : ℕ) (stops : List ℕ) → Split (now (edges .entry)) e stops (extent .parts) → Standing stops (now (nodes .entry)) (extent .barriers) → Cleared (Listed (row (now (edges .entry)) 1) (row (now (edges .entry)) 0) e) stops (now (nodes .entry)) (extent .barriers) (now (masks .exit))) ⌝ }
+    requires { ⌜ Table (now edges) (extent .parts) ⌝ }
+    ensures { λ _. ⌜ Ends (now (edges .entry)) (extent .parts) (now (nodes .entry)) (extent .barriers) (now (masks .exit)) ⌝ }
 {
     behind(edges, extent.parts, nodes, extent.barriers, masks);
     clear(nodes, extent.barriers, masks);

@@ -21,12 +21,12 @@ any-missed-requires c κs =
 returns : tie.Need-returns
 returns c =
     let found = c .before .before in (
-      (λ R places stops W A S B q.
+      (λ places stops R W A S B q.
           let cleared = found .ends .ensures (A .count) _ (A .split) (standing S W B) in
           let led = cleared-reach S backward (λ x y t. A .listed-edge y x (listed-turned x y t)) (λ x y h. listed-turned y x (A .edge-listed y x h)) cleared in
           let some = found .before .before .pre .0 .1 in
           rw (c .any-missed .ensures, q, blanks S B cleared) (parts-lost W backward _ B _ (omega arith) led S)),
-      λ R places stops W A S B y l. all-masks S backward (λ x y t. A .listed-edge y x (listed-turned x y t)) (λ x y h. listed-turned y x (A .edge-listed y x h)) W B (found .ends .ensures (A .count) _ (A .split) (standing S W B)) y,
+      λ places stops R W A S B y l. all-masks S backward (λ x y t. A .listed-edge y x (listed-turned x y t)) (λ x y h. listed-turned y x (A .edge-listed y x h)) W B (found .ends .ensures (A .count) _ (A .split) (standing S W B)) y,
     )
 
 pub fill-ends-spec : {M : Type 1} → statement M
