@@ -31,6 +31,7 @@ use mark_regions::outermost::enter_region;
 use mark_regions::outermost::refuses;
 use mark_tables::tables::load_tables;
 use search::edges::Parts;
+use search::sources::Sources;
 
 // A chart whose nodes are marked, with its constructs by kind, or the first row that applies.
 pub enum Surveyed {
@@ -43,8 +44,8 @@ pub enum Surveyed {
 fn survey_region(
     s: &[u8],
     chart: Chart,
-    begin_nodes: &[u8; Chart::BARRIERS],
-    end_nodes: &[u8; Chart::BARRIERS],
+    begin_nodes: &[u8; Sources::MOST],
+    end_nodes: &[u8; Sources::MOST],
     marks: &mut MaskTable,
 ) -> Surveyed
     requires { ⌜ Accepted (now s) chart × (chart .region ≡ outside → checked (now s) ≡ Passed chart) × (now marks ≡ replicate 3 (replicate 192 0)) ⌝ }
@@ -80,8 +81,8 @@ fn survey_inner(
     s: &[u8],
     chart: Chart,
     region: usize,
-    begin_nodes: &[u8; Chart::BARRIERS],
-    end_nodes: &[u8; Chart::BARRIERS],
+    begin_nodes: &[u8; Sources::MOST],
+    end_nodes: &[u8; Sources::MOST],
     marks: &mut MaskTable,
 ) -> Surveyed
     requires { ⌜ (checked (now s) ≡ Passed chart) × (region ≢ outside) × (now marks ≡ replicate 3 (replicate 192 0)) ⌝ }
@@ -110,8 +111,8 @@ pub fn survey(s: &[u8], region: usize, marks: &mut MaskTable) -> Surveyed
     ensures { λ r. ⌜ checkedOf r ≡ answer (firstOf (regionRows (now (s .entry)) region)) (readFor (countsOf (now (s .entry))) region) ⌝ }
     ensures { λ r. ⌜ ((chart : Chart) (sets : Sets) → r ≡ Marked chart sets → Survey (now (s .entry)) chart (now (marks .exit)) sets) ⌝ }
 {
-    let mut begin_nodes = [0u8; Chart::BARRIERS];
-    let mut end_nodes = [0u8; Chart::BARRIERS];
+    let mut begin_nodes = [0u8; Sources::MOST];
+    let mut end_nodes = [0u8; Sources::MOST];
     match check(s, &mut begin_nodes, &mut end_nodes) {
         Checked::Refused(refusal) => Surveyed::Refused(refusal),
         Checked::Passed(chart) => {

@@ -18,6 +18,7 @@ use chart::format::Chart;
 use masks::bits::has;
 use search::edges::Parts;
 use search::search::ahead;
+use search::sources::Sources;
 
 // One bit more, where the mask has it.
 fn add_bit(mask: u64, c: usize, all: u64) -> u64
@@ -31,7 +32,7 @@ fn add_bit(mask: u64, c: usize, all: u64) -> u64
 }
 
 // Bit c of the mask of node c of the list, for each of the first n.
-fn diagonal(masks: &[u64; Chart::NODES], nodes: &[u8; Chart::BARRIERS], n: usize) -> u64
+fn diagonal(masks: &[u64; Chart::NODES], nodes: &[u8; Sources::MOST], n: usize) -> u64
     requires { ⌜ n ≤ 64 ⌝ }
     requires { ⌜ ((c : ℕ) → getD (now nodes) c 0 < 192) ⌝ }
     ensures { λ r. ⌜ r ≡ maskOf (λ c. Bits·has (getD (now (masks .entry)) (getD (now (nodes .entry)) c 0) 0) c) n ⌝ }
@@ -46,7 +47,7 @@ fn diagonal(masks: &[u64; Chart::NODES], nodes: &[u8; Chart::BARRIERS], n: usize
 }
 
 // Whether each of the first n constructs begins before it ends, by the numbers of the nodes.
-fn all_before(begins: &[u8; Chart::BARRIERS], ends: &[u8; Chart::BARRIERS], n: usize) -> bool
+fn all_before(begins: &[u8; Sources::MOST], ends: &[u8; Sources::MOST], n: usize) -> bool
     requires { ⌜ n ≤ 64 ⌝ }
     ensures { λ r. ⌜ (r ≡ true → (c : ℕ) → c < n → getD (now (begins .entry)) c 0 < getD (now (ends .entry)) c 0) ⌝ }
 {
@@ -65,8 +66,8 @@ fn all_before(begins: &[u8; Chart::BARRIERS], ends: &[u8; Chart::BARRIERS], n: u
 pub fn returns(
     s: &[u8],
     chart: Chart,
-    begins: &[u8; Chart::BARRIERS],
-    ends: &[u8; Chart::BARRIERS],
+    begins: &[u8; Sources::MOST],
+    ends: &[u8; Sources::MOST],
     edges: &[[u8; Chart::EDGES]; Parts::ROWS],
     places: &[usize; Chart::PLACES],
     parts: Parts,

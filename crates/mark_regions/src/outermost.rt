@@ -19,6 +19,7 @@ use mark::boundaries::fill_ends;
 use mark::boundaries::fill_starts;
 use mark_tables::tables::load_tables;
 use search::edges::Parts;
+use search::sources::Sources;
 
 // A chart whose nodes are marked and how many barriers it has, or the first row that applies.
 pub enum Entered {
@@ -76,8 +77,8 @@ pub fn enter_outermost(
     ensures { λ r. ⌜ r ≡ admitted (now (s .entry)) ⌝ }
     ensures { λ r. ⌜ ((chart : Chart) (total : ℕ) → r ≡ Marked chart total → Entry (now (s .entry)) chart total (now (starts .exit)) (now (ends .exit)) (now (levels .exit))) ⌝ }
 {
-    let mut begin_nodes = [0u8; Chart::BARRIERS];
-    let mut end_nodes = [0u8; Chart::BARRIERS];
+    let mut begin_nodes = [0u8; Sources::MOST];
+    let mut end_nodes = [0u8; Sources::MOST];
     match check(s, &mut begin_nodes, &mut end_nodes) {
         Checked::Refused(refusal) => Entered::Refused(refusal),
         Checked::Passed(chart) => enter_region(s, chart, starts, ends, levels),

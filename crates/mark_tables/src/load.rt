@@ -12,6 +12,7 @@ ghost use Rattle.mark_tables.specs.Tables.{Accepted, Stops, Barriers, No
 use chart::format::Chart;
 use chart::format::Node;
 use check_nodes::counts::bad_frames;
+use search::sources::Sources;
 
 // The region by the byte that its nodes have for a number: on bytes alone the compiler takes several nodes at a time.
 pub fn region_byte(chart: Chart) -> u8
@@ -121,8 +122,8 @@ pub fn barriers(
 pub fn frames(
     s: &[u8],
     chart: Chart,
-    begins: &mut [u8; Chart::BARRIERS],
-    ends: &mut [u8; Chart::BARRIERS],
+    begins: &mut [u8; Sources::MOST],
+    ends: &mut [u8; Sources::MOST],
 )
     requires { ⌜ Accepted (now s) chart ⌝ }
     ensures { λ _. ⌜ Framed (decode (now (s .entry))) beginNode (now (begins .exit)) × Framed (decode (now (s .entry))) endNode (now (ends .exit)) ⌝ }

@@ -6,6 +6,7 @@ ghost use lib.ListN.{getD, length};
 ghost use Rattle.theory_paths.specs.Found.{Clear, Leveled};
 ghost use Rattle.search.specs.Steps.{Leads, Bounded, Room, firstOf, tailOf, Visited, Expanded};
 ghost use Rattle.search.specs.Invariant.{State};
+use crate::sources::Sources;
 use chart::cursor::wide;
 use chart::format::Chart;
 
@@ -79,7 +80,7 @@ fn expand(
 fn seed(
     values: &[u8; Chart::EDGES],
     places: &[usize; Chart::PLACES],
-    sources: &[u8; Chart::BARRIERS],
+    sources: &[u8; Sources::MOST],
     total: usize,
     levels: &mut [u8; Chart::NODES],
     queue: &mut [u8; QUEUE],
@@ -101,7 +102,7 @@ fn seed(
 pub fn search(
     values: &[u8; Chart::EDGES],
     places: &[usize; Chart::PLACES],
-    sources: &[u8; Chart::BARRIERS],
+    sources: &[u8; Sources::MOST],
     total: usize,
     levels: &mut [u8; Chart::NODES],
 )

@@ -9,6 +9,7 @@ use crate::breadth::search;
 use crate::edges::Extent;
 use crate::edges::Parts;
 use crate::levels::measure;
+use crate::sources::Sources;
 use crate::sources::mark;
 use crate::telling::tell;
 use chart::format::Chart;
@@ -34,7 +35,7 @@ fn swept(edges: &[[u8; Chart::EDGES]; Parts::ROWS], parts: Parts, levels: &mut [
 fn searched(
     edges: &[[u8; Chart::EDGES]; Parts::ROWS],
     places: &[usize; Chart::PLACES],
-    nodes: &[u8; Chart::BARRIERS],
+    nodes: &[u8; Sources::MOST],
     total: usize,
     levels: &mut [u8; Chart::NODES],
 )
@@ -63,7 +64,7 @@ pub fn fewest(
     edges: &[[u8; Chart::EDGES]; Parts::ROWS],
     places: &[usize; Chart::PLACES],
     extent: Extent,
-    nodes: &[u8; Chart::BARRIERS],
+    nodes: &[u8; Sources::MOST],
     levels: &mut [u8; Chart::NODES],
 )
     requires { ⌜ (extent .barriers ≤ 64) × Ready (now edges) (now places) (extent .parts) ⌝ }

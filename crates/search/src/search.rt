@@ -15,6 +15,7 @@ use crate::close::close;
 use crate::edges::Extent;
 use crate::edges::Parts;
 use crate::nearest::fewest;
+use crate::sources::Sources;
 use crate::sources::clear;
 use crate::sources::feed;
 use crate::sources::sow;
@@ -27,7 +28,7 @@ use chart::format::Chart;
 fn depart(
     edges: &[[u8; Chart::EDGES]; Parts::ROWS],
     places: &[usize; Chart::PLACES],
-    sources: &[u8; Chart::BARRIERS],
+    sources: &[u8; Sources::MOST],
     total: usize,
     masks: &mut [u64; Chart::NODES],
     levels: &mut [u8; Chart::NODES],
@@ -61,7 +62,7 @@ pub fn ahead(
     edges: &[[u8; Chart::EDGES]; Parts::ROWS],
     places: &[usize; Chart::PLACES],
     parts: Parts,
-    sources: &[u8; Chart::BARRIERS],
+    sources: &[u8; Sources::MOST],
     total: usize,
     masks: &mut [u64; Chart::NODES],
 )
@@ -78,7 +79,7 @@ pub fn ahead(
 fn behind(
     edges: &[[u8; Chart::EDGES]; Parts::ROWS],
     parts: Parts,
-    sources: &[u8; Chart::BARRIERS],
+    sources: &[u8; Sources::MOST],
     total: usize,
     masks: &mut [u64; Chart::NODES],
 )
@@ -107,7 +108,7 @@ fn behind(
 }
 
 // Whether all paths begin at the first source: there are two, and no edge leaves the second.
-fn lone(places: &[usize; Chart::PLACES], sources: &[u8; Chart::BARRIERS], total: usize) -> bool
+fn lone(places: &[usize; Chart::PLACES], sources: &[u8; Sources::MOST], total: usize) -> bool
     requires { ⌜ ((b : ℕ) → getD (now sources) b 0 < 192) ⌝ }
     ensures { λ r. ⌜ (r ≡ true → Lone (now (places .entry)) (now (sources .entry)) total) ⌝ }
 {
@@ -121,7 +122,7 @@ fn lone(places: &[usize; Chart::PLACES], sources: &[u8; Chart::BARRIERS], total:
 // On from there where all paths begin at the first source: its bit is where there is a level. The two stops keep what the edges brought,
 // since their levels say nothing.
 fn settle(
-    sources: &[u8; Chart::BARRIERS],
+    sources: &[u8; Sources::MOST],
     levels: &[u8; Chart::NODES],
     masks: &mut [u64; Chart::NODES],
 )
@@ -143,7 +144,7 @@ fn onward(
     edges: &[[u8; Chart::EDGES]; Parts::ROWS],
     places: &[usize; Chart::PLACES],
     extent: Extent,
-    sources: &[u8; Chart::BARRIERS],
+    sources: &[u8; Sources::MOST],
     levels: &[u8; Chart::NODES],
     masks: &mut [u64; Chart::NODES],
 )
@@ -164,7 +165,7 @@ pub fn starts(
     edges: &[[u8; Chart::EDGES]; Parts::ROWS],
     places: &[usize; Chart::PLACES],
     extent: Extent,
-    nodes: &[u8; Chart::BARRIERS],
+    nodes: &[u8; Sources::MOST],
     masks: &mut [u64; Chart::NODES],
     levels: &mut [u8; Chart::NODES],
     all: &mut [u64; Chart::NODES],
@@ -194,7 +195,7 @@ pub fn starts(
 pub fn ends(
     edges: &[[u8; Chart::EDGES]; Parts::ROWS],
     extent: Extent,
-    nodes: &[u8; Chart::BARRIERS],
+    nodes: &[u8; Sources::MOST],
     masks: &mut [u64; Chart::NODES],
 )
     requires { ⌜ (extent .barriers ≤ 64) × (now masks ≡ replicate 192 0) × ((b : ℕ) → getD (now nodes) b 0 < 192) ⌝ }

@@ -12,6 +12,15 @@ use chart::cursor::wide;
 use chart::format::Chart;
 use masks::bits::bit;
 
+// The nodes that a search starts from, numbered as the bits of its masks: barriers, or the ends of constructs.
+pub struct Sources {
+    pub total: usize,
+}
+
+impl Sources {
+    pub const MOST: usize = 64;
+}
+
 // Along the edges from place a up to place b.
 pub fn feed(
     keys: &[u8; Chart::EDGES],
@@ -61,7 +70,7 @@ fn sow_edges(
 pub fn sow(
     values: &[u8; Chart::EDGES],
     places: &[usize; Chart::PLACES],
-    sources: &[u8; Chart::BARRIERS],
+    sources: &[u8; Sources::MOST],
     total: usize,
     masks: &mut [u64; Chart::NODES],
     levels: &mut [u8; Chart::NODES],
@@ -82,7 +91,7 @@ pub fn sow(
 }
 
 // Each source has its own bit at its node.
-pub fn stand(sources: &[u8; Chart::BARRIERS], total: usize, own: &mut [u64; Chart::NODES])
+pub fn stand(sources: &[u8; Sources::MOST], total: usize, own: &mut [u64; Chart::NODES])
     requires { ⌜ total ≤ 64 ⌝ }
     requires { ⌜ ((b : ℕ) → getD (now sources) b 0 < 192) ⌝ }
     ensures { λ _. ⌜ Owned (now (sources .entry)) total (now (own .exit)) ⌝ }
@@ -97,7 +106,7 @@ pub fn stand(sources: &[u8; Chart::BARRIERS], total: usize, own: &mut [u64; Char
 }
 
 // The masks of the sources become 0.
-pub fn clear(nodes: &[u8; Chart::BARRIERS], total: usize, masks: &mut [u64; Chart::NODES])
+pub fn clear(nodes: &[u8; Sources::MOST], total: usize, masks: &mut [u64; Chart::NODES])
     requires { ⌜ total ≤ 64 ⌝ }
     requires { ⌜ ((b : ℕ) → getD (now nodes) b 0 < 192) ⌝ }
     ensures { λ _. ⌜ Stored 0 (now (nodes .entry)) total (now (masks .entry)) (now (masks .exit)) ⌝ }
@@ -110,7 +119,7 @@ pub fn clear(nodes: &[u8; Chart::BARRIERS], total: usize, masks: &mut [u64; Char
 }
 
 // The sources have a mark for a level.
-pub fn mark(nodes: &[u8; Chart::BARRIERS], total: usize, levels: &mut [u8; Chart::NODES])
+pub fn mark(nodes: &[u8; Sources::MOST], total: usize, levels: &mut [u8; Chart::NODES])
     requires { ⌜ (total ≤ 64) × (length (now levels) ≡ 192) ⌝ }
     requires { ⌜ ((b : ℕ) → getD (now nodes) b 0 < 192) ⌝ }
     ensures { λ _. ⌜ Stored 1 (now (nodes .entry)) total (now (levels .entry)) (now (levels .exit)) ⌝ }
