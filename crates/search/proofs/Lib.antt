@@ -13,3 +13,5 @@ pub mod Writing
 pub mod Finding
 pub mod Leveling
 pub mod Settling
+pub mod Linking
+pub mod Waits

@@ -77,7 +77,7 @@ weight-le g [] i v h e = absurd (omega arith)
 weight-le g (x ∷ l) zero v h e = omega arith
 weight-le g (x ∷ l) (suc i) v h e = omega (arith, weight-le g l i v (omega arith) e)
 
-weight-lt : (g : ℕ → ℕ) (l : List ℕ) (i v : ℕ) → i < length l → g v < g (getD l i 0) → weight g (set l i v) < weight g l
+pub weight-lt : (g : ℕ → ℕ) (l : List ℕ) (i v : ℕ) → i < length l → g v < g (getD l i 0) → weight g (set l i v) < weight g l
 unfolding weight
 weight-lt g [] i v h e = absurd (omega arith)
 weight-lt g (x ∷ l) zero v h e = omega arith

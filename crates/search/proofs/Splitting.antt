@@ -347,6 +347,7 @@ module _ {keys values stops : List ℕ} {e : ℕ} {s t : List ℕ} {ups low : �
 
   pub lists-ahead : e ≤ 1024 → Lists s t ups low false
   lists-ahead few = record {
+    apart = omega (arith, i .few);
     ups-most = omega (arith, i .few, i .top);
     low-most = i .top;
     key = i .node-s;
@@ -357,6 +358,7 @@ module _ {keys values stops : List ℕ} {e : ℕ} {s t : List ℕ} {ups low : �
 
   pub lists-back : e ≤ 1024 → Lists t s ups low true
   lists-back few = record {
+    apart = omega (arith, i .few);
     ups-most = omega (arith, i .few, i .top);
     low-most = i .top;
     key = i .node-t;

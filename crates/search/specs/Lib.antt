@@ -8,3 +8,4 @@ pub mod Fed
 pub mod Levels
 pub mod Search
 pub mod Promises
+pub mod Waiting

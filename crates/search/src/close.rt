@@ -5,10 +5,14 @@ ghost use lib.Bits.{bitOr};
 ghost use lib.ListN.{getD, length};
 ghost use Rattle.lists.specs.Mask.{Sub};
 ghost use Rattle.search.specs.Sweep.{Lies, Step, Run, Carried, Closed, Lists, place};
+use crate::waiting::drain;
 use chart::format::Chart;
 
 // Fewer edges than these are few.
 pub const FEW: usize = 200;
+
+// So many turns along both lists, beyond the first, before sweeps give way to what takes a bounded number of steps.
+pub const TURNS: usize = 4;
 
 // The place of turn j: from a up, or from b down.
 pub fn place_of(a: usize, b: usize, j: usize, back: bool) -> usize
@@ -64,7 +68,8 @@ fn sweep(
     new
 }
 
-// Along the rising edges and the falling ones by turns, until nothing is new.
+// Along the rising edges and the falling ones by turns, until nothing is new. That takes many turns where the nodes' numbers tell little of the
+// paths through them: there nodes that wait do the rest.
 pub fn close(
     keys: &[u8; Chart::EDGES],
     values: &[u8; Chart::EDGES],
@@ -80,7 +85,13 @@ pub fn close(
 {
     let mut new = sweep(keys, values, 0, ups, back, masks);
     new = sweep(keys, values, low, Chart::EDGES, back, masks);
+    let mut turns = 0;
     while new != 0 {
+        if turns == TURNS {
+            drain(keys, values, ups, low, masks);
+            return;
+        }
+        turns += 1;
         new = sweep(keys, values, 0, ups, back, masks);
         if new != 0 {
             new = sweep(keys, values, low, Chart::EDGES, back, masks);

@@ -1,10 +1,12 @@
 // Levels closed along edges: a node's level is at most one more than that of a node before it.
 ghost use mathlib.Core.Path.{_≡_};
+ghost use mathlib.Core.Bool.{true};
 ghost use Prim.Native.Nat.{ℕ, _≤_, _<_, min};
 ghost use lib.ListN.{getD, length};
 ghost use Rattle.search.specs.Sweep.{Lies, Run, Carried, Closed, Lists};
 ghost use Rattle.search.specs.LevelLaws.{nearer, Follows};
 use crate::close::FEW;
+use crate::close::TURNS;
 use crate::close::place_of;
 use chart::format::Chart;
 
@@ -75,7 +77,7 @@ fn ascend(
     new
 }
 
-// Along the rising edges and the falling ones by turns, until nothing is new.
+// Along the rising edges and the falling ones by turns, until nothing is new; whether a few turns were enough.
 pub fn measure(
     keys: &[u8; Chart::EDGES],
     values: &[u8; Chart::EDGES],
@@ -83,18 +85,24 @@ pub fn measure(
     low: usize,
     back: bool,
     levels: &mut [u8; Chart::NODES],
-)
+) -> bool
     requires { ⌜ Lists (now keys) (now values) ups low back × (length (now levels) ≡ 192) ⌝ }
     requires { ⌜ ((y : ℕ) → getD (now levels) y 0 ≤ 254) ⌝ }
     ensures { λ _. ⌜ Carried nearer (Lies (now (keys .entry)) (now (values .entry)) ups low) (now (levels .entry)) (now (levels .exit)) ⌝ }
-    ensures { λ _. ⌜ Closed Follows (Lies (now (keys .entry)) (now (values .entry)) ups low) (now (levels .exit)) ⌝ }
+    ensures { λ r. ⌜ (r ≡ true → Closed Follows (Lies (now (keys .entry)) (now (values .entry)) ups low) (now (levels .exit))) ⌝ }
 {
     let mut new = ascend(keys, values, 0, ups, back, levels);
     new = ascend(keys, values, low, Chart::EDGES, back, levels);
+    let mut turns = 0;
     while new != 0 {
+        if turns == TURNS {
+            return false;
+        }
+        turns += 1;
         new = ascend(keys, values, 0, ups, back, levels);
         if new != 0 {
             new = ascend(keys, values, low, Chart::EDGES, back, levels);
         }
     }
+    true
 }

@@ -1,4 +1,6 @@
-// The fewest edges on a path from any source: by sweeps, or where these would be many or long by one search.
+// The fewest edges on a path from any source: by sweeps, or where these are many or long by one search.
+ghost use mathlib.Core.Path.{_≡_};
+ghost use mathlib.Core.Bool.{true};
 ghost use mathlib.Core.List.{List};
 ghost use Prim.Native.Nat.{ℕ, _≤_, _<_};
 ghost use lib.ListN.{getD};
@@ -14,13 +16,17 @@ use crate::sources::mark;
 use crate::telling::tell;
 use chart::format::Chart;
 
-// The levels of the nodes that may be passed, from those of the nodes to which the sources' edges lead.
-fn swept(edges: &[[u8; Chart::EDGES]; Parts::ROWS], parts: Parts, levels: &mut [u8; Chart::NODES])
+// The levels of the nodes that may be passed, from those of the nodes to which the sources' edges lead; whether a few sweeps find them.
+fn swept(
+    edges: &[[u8; Chart::EDGES]; Parts::ROWS],
+    parts: Parts,
+    levels: &mut [u8; Chart::NODES],
+) -> bool
     requires { ⌜ Table (now edges) parts ⌝ }
     requires { ⌜ ((masks : List ℕ) × Each Begins masks (now levels)) ⌝ }
-    ensures { λ _. ⌜ Sweeps (now (edges .entry)) parts (now (levels .entry)) (now (levels .exit)) ⌝ }
+    ensures { λ r. ⌜ (r ≡ true → Sweeps (now (edges .entry)) parts (now (levels .entry)) (now (levels .exit))) ⌝ }
 {
-    measure(
+    let settled = measure(
         &edges[Parts::PLAIN_FROM],
         &edges[Parts::PLAIN_TO],
         parts.ups,
@@ -29,6 +35,7 @@ fn swept(edges: &[[u8; Chart::EDGES]; Parts::ROWS], parts: Parts, levels: &mut [
         levels,
     );
     tell(levels);
+    settled
 }
 
 // The same by one search.
@@ -76,5 +83,8 @@ pub fn fewest(
         searched(edges, places, nodes, extent.barriers, levels);
         return;
     }
-    swept(edges, extent.parts, levels);
+    if swept(edges, extent.parts, levels) {
+        return;
+    }
+    searched(edges, places, nodes, extent.barriers, levels);
 }

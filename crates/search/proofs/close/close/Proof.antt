@@ -1,9 +1,8 @@
 -- `search::close::close` meets its contract: the falling edges stay closed, and when a sweep is quiet the rising ones are. Assumes nothing.
-use Prim.Native.Nat.{_<_, _+_}
+use Prim.Native.Nat.{_≤_, _<_, _-_}
 use native.Mathlib.Omega.{arith}
 use lib.Bits.{bitOr}
 use Rattle.lists.specs.Mask.{Sub}
-use Rattle.search.specs.Sweep.{weight, gap, flag}
 use denote.Ref.{now}
 use Rattle.search.proofs.Runs.{masks-kind, run-long, carried-on}
 use Rattle.search.proofs.Turns.{Closing, opened, still, again, closing-closed, rebase}
@@ -11,10 +10,11 @@ use Rattle.search.proofs.close.close.Statement.{statement}
 use Rattle.search.proofs.close.close.Tie as tie
 
 abbrev Inv-loop : tie.InvT-loop
-Inv-loop keys values ups low back masks₀ new₀ masks new = Closing bitOr Sub (λ m. m < 18446744073709551616) keys values ups low masks₀ masks new
+Inv-loop keys values ups low back masks₀ new₀ turns₀ masks new turns =
+    (turns ≤ 4) × Closing bitOr Sub (λ m. m < 18446744073709551616) keys values ups low masks₀ masks new
 
 abbrev μ-loop : tie.MeasureT-loop
-μ-loop keys values ups low back masks₀ new₀ masks new = weight gap masks + flag new
+μ-loop keys values ups low back masks₀ new₀ turns₀ masks new turns = 4 - turns
 
 sweep-requires : tie.Need-sweep-requires Inv-loop μ-loop
 sweep-requires c κs =
@@ -37,57 +37,61 @@ first-two c =
     opened masks-kind L long fits (c .before .before .sweep .ensures) (c .sweep2 .ensures)
 
 loop-holds : tie.Need-loop-holds Inv-loop μ-loop
-loop-holds c = rebase (first-two c)
+loop-holds c = (omega arith, rebase (first-two c))
+
+drain-requires : tie.Need-drain-requires Inv-loop μ-loop
+drain-requires c κs =
+    let at-loop = c .before .before .before in
+    let L = at-loop .before .before .before .before .before .pre .0 .0 in
+    let h = at-loop .loop .inv .1 .half in
+    ((L .apart, L .low-most, h .long), ((L .key, L .value), h .bound))
+
+returns : tie.Need-returns Inv-loop μ-loop
+returns c =
+    let at-loop = c .before .before .before .before in
+    let h = at-loop .loop .inv .1 .half in
+    (carried-on (first-two (at-loop .before) .half .carried) (carried-on (h .carried) (c .drain .ensures .0)), c .drain .ensures .1)
+
+add-turns : tie.Need-add-turns Inv-loop μ-loop
+add-turns c = omega arith
 
 sweep-requires-3 : tie.Need-sweep-requires-3 Inv-loop μ-loop
 sweep-requires-3 c κs =
-    let at-loop = c .before .before in
+    let at-loop = c .before .before .before in
     let L = at-loop .before .before .before .before .before .pre .0 .0 in
-    ((omega arith, L .ups-most, at-loop .loop .inv .half .long), (L .key, L .value))
+    ((omega arith, L .ups-most, at-loop .loop .inv .1 .half .long), (L .key, L .value))
 
 sweep-requires-4 : tie.Need-sweep-requires-4 Inv-loop μ-loop
 sweep-requires-4 c κs =
     let at = c .before .before in
-    let at-loop = at .before .before .before in
+    let at-loop = at .before .before .before .before in
     let L = at-loop .before .before .before .before .before .pre .0 .0 in
-    ((L .low-most, omega arith, run-long (at-loop .loop .inv .half .long) (at .sweep3 .ensures)), (L .key, L .value))
+    ((L .low-most, omega arith, run-long (at-loop .loop .inv .1 .half .long) (at .sweep3 .ensures)), (L .key, L .value))
 
 loop-less : tie.Need-loop-less Inv-loop μ-loop
-loop-less c =
-    let at = c .before .before .before in
-    let at-loop = at .before .before .before in
-    let L = at-loop .before .before .before .before .before .pre .0 .0 in
-    again masks-kind L (at-loop .loop .inv) (λ e. omega arith) (λ e. omega arith)
-    (at .sweep3 .ensures) (c .sweep4 .ensures) .1
+loop-less c = omega arith
 
 loop-again : tie.Need-loop-again Inv-loop μ-loop
 loop-again c =
     let at = c .before .before .before in
-    let at-loop = at .before .before .before in
+    let at-loop = at .before .before .before .before in
     let L = at-loop .before .before .before .before .before .pre .0 .0 in
-    again masks-kind L (at-loop .loop .inv) (λ e. omega arith) (λ e. omega arith)
-    (at .sweep3 .ensures) (c .sweep4 .ensures) .0
+    (omega arith, again masks-kind L (at-loop .loop .inv .1) (λ e. omega arith) (λ e. omega arith) (at .sweep3 .ensures) (c .sweep4 .ensures) .0)
 
 loop-less-2 : tie.Need-loop-less-2 Inv-loop μ-loop
-loop-less-2 c =
-    let at = c .before in
-    let at-loop = at .before .before .before in
-    let L = at-loop .before .before .before .before .before .pre .0 .0 in
-    still masks-kind L (at-loop .loop .inv) (λ e. omega arith) (omega arith)
-    (at .sweep3 .ensures) .1
+loop-less-2 c = omega arith
 
 loop-again-2 : tie.Need-loop-again-2 Inv-loop μ-loop
 loop-again-2 c =
     let at = c .before in
-    let at-loop = at .before .before .before in
+    let at-loop = at .before .before .before .before in
     let L = at-loop .before .before .before .before .before .pre .0 .0 in
-    still masks-kind L (at-loop .loop .inv) (λ e. omega arith) (omega arith)
-    (at .sweep3 .ensures) .0
+    (omega arith, still masks-kind L (at-loop .loop .inv .1) (λ e. omega arith) (omega arith) (at .sweep3 .ensures) .0)
 
-returns : tie.Need-returns Inv-loop μ-loop
-returns c =
+returns-2 : tie.Need-returns-2 Inv-loop μ-loop
+returns-2 c =
     let at-loop = c .before in
-    let i = at-loop .loop .inv in
+    let i = at-loop .loop .inv .1 in
     (carried-on (first-two (at-loop .before) .half .carried) (i .half .carried), closing-closed i (omega arith))
 
 pub close-spec : {M : Type 1} → statement M
@@ -99,10 +103,13 @@ close-spec =
     sweep-requires
     sweep-requires-2
     loop-holds
+    drain-requires
+    returns
+    add-turns
     sweep-requires-3
     sweep-requires-4
     loop-less
     loop-again
     loop-less-2
     loop-again-2
-    returns)
+    returns-2)

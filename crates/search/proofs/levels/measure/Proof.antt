@@ -1,8 +1,9 @@
 -- `search::levels::measure` meets its contract: the falling edges stay closed, and when a sweep is quiet the rising ones are. Assumes nothing.
-use Prim.Native.Nat.{_≤_, _+_}
+use mathlib.Core.Path.{refl}
+use Prim.Native.Nat.{_≤_, _-_}
 use native.Mathlib.Omega.{arith}
 use Rattle.search.specs.LevelLaws.{nearer, Follows}
-use Rattle.search.specs.Sweep.{weight, flag}
+use Rattle.lists.specs.Truth.{clash}
 use denote.Ref.{now}
 use Rattle.search.proofs.Runs.{levels-kind, run-swept, run-long, carried-on}
 use Rattle.search.proofs.Turns.{Closing, opened, still, again, closing-closed, rebase}
@@ -10,10 +11,11 @@ use Rattle.search.proofs.levels.measure.Statement.{statement}
 use Rattle.search.proofs.levels.measure.Tie as tie
 
 abbrev Inv-loop : tie.InvT-loop
-Inv-loop keys values ups low back levels₀ new₀ levels new = Closing nearer Follows (λ d. d ≤ 254) keys values ups low levels₀ levels new
+Inv-loop keys values ups low back levels₀ new₀ turns₀ levels new turns =
+    (turns ≤ 4) × Closing nearer Follows (λ d. d ≤ 254) keys values ups low levels₀ levels new
 
 abbrev μ-loop : tie.MeasureT-loop
-μ-loop keys values ups low back levels₀ new₀ levels new = weight (λ d. d) levels + flag new
+μ-loop keys values ups low back levels₀ new₀ turns₀ levels new turns = 4 - turns
 
 ascend-requires : tie.Need-ascend-requires Inv-loop μ-loop
 ascend-requires c κs =
@@ -36,58 +38,54 @@ first-two c =
     opened levels-kind L long fits (c .before .before .ascend .ensures) (c .ascend2 .ensures)
 
 loop-holds : tie.Need-loop-holds Inv-loop μ-loop
-loop-holds c = rebase (first-two c)
+loop-holds c = (omega arith, rebase (first-two c))
+
+returns : tie.Need-returns Inv-loop μ-loop
+returns c =
+    let at-loop = c .before .before in
+    (carried-on (first-two (at-loop .before) .half .carried) (at-loop .loop .inv .1 .half .carried), λ h. absurd (clash h refl))
+
+add-turns : tie.Need-add-turns Inv-loop μ-loop
+add-turns c = omega arith
 
 ascend-requires-3 : tie.Need-ascend-requires-3 Inv-loop μ-loop
 ascend-requires-3 c κs =
-    let at-loop = c .before .before in
+    let at-loop = c .before .before .before in
     let L = at-loop .before .before .before .before .before .pre .0 .0 in
-    ((omega arith, L .ups-most, at-loop .loop .inv .half .long), (L .key, (L .value, at-loop .loop .inv .half .bound)))
+    ((omega arith, L .ups-most, at-loop .loop .inv .1 .half .long), (L .key, (L .value, at-loop .loop .inv .1 .half .bound)))
 
 ascend-requires-4 : tie.Need-ascend-requires-4 Inv-loop μ-loop
 ascend-requires-4 c κs =
     let at = c .before .before in
-    let at-loop = at .before .before .before in
+    let at-loop = at .before .before .before .before in
     let L = at-loop .before .before .before .before .before .pre .0 .0 in
-    ((L .low-most, omega arith, run-long (at-loop .loop .inv .half .long) (at .ascend3 .ensures)), (L .key, (L .value, run-swept levels-kind _ _ _ _ _ (L .key) (L .value) (at-loop .loop .inv .half .long) (at-loop .loop .inv .half .bound) (at .ascend3 .ensures) .bound)))
+    ((L .low-most, omega arith, run-long (at-loop .loop .inv .1 .half .long) (at .ascend3 .ensures)), (L .key, (L .value, run-swept levels-kind _ _ _ _ _ (L .key) (L .value) (at-loop .loop .inv .1 .half .long) (at-loop .loop .inv .1 .half .bound) (at .ascend3 .ensures) .bound)))
 
 loop-less : tie.Need-loop-less Inv-loop μ-loop
-loop-less c =
-    let at = c .before .before .before in
-    let at-loop = at .before .before .before in
-    let L = at-loop .before .before .before .before .before .pre .0 .0 in
-    again levels-kind L (at-loop .loop .inv) (λ e. omega arith) (λ e. omega arith)
-    (at .ascend3 .ensures) (c .ascend4 .ensures) .1
+loop-less c = omega arith
 
 loop-again : tie.Need-loop-again Inv-loop μ-loop
 loop-again c =
     let at = c .before .before .before in
-    let at-loop = at .before .before .before in
+    let at-loop = at .before .before .before .before in
     let L = at-loop .before .before .before .before .before .pre .0 .0 in
-    again levels-kind L (at-loop .loop .inv) (λ e. omega arith) (λ e. omega arith)
-    (at .ascend3 .ensures) (c .ascend4 .ensures) .0
+    (omega arith, again levels-kind L (at-loop .loop .inv .1) (λ e. omega arith) (λ e. omega arith) (at .ascend3 .ensures) (c .ascend4 .ensures) .0)
 
 loop-less-2 : tie.Need-loop-less-2 Inv-loop μ-loop
-loop-less-2 c =
-    let at = c .before in
-    let at-loop = at .before .before .before in
-    let L = at-loop .before .before .before .before .before .pre .0 .0 in
-    still levels-kind L (at-loop .loop .inv) (λ e. omega arith) (omega arith)
-    (at .ascend3 .ensures) .1
+loop-less-2 c = omega arith
 
 loop-again-2 : tie.Need-loop-again-2 Inv-loop μ-loop
 loop-again-2 c =
     let at = c .before in
-    let at-loop = at .before .before .before in
+    let at-loop = at .before .before .before .before in
     let L = at-loop .before .before .before .before .before .pre .0 .0 in
-    still levels-kind L (at-loop .loop .inv) (λ e. omega arith) (omega arith)
-    (at .ascend3 .ensures) .0
+    (omega arith, still levels-kind L (at-loop .loop .inv .1) (λ e. omega arith) (omega arith) (at .ascend3 .ensures) .0)
 
-returns : tie.Need-returns Inv-loop μ-loop
-returns c =
+returns-2 : tie.Need-returns-2 Inv-loop μ-loop
+returns-2 c =
     let at-loop = c .before in
-    let i = at-loop .loop .inv in
-    (carried-on (first-two (at-loop .before) .half .carried) (i .half .carried), closing-closed i (omega arith))
+    let i = at-loop .loop .inv .1 in
+    (carried-on (first-two (at-loop .before) .half .carried) (i .half .carried), λ _. closing-closed i (omega arith))
 
 pub measure-spec : {M : Type 1} → statement M
 measure-spec =
@@ -98,10 +96,12 @@ measure-spec =
     ascend-requires
     ascend-requires-2
     loop-holds
+    returns
+    add-turns
     ascend-requires-3
     ascend-requires-4
     loop-less
     loop-again
     loop-less-2
     loop-again-2
-    returns)
+    returns-2)

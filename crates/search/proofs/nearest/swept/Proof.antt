@@ -24,9 +24,9 @@ tell-requires c κs =
     carried-long (swept .before .before .before .before .pre .1 .1 .long) (swept .measure .ensures .0)
 
 returns : tie.Need-returns
-returns c = λ e stops sources masks total T w B.
+returns c = λ settled e stops sources masks total T w B.
     let swept = c .before .before in
-    leveled-ahead T w B (swept .measure .ensures .0) (swept .measure .ensures .1) (c .tell .ensures)
+    leveled-ahead T w B (swept .measure .ensures .0) (swept .measure .ensures .1 settled) (c .tell .ensures)
 
 pub swept-spec : {M : Type 1} → statement M
 swept-spec =
