@@ -8,7 +8,7 @@ use native.Mathlib.Omega.{arith}
 use lib.ListN.{length}
 use Rattle.lists.specs.Tab.{tab}
 use Rattle.chart.specs.Refusal.{firstOf}
-use Rattle.theory_traces.specs.Call.{replayRows, recordOf, recordsBy, final, replayAnswer, recordsLeft, sheetLeft}
+use Rattle.theory_traces.specs.Call.{replayRows, recordOf, recordsBy, final, replayAnswer, recordsLeft, sheetLeft, valuesOf}
 use Rattle.theory_traces.specs.Correct.{ReplayCorrect}
 use Rattle.theory_traces.specs.CorrectLaws.{passed-team, replay-correct}
 use Rattle.theory_traces.specs.declared.Replayed.{Replayed}
@@ -77,7 +77,7 @@ pub record Left (s : List ℕ) (p : ℕ) (trace : List ℕ) (records : List Thre
   pub answer : said ≡ replayAnswer s p trace (length records) out
   pub records′ : left ≡ recordsLeft s p trace records out
   pub sheet : new ≡ sheetLeft s p trace (length records) out
-  pub correct : ReplayCorrect s p trace records out said left new
+  pub correct : ReplayCorrect s p trace records out (valuesOf said) left new
 
 pub ran-left : (s : List ℕ) (p : ℕ) (trace : List ℕ) (records : List Thread) (out : List ℕ) (team : Team) (new : List ℕ) (said : Replayed)
     (left : List Thread) → Ran s p trace (length records) out team new → said ≡ team .answer → left ≡ stored (team .threads) (team .count) records
@@ -91,8 +91,8 @@ ran-left s p trace records out team new said left ran e f =
       records′ = b;
       sheet = ran .sheet;
       correct =
-          subst (λ (z : Replayed). ReplayCorrect s p trace records out z left new) (sym a)
-          (subst (λ (z : List Thread). ReplayCorrect s p trace records out (replayAnswer s p trace m out) z new) (sym b)
-          (subst (λ (z : List ℕ). ReplayCorrect s p trace records out (replayAnswer s p trace m out) (recordsLeft s p trace records out) z) (sym (ran .sheet))
+          subst (λ (z : Replayed). ReplayCorrect s p trace records out (valuesOf z) left new) (sym a)
+          (subst (λ (z : List Thread). ReplayCorrect s p trace records out (valuesOf (replayAnswer s p trace m out)) z new) (sym b)
+          (subst (λ (z : List ℕ). ReplayCorrect s p trace records out (valuesOf (replayAnswer s p trace m out)) (recordsLeft s p trace records out) z) (sym (ran .sheet))
           (replay-correct s p trace records out)));
     }

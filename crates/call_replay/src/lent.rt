@@ -3,7 +3,7 @@
 ghost use mathlib.Core.Path.{_≡_};
 ghost use Prim.Native.Nat.{_≤_, _<_};
 ghost use lib.ListN.{length, getD};
-ghost use Rattle.theory_traces.specs.Call.{replayAnswer, recordsLeft, sheetLeft};
+ghost use Rattle.theory_traces.specs.Call.{replayAnswer, recordsLeft, sheetLeft, valuesOf};
 ghost use Rattle.theory_traces.specs.Correct.{ReplayCorrect};
 ghost use Rattle.call_replay.specs.Stored.{blank, stored};
 use crate::run::Team;
@@ -50,7 +50,7 @@ pub fn replay(
     ensures { λ r. ⌜ r ≡ replayAnswer (now (chart .entry)) region (now (trace .entry)) (length (now (threads .entry))) (now (out .entry)) ⌝ }
     ensures { λ _. ⌜ now (threads .exit) ≡ recordsLeft (now (chart .entry)) region (now (trace .entry)) (now (threads .entry)) (now (out .entry)) ⌝ }
     ensures { λ _. ⌜ now (out .exit) ≡ sheetLeft (now (chart .entry)) region (now (trace .entry)) (length (now (threads .entry))) (now (out .entry)) ⌝ }
-    ensures { λ r. ⌜ ReplayCorrect (now (chart .entry)) region (now (trace .entry)) (now (threads .entry)) (now (out .entry)) r (now (threads .exit)) (now (out .exit)) ⌝ }
+    ensures { λ r. ⌜ ReplayCorrect (now (chart .entry)) region (now (trace .entry)) (now (threads .entry)) (now (out .entry)) (valuesOf r) (now (threads .exit)) (now (out .exit)) ⌝ }
 {
     let m = threads.len();
     let team = run(chart, region, trace, m, out);

@@ -1,11 +1,12 @@
 -- The replay as a call (02, Note 11) on a region of a chart (02, Note 12): its rows in order, what it answers, and what it leaves in the records
 -- and in the sheet.
 -- Assumes nothing.
-use mathlib.Core.Bool.{Bool, _||_, cond}
+use mathlib.Core.Bool.{Bool, true, false, _||_, cond}
 use mathlib.Core.List.{List, [], _∷_, _++_}
 use mathlib.Core.Option.{Option, none, some}
 use Prim.Native.Nat.{ℕ, _*_, _%_}
 use lib.Dec.{eqb, ltb}
+use lib.IntN.{ℤ, pos, negℤ}
 use lib.ListN.{length}
 use Rattle.lists.specs.Mask.{maskOf}
 use Rattle.lists.specs.Rows.{rowsOf}
@@ -65,9 +66,15 @@ recordsLeft s p trace records out =
 unfoldable pub sheetLeft : List ℕ → ℕ → List ℕ → ℕ → List ℕ → List ℕ
 sheetLeft s p trace m out = leftBy (replayRows s p trace m (length out)) (metSheet (regionOf p (decode s) .nodes) (final s p trace m .met)) out
 
--- 02's number for every case: the index of the forbidden entry, a refusal's number; finished and unfinished have none.
-unfoldable pub numberOf : Replayed → Option ℕ
-numberOf Finished = none
-numberOf Unfinished = none
-numberOf (Forbidden index) = some index
-numberOf (Refused refusal) = some (refusal .number)
+-- 02's number and values for every case: a refusal's number, negated, or 0; of a trace that is replayed, whether it is finished, and the index of the
+-- first entry that the team rules forbid, where there is one.
+pub record Values : Type 0 where
+  pub number : ℤ
+  pub finished : Option Bool
+  pub forbidden : Option ℕ
+
+unfoldable pub valuesOf : Replayed → Values
+valuesOf Finished = record { number = pos 0; finished = some true; forbidden = none }
+valuesOf Unfinished = record { number = pos 0; finished = some false; forbidden = none }
+valuesOf (Forbidden index) = record { number = pos 0; finished = some false; forbidden = some index }
+valuesOf (Refused refusal) = record { number = negℤ (pos (refusal .number)); finished = none; forbidden = none }

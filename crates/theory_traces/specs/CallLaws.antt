@@ -1,11 +1,12 @@
--- What the replay's sheet says of the answer for two nodes: a pair marked in a finished trace is one that may meet.
+-- The replay's values tell its answers apart. What its sheet says of the answer for two nodes: a pair marked in a finished trace is one that may meet.
 -- Assumes nothing.
-use mathlib.Core.Path.{_≡_, refl, sym, _∙_}
+use mathlib.Core.Path.{_≡_, refl, sym, _∙_, ap}
 use mathlib.Core.Bool.{Bool, true, false, cond}
 use mathlib.Core.List.{List, [], _∷_, _++_}
 use mathlib.Core.Option.{Option, none, some}
 use Prim.Native.Nat.{ℕ, _+_, _*_, _<_}
 use native.Mathlib.Omega.{arith}
+use lib.IntN.{pos, negℤ, negℤ-negℤ}
 use lib.ListN.{length, getD}
 use Rattle.lists.specs.Truth.{bad}
 use Rattle.lists.specs.Front.{front-at}
@@ -22,9 +23,36 @@ use Rattle.theory_answers.specs.Answer.{answer, answerIn}
 use Rattle.output.specs.Output.{outputRows, leftBy, content}
 use Rattle.theory_traces.specs.Replay.{outcomeOf, replayed}
 use Rattle.theory_traces.specs.ReplayLaws.{marked-answered}
-use Rattle.theory_traces.specs.Call.{badTrace, replayRows, metSheet, answered, final, replayAnswer, sheetLeft}
+use Rattle.theory_traces.specs.Call.{badTrace, replayRows, metSheet, answered, final, replayAnswer, sheetLeft, Values, valuesOf}
 use Rattle.theory_traces.specs.declared.Replayed.{Replayed}
-use Rattle.theory_traces.specs.declared.Replayed.the-variants.{Finished}
+use Rattle.theory_traces.specs.declared.Replayed.the-variants.{Finished, Unfinished, Forbidden, Refused}
+
+negated-apart : (a b : ℕ) → negℤ (pos a) ≡ negℤ (pos b) → a ≡ b
+negated-apart a b h = let same : pos a ≡ pos b = sym (negℤ-negℤ (pos a)) ∙ ap negℤ h ∙ negℤ-negℤ (pos b) in cc
+
+by-values : (x y : Replayed) → valuesOf x .number ≡ valuesOf y .number → valuesOf x .finished ≡ valuesOf y .finished → valuesOf x .forbidden ≡ valuesOf y .forbidden
+    → x ≡ y
+unfolding valuesOf
+by-values Finished Finished n f b = refl
+by-values Finished Unfinished n f b = absurd (bad (cc))
+by-values Finished (Forbidden j) n f b = absurd (bad (cc))
+by-values Finished (Refused s) n f b = absurd (bad (cc))
+by-values Unfinished Finished n f b = absurd (bad (cc))
+by-values Unfinished Unfinished n f b = refl
+by-values Unfinished (Forbidden j) n f b = absurd (bad (cc))
+by-values Unfinished (Refused s) n f b = absurd (bad (cc))
+by-values (Forbidden i) Finished n f b = absurd (bad (cc))
+by-values (Forbidden i) Unfinished n f b = absurd (bad (cc))
+by-values (Forbidden i) (Forbidden j) n f b = ap Forbidden (cc)
+by-values (Forbidden i) (Refused s) n f b = absurd (bad (cc))
+by-values (Refused r) Finished n f b = absurd (bad (cc))
+by-values (Refused r) Unfinished n f b = absurd (bad (cc))
+by-values (Refused r) (Forbidden j) n f b = absurd (bad (cc))
+by-values (Refused r) (Refused s) n f b = ap (λ (k : ℕ). Refused (record { number = k })) (negated-apart (r .number) (s .number) n)
+
+-- Two different answers have different values.
+pub values-apart : (x y : Replayed) → valuesOf x ≡ valuesOf y → x ≡ y
+values-apart x y h = by-values x y (ap (λ (v : Values). v .number) h) (ap (λ (v : Values). v .finished) h) (ap (λ (v : Values). v .forbidden) h)
 
 -- an answer that is no refusal
 not-refused : (o : Option ℕ) (r : Replayed) → answered o r ≡ Finished → (o ≡ none) × (r ≡ Finished)

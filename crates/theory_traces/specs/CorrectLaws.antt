@@ -8,9 +8,10 @@ use mathlib.Core.Option.{Option, none, some}
 use Prim.Native.Nat.{ℕ, _*_, _/_, _%_, _≤_}
 use native.Mathlib.Omega.{arith}
 use lib.Dec.{eqb, ltb}
+use lib.IntN.{pos}
 use lib.ListN.{length, getD}
 use borrow.Author.Tests.{eqb-false, ltb-false}
-use Rattle.lists.specs.Truth.{truth, clash, false-if, or-neither}
+use Rattle.lists.specs.Truth.{bad, truth, clash, false-if, or-neither}
 use Rattle.lists.specs.Front.{front-length, front-past}
 use Rattle.lists.specs.Rows.{rowsOf, rows-length}
 use Rattle.chart.specs.Format.{decode}
@@ -21,15 +22,16 @@ use Rattle.chart.specs.WellFormed.{WellFormed}
 use Rattle.chart.proofs.Rows.{none-applies, both-pass}
 use Rattle.theory_paths.specs.Admission.{regionRows}
 use Rattle.theory_paths.specs.AdmissionLaws.{admitted-well-formed}
+use Rattle.theory_team.specs.State.{State}
 use Rattle.output.specs.Output.{roomRow, outputRows, leftBy, content}
 use Rattle.theory_traces.specs.Replay.{Play, Progress, going, stopped, progress, replayed, atFinish, outcomeOf, playOf}
 use Rattle.theory_traces.specs.ReplayLaws.{finish-of}
 use Rattle.theory_traces.specs.LegalLaws.{Follows, FollowsTo, progress-follows, stops-illegal, met-marked}
-use Rattle.theory_traces.specs.Call.{badTrace, replayRows, metSheet, answered, recordsBy, final, replayAnswer, recordsLeft, sheetLeft}
+use Rattle.theory_traces.specs.Call.{badTrace, replayRows, metSheet, answered, recordsBy, final, replayAnswer, recordsLeft, sheetLeft, valuesOf}
 use Rattle.theory_traces.specs.CallLaws.{passed-admitted, sheet-marks, replayed-answered}
 use Rattle.theory_traces.specs.Correct.{Says, Told, ReplayCorrect}
 use Rattle.theory_traces.specs.declared.Replayed.{Replayed}
-use Rattle.theory_traces.specs.declared.Replayed.the-variants.{Finished as Ended, Unfinished}
+use Rattle.theory_traces.specs.declared.Replayed.the-variants.{Finished as Ended, Unfinished, Forbidden, Refused}
 use Rattle.theory_traces.specs.declared.Thread.{Thread}
 
 module _ (R : Region) (W : WellFormed R) (m : ℕ) (least : 1 ≤ m) (trace : List ℕ) where
@@ -39,14 +41,17 @@ module _ (R : Region) (W : WellFormed R) (m : ℕ) (least : 1 ≤ m) (trace : Li
   entriesOf k (stopped P i) = i
 
   -- what it says, by what it has come to
-  outcome-says : (p : Progress) → FollowsTo R W m least trace (length trace / 2) p → Says R m trace (entriesOf (length trace / 2) p) (playOf p .state) (outcomeOf R m p)
-  unfolding entriesOf playOf outcomeOf
+  abbrev Right : ℕ → State → Replayed → Type 0
+  Right k σ answer = (valuesOf answer .number ≡ pos 0) × Says R m trace k σ (valuesOf answer .finished) (valuesOf answer .forbidden)
+
+  outcome-says : (p : Progress) → FollowsTo R W m least trace (length trace / 2) p → Right (entriesOf (length trace / 2) p) (playOf p .state) (outcomeOf R m p)
+  unfolding entriesOf playOf outcomeOf valuesOf
   outcome-says (going P) F = go (truth (atFinish R m (P .state)))
     where
-      go : (atFinish R m (P .state) ≡ true) ⊎ (atFinish R m (P .state) ≡ false) → Says R m trace (length trace / 2) (P .state) (cond (atFinish R m (P .state)) Ended Unfinished)
-      go (inl h) = rw h (refl, finish-of R W m (P .state) .0 h)
-      go (inr h) = rw h (refl, λ f. clash (finish-of R W m (P .state) .1 f) h)
-  outcome-says (stopped P i) S = (refl, (S .before, λ τ nodes L. stops-illegal R W m least trace S L))
+      go : (atFinish R m (P .state) ≡ true) ⊎ (atFinish R m (P .state) ≡ false) → Right (length trace / 2) (P .state) (cond (atFinish R m (P .state)) Ended Unfinished)
+      go (inl h) = rw h (refl, (refl, finish-of R W m (P .state) .0 h))
+      go (inr h) = rw h (refl, (refl, λ f. clash (finish-of R W m (P .state) .1 f) h))
+  outcome-says (stopped P i) S = (refl, (refl, (S .before, λ τ nodes L. stops-illegal R W m least trace S L)))
 
   outcome-legal : (p : Progress) → FollowsTo R W m least trace (length trace / 2) p → Follows R W m least trace (entriesOf (length trace / 2) p) (playOf p)
   unfolding entriesOf playOf
@@ -88,7 +93,7 @@ module _ (s : List ℕ) (p : ℕ) (trace : List ℕ) (m : ℕ) (out : List ℕ) 
       let (least, most) = whole-trace trace m (none-applies (row ∷ []) (both-pass (regionRows s p) (row ∷ []) before .1) .0) in
       (least, (most, ltb-false (length out) (n * n) (none-applies (roomRow (length out) (n * n) ∷ []) room .0)))
 
-  pub replay-told : firstOf rows ≡ none → Told R m trace (outcomeOf R m (replayed R m trace)) (final s p trace m .state) (sheetLeft s p trace m out)
+  pub replay-told : firstOf rows ≡ none → Told R m trace (valuesOf (outcomeOf R m (replayed R m trace))) (final s p trace m .state) (sheetLeft s p trace m out)
   replay-told h =
       let W = admitted-well-formed s p (passed-admitted s p trace m out h) in
       let least = passed-team h .0 in
@@ -100,7 +105,8 @@ module _ (s : List ℕ) (p : ℕ) (trace : List ℕ) (m : ℕ) (out : List ℕ) 
         entries = k;
         chosen = final s p trace m .chosen;
         legal = L .legal;
-        says = outcome-says R W m least trace (replayed R m trace) F;
+        number = outcome-says R W m least trace (replayed R m trace) F .0;
+        says = outcome-says R W m least trace (replayed R m trace) F .1;
         met = λ a b la lb M.
             let marked : final s p trace m .met a b ≡ true = subst (λ (P : Play). P .met a b ≡ true) same (met-marked R W m least trace M) in
             sheet-marks s p trace m out h a b la lb ∙ (rw marked);
@@ -127,16 +133,27 @@ module _ (s : List ℕ) (p : ℕ) (trace : List ℕ) (m : ℕ) (out : List ℕ) 
       go none h = rw h (front-length (rowsOf (λ a b. cond (final s p trace m .met a b) 1 0) n n) out (omega (arith, rows-length (λ a b. cond (final s p trace m .met a b) 1 0) n n, passed-team h .1 .1)))
       go (some row) h = rw h
 
+ended : (answer : Replayed) → valuesOf answer .finished ≡ some true → answer ≡ Ended
+unfolding valuesOf
+ended Ended h = refl
+ended Unfinished h = absurd (bad (cc))
+ended (Forbidden index) h = absurd (bad (cc))
+ended (Refused refusal) h = absurd (bad (cc))
+
 -- What the definitions give is correct.
 pub replay-correct : (s : List ℕ) (p : ℕ) (trace : List ℕ) (records : List Thread) (out : List ℕ)
-    → ReplayCorrect s p trace records out (replayAnswer s p trace (length records) out) (recordsLeft s p trace records out) (sheetLeft s p trace (length records) out)
-unfolding replayAnswer recordsLeft sheetLeft answered recordsBy leftBy content
+    → ReplayCorrect s p trace records out (valuesOf (replayAnswer s p trace (length records) out)) (recordsLeft s p trace records out) (sheetLeft s p trace (length records) out)
+unfolding replayAnswer recordsLeft sheetLeft answered recordsBy leftBy content valuesOf
 replay-correct s p trace records out =
     let m = length records in
     record {
       refuses = λ row h. rw h (refl, (refl, refl));
-      replays = λ h. (final s p trace m .state, ((rw h), subst (λ (r : Replayed). Told (regionOf p (decode s)) m trace r (final s p trace m .state) (sheetLeft s p trace m out)) (rw h) (replay-told s p trace m out h)));
-      may-meet = replayed-answered s p trace m out;
+      replays = λ h.
+          let R = regionOf p (decode s) in
+          let same : outcomeOf R m (replayed R m trace) ≡ replayAnswer s p trace m out = rw h in
+          let told = subst (λ (r : Replayed). Told R m trace (valuesOf r) (final s p trace m .state) (sheetLeft s p trace m out)) same (replay-told s p trace m out h) in
+          (final s p trace m .state, ((rw h), told));
+      may-meet = λ h. replayed-answered s p trace m out (ended (replayAnswer s p trace m out) h);
       rest = left-past s p trace m out;
       long = left-length s p trace m out;
     }
