@@ -1,6 +1,7 @@
 -- The tests' loops, the codes of roles and kinds, and what is read of a region's table.
 -- Assumes nothing.
 use mathlib.Core.Path.{_≡_, refl, sym, _∙_, ap, subst}
+use mathlib.Core.Logic.{_⊎_, inl, inr}
 use mathlib.Core.Bool.{Bool, true, false, not, cond}
 use mathlib.Core.List.{List}
 use Prim.Native.Nat.{ℕ, _+_, _<_}
@@ -97,6 +98,12 @@ module _ (R : Region) (m : ℕ) (σ : State) (t c : ℕ) where
       let P : Kind → Type 0 = λ k. mayEnter R m σ t c k ≡ not (eqb b 8) in
       rw (q, ne-eqb b 1 x1, ne-eqb b 2 x2, ne-eqb b 5 x5, ne-eqb b 6 x6)
       (cond-cases (eqb b 4) _ _ P (λ h. rw (eqb-true b 4 h)) (λ h. cond-cases (eqb b 7) _ _ P (λ g. rw (eqb-true b 7 g)) (λ g. cond-cases (eqb b 8) _ _ P (λ e. rw e) (λ e. rw e))))
+
+  -- a single or a master is passed by whoever may not enter it
+  pub picked-passes : {r : Bool} → (R .kind c ≡ single) ⊎ (R .kind c ≡ master) → r ≡ mayEnter R m σ t c (R .kind c) → not r ≡ mayPass R m σ t c (R .kind c)
+  unfolding mayEnter mayPass
+  picked-passes (inl k) h = rw (h, k)
+  picked-passes (inr k) h = rw (h, k)
 
   -- of what is left, a do is passed
   pub pass-last : (b : ℕ) → R .kind c ≡ kindOf b → (b ≡ 1 → ⊥) → (b ≡ 2 → ⊥) → (b ≡ 6 → ⊥) → mayPass R m σ t c (R .kind c) ≡ eqb b 4

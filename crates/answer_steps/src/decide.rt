@@ -56,15 +56,26 @@ fn takes(table: &RegionTable, team: &TeamTable, m: usize, c: usize, instance: u6
     is_untaken(team, m, c, instance, x)
 }
 
-// From the begin of c an edge leads to v, and may be taken.
-fn enters(table: &RegionTable, team: &TeamTable, m: usize, t: usize, v: usize, c: usize) -> bool
+// From the begin of c, or from its end, an edge leads to v, and may be taken.
+fn goes(
+    table: &RegionTable,
+    team: &TeamTable,
+    m: usize,
+    t: usize,
+    v: usize,
+    c: usize,
+    begin: bool,
+) -> bool
     requires { ⌜ Sound (now table) (now team) × (m ≤ 8) × (t < 8) × (v < 256) × (c < getD (now table) 2033 0) ⌝ }
-    ensures { λ r. ⌜ ((R : Region) (σ : State) → Tabled R (now (table .entry)) → Shows σ (now (team .entry)) → r ≡ (R .edge (σ .node t) v && mayEnter R m σ t c (R .kind c))) ⌝ }
+    ensures { λ r. ⌜ ((R : Region) (σ : State) → Tabled R (now (table .entry)) → Shows σ (now (team .entry)) → r ≡ (R .edge (σ .node t) v && cond begin (mayEnter R m σ t c (R .kind c)) (mayLeave R m σ t c))) ⌝ }
 {
     if !leads(table, node_of(team, t), v) {
         return false;
     }
-    may_enter(table, team, m, t, c)
+    if begin {
+        return may_enter(table, team, m, t, c);
+    }
+    may_leave(table, team, m, t, c)
 }
 
 // v is the end of c, and the begin may be left for it.
@@ -76,17 +87,6 @@ fn passes(table: &RegionTable, team: &TeamTable, m: usize, t: usize, v: usize, c
         return false;
     }
     may_pass(table, team, m, t, c)
-}
-
-// From the end of c an edge leads to v, and may be taken.
-fn leaves(table: &RegionTable, team: &TeamTable, m: usize, t: usize, v: usize, c: usize) -> bool
-    requires { ⌜ Sound (now table) (now team) × (m ≤ 8) × (t < 8) × (v < 256) × (c < getD (now table) 2033 0) ⌝ }
-    ensures { λ r. ⌜ ((R : Region) (σ : State) → Tabled R (now (table .entry)) → Shows σ (now (team .entry)) → r ≡ (R .edge (σ .node t) v && mayLeave R m σ t c)) ⌝ }
-{
-    if !leads(table, node_of(team, t), v) {
-        return false;
-    }
-    may_leave(table, team, m, t, c)
 }
 
 // c is a do, and an edge leads from its begin to v.
@@ -112,7 +112,7 @@ fn from_begin(
     ensures { λ r. ⌜ ((R : Region) (σ : State) → Tabled R (now (table .entry)) → Shows σ (now (team .entry)) → r ≡ fromBegin R m σ t v c) ⌝ }
     ensures { λ r. ⌜ Numbered r ⌝ }
 {
-    if enters(table, team, m, t, v, c) {
+    if goes(table, team, m, t, v, c, true) {
         return Effect::Leaves(c);
     }
     if passes(table, team, m, t, v, c) {
@@ -129,7 +129,7 @@ fn from_end(table: &RegionTable, team: &TeamTable, m: usize, t: usize, v: usize,
     ensures { λ r. ⌜ ((R : Region) (σ : State) → Tabled R (now (table .entry)) → Shows σ (now (team .entry)) → r ≡ fromEnd R m σ t v c) ⌝ }
     ensures { λ r. ⌜ Numbered r ⌝ }
 {
-    if leaves(table, team, m, t, v, c) {
+    if goes(table, team, m, t, v, c, false) {
         return Effect::Moves;
     }
     if again(table, v, c) {

@@ -210,17 +210,17 @@ pub fn may_enter(table: &RegionTable, team: &TeamTable, m: usize, t: usize, c: u
     kind != wide(Construct::PARALLEL)
 }
 
-// It may go straight to the end of c.
+// It may go straight to the end of c. A single or a master is passed by whoever may not enter it.
 pub fn may_pass(table: &RegionTable, team: &TeamTable, m: usize, t: usize, c: usize) -> bool
     requires { ⌜ Sound (now table) (now team) × (m ≤ 8) × (t < 8) × (c < getD (now table) 2033 0) ⌝ }
     ensures { λ r. ⌜ ((R : Region) (σ : State) → Tabled R (now (table .entry)) → Shows σ (now (team .entry)) → r ≡ mayPass R m σ t c (R .kind c)) ⌝ }
 {
     let kind = at(table, KINDS + c);
     if kind == wide(Construct::SINGLE) {
-        return !is_first(team, m, t, c);
+        return !may_enter(table, team, m, t, c);
     }
     if kind == wide(Construct::MASTER) {
-        return t != at(table, THREADS + c);
+        return !may_enter(table, team, m, t, c);
     }
     if kind == wide(Construct::SECTIONS) {
         return all_taken(table, team, m, c, count_of(team, t, c) + 1);

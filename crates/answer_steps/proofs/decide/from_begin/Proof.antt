@@ -12,19 +12,19 @@ use borrow.Author.Needs.{needs}
 use Rattle.answer_steps.proofs.decide.from_begin.Statement.{statement}
 use Rattle.answer_steps.proofs.decide.from_begin.Tie as tie
 
-enters-requires : tie.Need-enters-requires
-enters-requires c κs = search needs
+goes-requires : tie.Need-goes-requires
+goes-requires c κs = search needs
 
 returns : tie.Need-returns
 unfolding fromBegin
-returns c = (λ R σ T S. rw (sym (c .before .enters .ensures R σ T S) ∙ c .if1 .taken), omega (arith, c .before .before .pre .4, c .before .before .pre .0 .tabled .constructs, c .before .before .pre .0 .tabled .few))
+returns c = (λ R σ T S. rw (sym (c .before .goes .ensures R σ T S) ∙ c .if1 .taken), omega (arith, c .before .before .pre .4, c .before .before .pre .0 .tabled .constructs, c .before .before .pre .0 .tabled .few))
 
 passes-requires : tie.Need-passes-requires
 passes-requires c κs = search needs
 
 returns-2 : tie.Need-returns-2
 unfolding fromBegin
-returns-2 c = (λ R σ T S. rw (sym (c .before .before .before .enters .ensures R σ T S) ∙ c .before .before .if1 .left, sym (c .before .passes .ensures R σ T S) ∙ c .if2 .taken), omega (arith, c .before .before .before .before .pre .4, c .before .before .before .before .pre .0 .tabled .constructs, c .before .before .before .before .pre .0 .tabled .few))
+returns-2 c = (λ R σ T S. rw (sym (c .before .before .before .goes .ensures R σ T S) ∙ c .before .before .if1 .left, sym (c .before .passes .ensures R σ T S) ∙ c .if2 .taken), omega (arith, c .before .before .before .before .pre .4, c .before .before .before .before .pre .0 .tabled .constructs, c .before .before .before .before .pre .0 .tabled .few))
 
 count-of-requires : tie.Need-count-of-requires
 count-of-requires c κs = search needs
@@ -50,7 +50,7 @@ returns-3 c = (
       let a = c .before .before .before .before .before .before .before .before in
       let own = c .before .before .before .count-of .ensures ∙ S .count (a .args .t) (a .args .c) (a .pre .2) (omega (arith, a .pre .4, T .constructs, T .few)) in
       let taken = ap (λ (k : ℕ). taking R (a .args .m) σ (a .args .c) k (Takes (a .args .c)) (R .role (a .args .v))) (sym (add-one _ ∙ ap suc own)) ∙ c .before .before .takes .ensures R σ T S (Takes (a .args .c)) in
-      rw (sym (c .before .before .before .before .before .before .before .enters .ensures R σ T S) ∙ c .before .before .before .before .before .before .if1 .left, sym (c .before .before .before .before .before .passes .ensures R σ T S) ∙ c .before .before .before .before .if2 .left)
+      rw (sym (c .before .before .before .before .before .before .before .goes .ensures R σ T S) ∙ c .before .before .before .before .before .before .if1 .left, sym (c .before .before .before .before .before .passes .ensures R σ T S) ∙ c .before .before .before .before .if2 .left)
       (ap (Takes (a .args .c)) (c .at .ensures) ∙ sym (taken ∙ ap (λ (b : Bool). cond b (Takes (a .args .c) (getD (a .args .table .now) (1280 + a .args .v) 0)) None) (c .before .if3 .taken))),
   (omega (arith, c .before .before .before .before .before .before .before .before .pre .4, c .before .before .before .before .before .before .before .before .pre .0 .tabled .constructs, c .before .before .before .before .before .before .before .before .pre .0 .tabled .few), omega (arith, c .at .ensures, c .before .before .before .before .before .before .before .before .pre .0 .tabled .numbers (c .before .before .before .before .before .before .before .before .args .v) (c .before .before .before .before .before .before .before .before .pre .3))),
 )
@@ -62,7 +62,7 @@ returns-4 c = (
       let a = c .before .before .before .before .before .before .before in
       let own = c .before .before .count-of .ensures ∙ S .count (a .args .t) (a .args .c) (a .pre .2) (omega (arith, a .pre .4, T .constructs, T .few)) in
       let taken = ap (λ (k : ℕ). taking R (a .args .m) σ (a .args .c) k (Takes (a .args .c)) (R .role (a .args .v))) (sym (add-one _ ∙ ap suc own)) ∙ c .before .takes .ensures R σ T S (Takes (a .args .c)) in
-      rw (sym (c .before .before .before .before .before .before .enters .ensures R σ T S) ∙ c .before .before .before .before .before .if1 .left, sym (c .before .before .before .before .passes .ensures R σ T S) ∙ c .before .before .before .if2 .left)
+      rw (sym (c .before .before .before .before .before .before .goes .ensures R σ T S) ∙ c .before .before .before .before .before .if1 .left, sym (c .before .before .before .before .passes .ensures R σ T S) ∙ c .before .before .before .if2 .left)
       (sym (taken ∙ ap (λ (b : Bool). cond b (Takes (a .args .c) (getD (a .args .table .now) (1280 + a .args .v) 0)) None) (c .if3 .left))),
   tt,
 )
@@ -71,7 +71,7 @@ pub from-begin-spec : {M : Type 1} → statement M
 from-begin-spec =
     tie.close
     (tie.spec
-    enters-requires
+    goes-requires
     returns
     passes-requires
     returns-2

@@ -11,19 +11,19 @@ use borrow.Author.Needs.{needs}
 use Rattle.answer_steps.proofs.decide.from_end.Statement.{statement}
 use Rattle.answer_steps.proofs.decide.from_end.Tie as tie
 
-leaves-requires : tie.Need-leaves-requires
-leaves-requires c κs = search needs
+goes-requires : tie.Need-goes-requires
+goes-requires c κs = search needs
 
 returns : tie.Need-returns
 unfolding fromEnd
-returns c = (λ R σ T S. rw (sym (c .before .leaves .ensures R σ T S) ∙ c .if1 .taken), tt)
+returns c = (λ R σ T S. rw (sym (c .before .goes .ensures R σ T S) ∙ c .if1 .taken), tt)
 
 again-requires : tie.Need-again-requires
 again-requires c κs = search needs
 
 returns-2 : tie.Need-returns-2
 unfolding fromEnd
-returns-2 c = (λ R σ T S. rw (sym (c .before .before .before .leaves .ensures R σ T S) ∙ c .before .before .if1 .left, sym (c .before .again .ensures R T) ∙ c .if2 .taken), tt)
+returns-2 c = (λ R σ T S. rw (sym (c .before .before .before .goes .ensures R σ T S) ∙ c .before .before .if1 .left, sym (c .before .again .ensures R T) ∙ c .if2 .taken), tt)
 
 count-of-requires : tie.Need-count-of-requires
 count-of-requires c κs = search needs
@@ -44,7 +44,7 @@ returns-3 c = (
       let a = c .before .before .before .before .before .before .before .before in
       let own = c .before .before .before .count-of .ensures ∙ S .count (a .args .t) (a .args .c) (a .pre .2) (omega (arith, a .pre .4, T .constructs, T .few)) in
       let taken = ap (λ (k : ℕ). taking R (a .args .m) σ (a .args .c) k (TakesNext (a .args .c)) (R .role (a .args .v))) (sym own) ∙ c .before .before .takes .ensures R σ T S (TakesNext (a .args .c)) in
-      rw (sym (c .before .before .before .before .before .before .before .leaves .ensures R σ T S) ∙ c .before .before .before .before .before .before .if1 .left, sym (c .before .before .before .before .before .again .ensures R T) ∙ c .before .before .before .before .if2 .left)
+      rw (sym (c .before .before .before .before .before .before .before .goes .ensures R σ T S) ∙ c .before .before .before .before .before .before .if1 .left, sym (c .before .before .before .before .before .again .ensures R T) ∙ c .before .before .before .before .if2 .left)
       (ap (TakesNext (a .args .c)) (c .at .ensures) ∙ sym (taken ∙ ap (λ (b : Bool). cond b (TakesNext (a .args .c) (getD (a .args .table .now) (1280 + a .args .v) 0)) None) (c .before .if3 .taken))),
   (omega (arith, c .before .before .before .before .before .before .before .before .pre .4, c .before .before .before .before .before .before .before .before .pre .0 .tabled .constructs, c .before .before .before .before .before .before .before .before .pre .0 .tabled .few), omega (arith, c .at .ensures, c .before .before .before .before .before .before .before .before .pre .0 .tabled .numbers (c .before .before .before .before .before .before .before .before .args .v) (c .before .before .before .before .before .before .before .before .pre .3))),
 )
@@ -56,7 +56,7 @@ returns-4 c = (
       let a = c .before .before .before .before .before .before .before in
       let own = c .before .before .count-of .ensures ∙ S .count (a .args .t) (a .args .c) (a .pre .2) (omega (arith, a .pre .4, T .constructs, T .few)) in
       let taken = ap (λ (k : ℕ). taking R (a .args .m) σ (a .args .c) k (TakesNext (a .args .c)) (R .role (a .args .v))) (sym own) ∙ c .before .takes .ensures R σ T S (TakesNext (a .args .c)) in
-      rw (sym (c .before .before .before .before .before .before .leaves .ensures R σ T S) ∙ c .before .before .before .before .before .if1 .left, sym (c .before .before .before .before .again .ensures R T) ∙ c .before .before .before .if2 .left)
+      rw (sym (c .before .before .before .before .before .before .goes .ensures R σ T S) ∙ c .before .before .before .before .before .if1 .left, sym (c .before .before .before .before .again .ensures R T) ∙ c .before .before .before .if2 .left)
       (sym (taken ∙ ap (λ (b : Bool). cond b (TakesNext (a .args .c) (getD (a .args .table .now) (1280 + a .args .v) 0)) None) (c .if3 .left))),
   tt,
 )
@@ -65,7 +65,7 @@ pub from-end-spec : {M : Type 1} → statement M
 from-end-spec =
     tie.close
     (tie.spec
-    leaves-requires
+    goes-requires
     returns
     again-requires
     returns-2

@@ -1,15 +1,14 @@
 -- `answer_steps::tests::may_pass` meets its contract.
 -- Assumes nothing.
 use mathlib.Core.Path.{refl, sym, _∙_, ap}
-use mathlib.Core.Bool.{not}
-use Prim.Native.Nat.{ℕ, suc}
+use mathlib.Core.Logic.{inl, inr}
+use Prim.Native.Nat.{suc}
 use native.Mathlib.Omega.{arith}
 use native.Mathlib.Numerals.{add-one}
-use lib.Dec.{eqb}
 use Rattle.chart.specs.Region.{single, master, sections}
 use Rattle.chart.specs.Scope.{kindOf}
 use Rattle.theory_traces.specs.Tests.{allTaken, mayPass}
-use Rattle.answer_steps.proofs.Laws.{kind-at, pass-last, in-table}
+use Rattle.answer_steps.proofs.Laws.{kind-at, picked-passes, pass-last, in-table}
 use borrow.Author.Needs.{needs}
 use Rattle.answer_steps.proofs.tests.may_pass.Statement.{statement}
 use Rattle.answer_steps.proofs.tests.may_pass.Tie as tie
@@ -23,25 +22,28 @@ at-requires c κs = search needs
 wide-requires : tie.Need-wide-requires
 wide-requires c κs = search needs
 
-is-first-requires : tie.Need-is-first-requires
-is-first-requires c κs = search needs
+may-enter-requires : tie.Need-may-enter-requires
+may-enter-requires c κs = search needs
 
 returns : tie.Need-returns
-unfolding mayPass kindOf
-returns c = λ R σ T S. rw (kind-at T _ (in-table T (c .before .before .before .before .pre .3)) single (c .before .before .before .at .ensures) 1 (c .before .if1 .taken ∙ c .before .before .wide .ensures .0) refl) (ap not (c .is-first .ensures σ S))
+unfolding kindOf
+returns c =
+    λ R σ T S.
+    let a = c .before .before .before .before in
+    picked-passes R (a .args .m) σ (a .args .t) (a .args .c) (inl (kind-at T _ (in-table T (a .pre .3)) single (c .before .before .before .at .ensures) 1 (c .before .if1 .taken ∙ c .before .before .wide .ensures .0) refl)) (c .may-enter .ensures R σ T S)
 
 wide-requires-2 : tie.Need-wide-requires-2
 wide-requires-2 c κs = search needs
 
-add-at-2 : tie.Need-add-at-2
-add-at-2 c = search needs
-
-at-requires-2 : tie.Need-at-requires-2
-at-requires-2 c κs = search needs
+may-enter-requires-2 : tie.Need-may-enter-requires-2
+may-enter-requires-2 c κs = search needs
 
 returns-2 : tie.Need-returns-2
-unfolding mayPass kindOf
-returns-2 c = λ R σ T S. rw (kind-at T _ (in-table T (c .before .before .before .before .before .before .pre .3)) master (c .before .before .before .before .before .at .ensures) 2 (c .before .if2 .taken ∙ c .before .before .wide2 .ensures .0) refl, T .thread _ (in-table T (c .before .before .before .before .before .before .pre .3))) (ap (λ (z : ℕ). not (eqb (c .before .before .before .before .before .before .args .t) z)) (c .at2 .ensures))
+unfolding kindOf
+returns-2 c =
+    λ R σ T S.
+    let a = c .before .before .before .before .before .before in
+    picked-passes R (a .args .m) σ (a .args .t) (a .args .c) (inr (kind-at T _ (in-table T (a .pre .3)) master (c .before .before .before .before .before .at .ensures) 2 (c .before .if2 .taken ∙ c .before .before .wide2 .ensures .0) refl)) (c .may-enter2 .ensures R σ T S)
 
 wide-requires-3 : tie.Need-wide-requires-3
 wide-requires-3 c κs = search needs
@@ -84,11 +86,10 @@ may-pass-spec =
     add-at
     at-requires
     wide-requires
-    is-first-requires
+    may-enter-requires
     returns
     wide-requires-2
-    add-at-2
-    at-requires-2
+    may-enter-requires-2
     returns-2
     wide-requires-3
     count-of-requires
