@@ -11,8 +11,8 @@ use Rattle.chart.specs.Region.{Region}
 use Rattle.theory_team.specs.State.{initial}
 use Rattle.theory_traces.specs.Replay.{together, begun}
 use Rattle.answer_steps.specs.Tables.{Shows}
-use Rattle.call_replay.specs.Marks.{Sheet, Kept}
-use Rattle.call_replay.specs.declared.marks.Rows.{Rows}
+use Rattle.call_replay.specs.PairsMet.{Sheet, Kept}
+use Rattle.call_replay.specs.declared.pairs_met.Rows.{Rows}
 use Rattle.call_replay.proofs.Sheets.{row-fits}
 use Rattle.call_replay.specs.Playing.{Playing}
 use Rattle.call_replay.proofs.Releases.{Fresh}

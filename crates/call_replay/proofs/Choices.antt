@@ -18,8 +18,8 @@ use Rattle.theory_team.specs.State.{State, released}
 use Rattle.theory_traces.specs.Decide.{decide, apply, allowed}
 use Rattle.theory_traces.specs.Replay.{Play, together, reached, gathered, chosenNow, choose, stepped, feed}
 use Rattle.answer_steps.specs.Tables.{Shows}
-use Rattle.call_replay.specs.Marks.{Sheet}
-use Rattle.call_replay.specs.declared.marks.Rows.{Rows}
+use Rattle.call_replay.specs.PairsMet.{Sheet}
+use Rattle.call_replay.specs.declared.pairs_met.Rows.{Rows}
 use Rattle.call_replay.specs.Playing.{Playing, After, forbidden, fed}
 
 -- what an entry leads to, by an equation

@@ -13,15 +13,12 @@ use Rattle.theory_traces.specs.Correct.{ReplayCorrect}
 use Rattle.theory_traces.specs.CorrectLaws.{passed-team, replay-correct}
 use Rattle.theory_traces.specs.declared.Replayed.{Replayed}
 use Rattle.theory_traces.specs.declared.Thread.{Thread}
-use Rattle.call_replay.specs.Team.{countBy}
+use Rattle.call_replay.specs.Team.{countBy, refused, Counts, Records}
 use Rattle.call_replay.specs.declared.run.Team.{Team}
 use Rattle.call_replay.specs.Stored.{stored}
 use Rattle.call_replay.proofs.Laws.{stored-none, stored-all}
 
 module _ (s : List ℕ) (p : ℕ) (trace : List ℕ) (m : ℕ) (out : List ℕ) where
-  abbrev refused : Option ℕ
-  refused = firstOf (replayRows s p trace m (length out))
-
   -- What `run` promises of its team and of the sheet, clause by clause.
   abbrev pub Answers : Team → Type 0
   Answers team = team .answer ≡ replayAnswer s p trace m out
@@ -29,28 +26,22 @@ module _ (s : List ℕ) (p : ℕ) (trace : List ℕ) (m : ℕ) (out : List ℕ) 
   abbrev pub Marks : List ℕ → Type 0
   Marks new = new ≡ sheetLeft s p trace m out
 
-  abbrev pub Counts : Team → Type 0
-  Counts team = team .count ≡ countBy refused m
-
-  abbrev pub Records : Team → Type 0
-  Records team = refused ≡ none → team .threads ≡ tab 8 (recordOf (final s p trace m .state))
-
   pub record Ran (team : Team) (new : List ℕ) : Type 0 where
     pub answer : Answers team
     pub sheet : Marks new
-    pub count : Counts team
-    pub threads : Records team
+    pub count : Counts s p trace m out team
+    pub threads : Records s p trace m out team
 
   module _ (team : Team) (new : List ℕ) (ran : Ran team new) where
-    counted : (o : Option ℕ) → refused ≡ o → team .count ≡ countBy o m
+    counted : (o : Option ℕ) → refused s p trace m out ≡ o → team .count ≡ countBy o m
     counted o h = ran .count ∙ ap (λ (z : Option ℕ). countBy z m) h
 
     -- the records to store are in the team, and there is room for them
     pub count-small : (team .count ≤ 8) × (team .count ≤ m)
     unfolding countBy
-    count-small = go refused refl
+    count-small = go (refused s p trace m out) refl
       where
-        go : (o : Option ℕ) → refused ≡ o → (team .count ≤ 8) × (team .count ≤ m)
+        go : (o : Option ℕ) → refused s p trace m out ≡ o → (team .count ≤ 8) × (team .count ≤ m)
         go none h = let q : team .count ≡ m = counted none h in (omega (arith, passed-team s p trace m out h .1 .0), omega arith)
         go (some row) h = let q : team .count ≡ 0 = counted (some row) h in (omega arith, omega arith)
 

@@ -14,7 +14,7 @@ use Rattle.lists.specs.Rows.{rowsOf, rows-length, rows-at}
 use Rattle.lists.specs.Tab.{tab, tab-at, tab-length}
 use Rattle.theory_traces.specs.Call.{metSheet}
 use Rattle.theory_traces.specs.declared.Thread.{Thread}
-use Rattle.call_replay.specs.Marks.{Sheet, Kept}
+use Rattle.call_replay.specs.PairsMet.{Sheet, Kept}
 
 -- a list whose entries are known
 pub tab-is : {A : Type 0} (d : A) (n : ℕ) (f : ℕ → A) (l : List A) → length l ≡ n → ((j : ℕ) → j < n → getD l j d ≡ f j) → l ≡ tab n f

@@ -16,8 +16,8 @@ use Rattle.lists.specs.Range.{any, any-next, any-none}
 use Rattle.lists.specs.Rows.{part-length}
 use Rattle.lists.specs.Store.{at-set}
 use Rattle.theory_team.specs.State.{State}
-use Rattle.call_replay.specs.Marks.{Line, Sheet, Kept}
-use Rattle.call_replay.specs.declared.marks.Rows.{Rows}
+use Rattle.call_replay.specs.PairsMet.{Line, Sheet, Kept}
+use Rattle.call_replay.specs.declared.pairs_met.Rows.{Rows}
 use Rattle.call_replay.proofs.Parts.{back-length, back-inside, back-past, back-before, lent-at}
 
 pub line-same : {f g : ℕ → Bool} {row : List ℕ} → ((b : ℕ) → f b ≡ g b) → Line f row → Line g row

@@ -1,4 +1,4 @@
-pub mod Marks
+pub mod PairsMet
 pub mod Playing
 pub mod Team
 pub mod Stored

@@ -4,13 +4,15 @@ use mathlib.Core.Path.{_≡_}
 use mathlib.Core.Bool.{Bool, true, false}
 use mathlib.Core.List.{List}
 use mathlib.Core.Option.{Option, none, some}
-use Prim.Native.Nat.{ℕ, _+_, _≤_, _<_}
+use Prim.Native.Nat.{ℕ, _+_, _*_, _≤_, _<_}
 use lib.ListN.{length, getD}
+use Rattle.chart.specs.Region.{Region}
 use Rattle.theory_team.specs.State.{State}
-use Rattle.theory_traces.specs.Replay.{Play}
-use Rattle.answer_steps.specs.Tables.{Shows}
-use Rattle.call_replay.specs.Marks.{Sheet}
-use Rattle.call_replay.specs.declared.marks.Rows.{Rows}
+use Rattle.theory_traces.specs.Replay.{Play, outcomeOf, playOf, replayed}
+use Rattle.theory_traces.specs.declared.Replayed.{Replayed}
+use Rattle.answer_steps.specs.Tables.{Tabled, Shows}
+use Rattle.call_replay.specs.PairsMet.{Sheet, Kept}
+use Rattle.call_replay.specs.declared.pairs_met.Rows.{Rows}
 
 pub record Playing (n m : ℕ) (rows : Rows) (P : Play) (team out : List ℕ) : Type 0 where
   pub state : Shows (P .state) team
@@ -25,6 +27,19 @@ pub record Playing (n m : ℕ) (rows : Rows) (P : Play) (team out : List ℕ) : 
 pub data After (n m : ℕ) (rows : Rows) (P : Play) : Option Play → Bool → List ℕ → List ℕ → Type 0 where
   forbidden : {team out : List ℕ} → Playing n m rows P team out → After n m rows P none false team out
   fed : {Q : Play} {team out : List ℕ} → Playing n m rows Q team out → After n m rows P (some Q) true team out
+
+-- Before an entry to v: the table is a region's, team and rows are as a play has them, and there is room for the rows.
+abbrev pub Ready : List ℕ → List ℕ → ℕ → ℕ → Rows → List ℕ → Type 0
+Ready table team m v rows out = (R : Region) × (P : Play) × Tabled R table × Playing (R .nodes) m rows P team out × (m ≤ 8) × (v < 256) × (rows .count * R .nodes ≤ length out)
+
+-- After it: what it leads to, and the bytes past the rows as they were.
+abbrev pub Fed : Region → ℕ → Rows → Play → Option Play → Bool → List ℕ → List ℕ → List ℕ → Type 0
+Fed R m rows P next done team old new = After (R .nodes) m rows P next done team new × Kept (rows .count * R .nodes) old new
+
+-- After a whole trace: the same, and what is answered.
+abbrev pub Played : Region → ℕ → Rows → List ℕ → Replayed → List ℕ → List ℕ → List ℕ → Type 0
+Played R m rows trace said team old new =
+    (said ≡ outcomeOf R m (replayed R m trace)) × Playing (R .nodes) m rows (playOf (replayed R m trace)) team new × Kept (rows .count * R .nodes) old new
 
 -- No thread has left a begin more than k times.
 abbrev pub Few : ℕ → State → Type 0

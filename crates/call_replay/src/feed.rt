@@ -10,10 +10,9 @@ ghost use Rattle.theory_team.specs.State.{State, released};
 ghost use Rattle.theory_traces.specs.Decide.{allowed};
 ghost use Rattle.theory_traces.specs.Replay.{Play, gathered as isGathered, choose as chosenBy, feed as fedBy, atFinish};
 ghost use Rattle.answer_steps.specs.Tables.{Tabled, Shows};
-ghost use Rattle.call_replay.specs.Marks.{Kept};
-ghost use Rattle.call_replay.specs.Playing.{Playing, After};
-use crate::marks::Rows;
-use crate::marks::mark_state;
+ghost use Rattle.call_replay.specs.Playing.{Playing, Ready, Fed};
+use crate::pairs_met::Rows;
+use crate::pairs_met::mark_state;
 use answer_steps::decide::decide;
 use answer_steps::effects::apply;
 use answer_steps::tables::BARRIER;
@@ -107,8 +106,8 @@ fn choose(
     rows: Rows,
     out: &mut [u8],
 ) -> bool
-    requires { ⌜ ((R : Region) × (P : Play) × Tabled R (now table) × Playing (R .nodes) m rows P (now team) (now out) × (m ≤ 8) × (v < 256) × (rows .count * R .nodes ≤ length (now out))) ⌝ }
-    ensures { λ r. ⌜ ((R : Region) (P : Play) → Tabled R (now (table .entry)) → Playing (R .nodes) m rows P (now (team .entry)) (now (out .entry)) → After (R .nodes) m rows P (chosenBy R m P t v) r (now (team .exit)) (now (out .exit)) × Kept (rows .count * R .nodes) (now (out .entry)) (now (out .exit))) ⌝ }
+    requires { ⌜ Ready (now table) (now team) m v rows (now out) ⌝ }
+    ensures { λ r. ⌜ ((R : Region) (P : Play) → Tabled R (now (table .entry)) → Playing (R .nodes) m rows P (now (team .entry)) (now (out .entry)) → Fed R m rows P (chosenBy R m P t v) r (now (team .exit)) (now (out .entry)) (now (out .exit))) ⌝ }
 {
     let pending = team[PENDING] as usize;
     if t != pending {
@@ -150,9 +149,9 @@ fn step(
     rows: Rows,
     out: &mut [u8],
 ) -> bool
-    requires { ⌜ ((R : Region) × (P : Play) × Tabled R (now table) × Playing (R .nodes) m rows P (now team) (now out) × (m ≤ 8) × (v < 256) × (rows .count * R .nodes ≤ length (now out))) ⌝ }
+    requires { ⌜ Ready (now table) (now team) m v rows (now out) ⌝ }
     requires { ⌜ ((t c : ℕ) → t < 8 → c < 48 → getD (now team) (97 * t + 1 + c) 0 + 1 < 18446744073709551616) ⌝ }
-    ensures { λ r. ⌜ ((R : Region) (P : Play) → Tabled R (now (table .entry)) → Playing (R .nodes) m rows P (now (team .entry)) (now (out .entry)) → isGathered R m (P .state) ≡ false → After (R .nodes) m rows P (fedBy R m P t v) r (now (team .exit)) (now (out .exit)) × Kept (rows .count * R .nodes) (now (out .entry)) (now (out .exit))) ⌝ }
+    ensures { λ r. ⌜ ((R : Region) (P : Play) → Tabled R (now (table .entry)) → Playing (R .nodes) m rows P (now (team .entry)) (now (out .entry)) → isGathered R m (P .state) ≡ false → Fed R m rows P (fedBy R m P t v) r (now (team .exit)) (now (out .entry)) (now (out .exit))) ⌝ }
 {
     let effect = decide(table, team, m, t, v);
     if !is_allowed(effect) {
@@ -174,9 +173,9 @@ pub fn feed(
     rows: Rows,
     out: &mut [u8],
 ) -> bool
-    requires { ⌜ ((R : Region) × (P : Play) × Tabled R (now table) × Playing (R .nodes) m rows P (now team) (now out) × (m ≤ 8) × (v < 256) × (rows .count * R .nodes ≤ length (now out))) ⌝ }
+    requires { ⌜ Ready (now table) (now team) m v rows (now out) ⌝ }
     requires { ⌜ ((t c : ℕ) → t < 8 → c < 48 → getD (now team) (97 * t + 1 + c) 0 + 1 < 18446744073709551616) ⌝ }
-    ensures { λ r. ⌜ ((R : Region) (P : Play) → Tabled R (now (table .entry)) → Playing (R .nodes) m rows P (now (team .entry)) (now (out .entry)) → After (R .nodes) m rows P (fedBy R m P t v) r (now (team .exit)) (now (out .exit)) × Kept (rows .count * R .nodes) (now (out .entry)) (now (out .exit))) ⌝ }
+    ensures { λ r. ⌜ ((R : Region) (P : Play) → Tabled R (now (table .entry)) → Playing (R .nodes) m rows P (now (team .entry)) (now (out .entry)) → Fed R m rows P (fedBy R m P t v) r (now (team .exit)) (now (out .entry)) (now (out .exit))) ⌝ }
 {
     if gathered(table, team, m) {
         return choose(table, team, m, t, v, rows, out);

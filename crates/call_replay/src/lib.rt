@@ -2,7 +2,7 @@
 // records that the caller lends (`lent`): the call, which stores what `run` gives.
 pub mod feed;
 pub mod lent;
-pub mod marks;
+pub mod pairs_met;
 pub mod play;
 pub mod records;
 pub mod rows;

@@ -1,15 +1,13 @@
 // All entries of a trace, one after the other.
-ghost use mathlib.Core.Path.{_≡_};
 ghost use Prim.Native.Nat.{_*_, _≤_};
 ghost use lib.ListN.{length};
 ghost use Rattle.chart.specs.Region.{Region};
-ghost use Rattle.theory_traces.specs.Replay.{begun, outcomeOf, playOf, replayed};
+ghost use Rattle.theory_traces.specs.Replay.{begun};
 ghost use Rattle.answer_steps.specs.Tables.{Tabled};
-ghost use Rattle.call_replay.specs.Marks.{Kept};
-ghost use Rattle.call_replay.specs.Playing.{Playing};
+ghost use Rattle.call_replay.specs.Playing.{Playing, Played};
 use crate::feed::at_finish;
 use crate::feed::feed;
-use crate::marks::Rows;
+use crate::pairs_met::Rows;
 use answer_steps::tables::RegionTable;
 use answer_steps::tables::TeamTable;
 use chart::cursor::wide;
@@ -25,7 +23,7 @@ pub fn play(
     out: &mut [u8],
 ) -> Replayed
     requires { ⌜ ((R : Region) × Tabled R (now table) × Playing (R .nodes) m rows (begun R m) (now team) (now out) × (m ≤ 8) × (rows .count * R .nodes ≤ length (now out))) ⌝ }
-    ensures { λ r. ⌜ ((R : Region) → Tabled R (now (table .entry)) → Playing (R .nodes) m rows (begun R m) (now (team .entry)) (now (out .entry)) → (r ≡ outcomeOf R m (replayed R m (now (trace .entry)))) × Playing (R .nodes) m rows (playOf (replayed R m (now (trace .entry)))) (now (team .exit)) (now (out .exit)) × Kept (rows .count * R .nodes) (now (out .entry)) (now (out .exit))) ⌝ }
+    ensures { λ r. ⌜ ((R : Region) → Tabled R (now (table .entry)) → Playing (R .nodes) m rows (begun R m) (now (team .entry)) (now (out .entry)) → Played R m rows (now (trace .entry)) r (now (team .exit)) (now (out .entry)) (now (out .exit))) ⌝ }
 {
     let n = trace.len() / 2;
     let mut i = 0;

@@ -10,10 +10,10 @@ ghost use Rattle.chart.specs.Refusal.{firstOf};
 ghost use Rattle.theory_paths.specs.Admission.{regionRows};
 ghost use Rattle.mark_tables.specs.Tables.{Accepted};
 ghost use Rattle.theory_traces.specs.Replay.{outcomeOf, playOf, replayed};
-ghost use Rattle.theory_traces.specs.Call.{badTrace, replayRows, recordOf, metSheet, final, replayAnswer, sheetLeft};
+ghost use Rattle.theory_traces.specs.Call.{badTrace, recordOf, metSheet, replayAnswer, sheetLeft};
 ghost use Rattle.theory_traces.specs.declared.Replayed.the-variants.{Refused};
-ghost use Rattle.call_replay.specs.Team.{countBy};
-use crate::marks::Rows;
+ghost use Rattle.call_replay.specs.Team.{Counts, Records};
+use crate::pairs_met::Rows;
 use crate::records::blank;
 use crate::records::team_of;
 use crate::rows::replay_rows;
@@ -59,8 +59,14 @@ pub fn bad_trace(trace: &[u8], m: usize) -> bool
 // What no row refuses: all rows of the sheet.
 fn replay_chart(s: &[u8], chart: Chart, trace: &[u8], m: usize, out: &mut [u8]) -> Team
     requires { ⌜ Accepted (now s) chart × (1 ≤ m) × (m ≤ 8) × (chart .nodes * chart .nodes ≤ length (now out)) ⌝ }
-    ensures { λ r. let R = reading (now (s .entry)) chart in ⌜ (r .answer ≡ outcomeOf R m (replayed R m (now (trace .entry)))) × (r .count ≡ m) × (r .threads ≡ tab 8 (recordOf (playOf (replayed R m (now (trace .entry))) .state))) ⌝ }
-    ensures { λ _. let R = reading (now (s .entry)) chart in let sheet = metSheet (R .nodes) (playOf (replayed R m (now (trace .entry))) .met) in ⌜ now (out .exit) ≡ sheet ++ drop (length sheet) (now (out .entry)) ⌝ }
+    ensures { λ r.
+        let R = reading (now (s .entry)) chart in
+        let end = replayed R m (now (trace .entry)) in
+        ⌜ (r .answer ≡ outcomeOf R m end) × (r .count ≡ m) × (r .threads ≡ tab 8 (recordOf (playOf end .state))) ⌝ }
+    ensures { λ _.
+        let R = reading (now (s .entry)) chart in
+        let sheet = metSheet (R .nodes) (playOf (replayed R m (now (trace .entry))) .met) in
+        ⌜ now (out .exit) ≡ sheet ++ drop (length sheet) (now (out .entry)) ⌝ }
 {
     let mut team = [0u64; TEAM];
     let rows = Rows {
@@ -76,8 +82,8 @@ fn run_chart(s: &[u8], chart: Chart, trace: &[u8], m: usize, out: &mut [u8]) -> 
     requires { ⌜ (firstOf (regionRows (now s) (chart .region)) ≡ none) × Accepted (now s) chart ⌝ }
     ensures { λ r. ⌜ r .answer ≡ replayAnswer (now (s .entry)) (chart .region) (now (trace .entry)) m (now (out .entry)) ⌝ }
     ensures { λ _. ⌜ now (out .exit) ≡ sheetLeft (now (s .entry)) (chart .region) (now (trace .entry)) m (now (out .entry)) ⌝ }
-    ensures { λ r. ⌜ r .count ≡ countBy (firstOf (replayRows (now (s .entry)) (chart .region) (now (trace .entry)) m (length (now (out .entry))))) m ⌝ }
-    ensures { λ r. ⌜ (firstOf (replayRows (now (s .entry)) (chart .region) (now (trace .entry)) m (length (now (out .entry)))) ≡ none → r .threads ≡ tab 8 (recordOf (final (now (s .entry)) (chart .region) (now (trace .entry)) m .state))) ⌝ }
+    ensures { λ r. ⌜ Counts (now (s .entry)) (chart .region) (now (trace .entry)) m (now (out .entry)) r ⌝ }
+    ensures { λ r. ⌜ Records (now (s .entry)) (chart .region) (now (trace .entry)) m (now (out .entry)) r ⌝ }
 {
     if bad_trace(trace, m) {
         return refused(Refusal::TRACE);
@@ -92,8 +98,8 @@ fn run_chart(s: &[u8], chart: Chart, trace: &[u8], m: usize, out: &mut [u8]) -> 
 pub fn run(s: &[u8], region: usize, trace: &[u8], m: usize, out: &mut [u8]) -> Team
     ensures { λ r. ⌜ r .answer ≡ replayAnswer (now (s .entry)) region (now (trace .entry)) m (now (out .entry)) ⌝ }
     ensures { λ _. ⌜ now (out .exit) ≡ sheetLeft (now (s .entry)) region (now (trace .entry)) m (now (out .entry)) ⌝ }
-    ensures { λ r. ⌜ r .count ≡ countBy (firstOf (replayRows (now (s .entry)) region (now (trace .entry)) m (length (now (out .entry))))) m ⌝ }
-    ensures { λ r. ⌜ (firstOf (replayRows (now (s .entry)) region (now (trace .entry)) m (length (now (out .entry)))) ≡ none → r .threads ≡ tab 8 (recordOf (final (now (s .entry)) region (now (trace .entry)) m .state))) ⌝ }
+    ensures { λ r. ⌜ Counts (now (s .entry)) region (now (trace .entry)) m (now (out .entry)) r ⌝ }
+    ensures { λ r. ⌜ Records (now (s .entry)) region (now (trace .entry)) m (now (out .entry)) r ⌝ }
 {
     let mut starts = [0u64; Chart::NODES];
     let mut ends = [0u64; Chart::NODES];

@@ -1,10 +1,12 @@
 // Before the first entry: every thread at start, and no pair met.
 ghost use mathlib.Core.Path.{_≡_};
-ghost use Prim.Native.Nat.{ℕ, _≤_, _<_};
+ghost use Prim.Native.Nat.{_≤_};
 ghost use lib.ListN.{length, getD};
 ghost use Rattle.chart.specs.Region.{Region};
 ghost use Rattle.theory_team.specs.State.{initial};
 ghost use Rattle.answer_steps.specs.Tables.{Tabled, Shows};
+ghost use Rattle.call_replay.specs.PairsMet.{Cleared};
+use crate::pairs_met::Rows;
 use answer_steps::tables::RegionTable;
 use answer_steps::tables::START;
 use answer_steps::tables::TEAM;
@@ -28,14 +30,14 @@ pub fn set_team(table: &RegionTable, team: &mut TeamTable)
     *team = fresh;
 }
 
-// The first bytes, set to 0.
+// The first bytes: no pair met.
 pub fn clear(out: &mut [u8], size: usize)
     requires { ⌜ size ≤ length (now out) ⌝ }
-    ensures { λ _. ⌜ (length (now (out .exit)) ≡ length (now (out .entry))) × ((j : ℕ) → j < size → getD (now (out .exit)) j 0 ≡ 0) × ((j : ℕ) → size ≤ j → getD (now (out .exit)) j 0 ≡ getD (now (out .entry)) j 0) ⌝ }
+    ensures { λ _. ⌜ Cleared size (now (out .entry)) (now (out .exit)) ⌝ }
 {
     let mut i = 0;
     while i < size {
-        out[i] = 0;
+        out[i] = Rows::NOT_MET;
         i += 1;
     }
 }

@@ -23,7 +23,7 @@ use Rattle.theory_calls.specs.declared.Witnessed.the-variants.{Refused}
 use Rattle.theory_traces.specs.Call.{badTrace}
 use Rattle.theory_traces.specs.Replay.{outcomeOf, playOf, replayed}
 use Rattle.theory_traces.specs.declared.Replayed.{Replayed}
-use Rattle.call_replay.specs.Marks.{Sheet}
+use Rattle.call_replay.specs.PairsMet.{Sheet}
 
 module _ (R : Region) (m : ℕ) (trace : List ℕ) (a b : ℕ) {r : Replayed} (said : r ≡ outcomeOf R m (replayed R m trace)) where
   -- a run that has ended: the row of a tells

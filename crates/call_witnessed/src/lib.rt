@@ -10,7 +10,7 @@ ghost use Rattle.theory_calls.specs.Witness.{isWitness, answeredBy, witnessed a
 ghost use Rattle.theory_traces.specs.Call.{badTrace};
 use answer_pairs::numbers::bad_node;
 use answer_steps::tables::TEAM;
-use call_replay::marks::Rows;
+use call_replay::pairs_met::Rows;
 use call_replay::rows::replay_rows;
 use call_replay::run::bad_trace;
 use chart::format::Chart;
@@ -29,7 +29,7 @@ fn is_witness(s: &[u8], chart: Chart, size: usize, trace: &[u8], a: usize, b: us
     let mut row = [0u8; Chart::NODES];
     let rows = Rows { first: a, count: 1 };
     match replay_rows(s, chart, trace, size, rows, &mut team, &mut row) {
-        Replayed::Finished => row[b] == 1,
+        Replayed::Finished => row[b] == Rows::MET,
         Replayed::Unfinished => false,
         Replayed::Forbidden(_) => false,
         Replayed::Refused(_) => false,

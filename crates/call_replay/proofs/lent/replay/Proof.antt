@@ -54,7 +54,8 @@ use Rattle.call_replay.proofs.run.run.Symbol as run-def
 use Rattle.call_replay.proofs.run.run.Symbol.{name as #run}
 use Rattle.call_replay.proofs.run.run.Met as run-thm
 use Rattle.call_replay.specs.Stored.{stored}
-use Rattle.call_replay.proofs.Left.{Answers, Marks, Counts, Records, Ran, Left, count-small, ran-left}
+use Rattle.call_replay.specs.Team.{Counts, Records}
+use Rattle.call_replay.proofs.Left.{Answers, Marks, Ran, Left, count-small, ran-left}
 use Rattle.call_replay.proofs.lent.answer_of as answer-of
 use Rattle.call_replay.proofs.lent.answer_of.Symbol as answer-def
 use Rattle.call_replay.proofs.lent.answer_of.Symbol.{name as #answer-of}

@@ -10,7 +10,7 @@ use Rattle.chart.specs.Region.{Region}
 use Rattle.theory_traces.specs.Replay.{Play, begun, going, progress, outcomeOf, playOf}
 use Rattle.theory_traces.specs.ReplayLaws.{goes-on, halts, stays}
 use Rattle.answer_steps.specs.Tables.{Tabled}
-use Rattle.call_replay.specs.Marks.{Kept}
+use Rattle.call_replay.specs.PairsMet.{Kept}
 use Rattle.call_replay.specs.Playing.{Playing, Few}
 use Rattle.call_replay.proofs.Sheets.{kept-same, kept-then}
 use Rattle.call_replay.proofs.Choices.{after-none, after-some, fed-at}

@@ -12,7 +12,7 @@ use Rattle.chart.proofs.Records.{nodes-length}
 use Rattle.theory_team.specs.State.{initial}
 use Rattle.theory_traces.specs.Replay.{begun}
 use Rattle.answer_steps.specs.Tables.{Tabled, Shows}
-use Rattle.call_replay.specs.Marks.{Kept}
+use Rattle.call_replay.specs.PairsMet.{Kept}
 use Rattle.call_replay.proofs.Sheets.{sheet-size, kept-size, kept-then}
 use Rattle.call_replay.specs.Playing.{Playing}
 use Rattle.call_replay.proofs.Begun.{sheet-blank, playing-begun, kept-cleared}

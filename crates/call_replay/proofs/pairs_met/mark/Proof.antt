@@ -1,10 +1,10 @@
--- `call_replay::marks::mark` meets its contract.
+-- `call_replay::pairs_met::mark` meets its contract.
 -- Assumes nothing.
 use mathlib.Core.Path.{refl}
 use lib.ListN.{length-set}
 use Rattle.call_replay.proofs.Sheets.{line-off, line-marked}
-use Rattle.call_replay.proofs.marks.mark.Statement.{statement}
-use Rattle.call_replay.proofs.marks.mark.Tie as tie
+use Rattle.call_replay.proofs.pairs_met.mark.Statement.{statement}
+use Rattle.call_replay.proofs.pairs_met.mark.Tie as tie
 
 slice-write-row : tie.Need-slice-write-row
 slice-write-row c = c .if1 .taken

@@ -1,4 +1,4 @@
--- `call_replay::marks::mark_row` meets its contract. The loop's invariant: what the threads passed meet is marked.
+-- `call_replay::pairs_met::mark_row` meets its contract. The loop's invariant: what the threads passed meet is marked.
 -- Assumes nothing.
 use mathlib.Core.Path.{_≡_, refl, _∙_}
 use mathlib.Core.Bool.{Bool, _&&_, _||_, not}
@@ -9,10 +9,10 @@ use lib.ListN.{length}
 use Rattle.lists.specs.Range.{any}
 use Rattle.theory_team.specs.State.{State}
 use Rattle.answer_steps.specs.Tables.{Shows}
-use Rattle.call_replay.specs.Marks.{Line}
+use Rattle.call_replay.specs.PairsMet.{Line}
 use Rattle.call_replay.proofs.Sheets.{line-same, met-none, met-more}
-use Rattle.call_replay.proofs.marks.mark_row.Statement.{statement}
-use Rattle.call_replay.proofs.marks.mark_row.Tie as tie
+use Rattle.call_replay.proofs.pairs_met.mark_row.Statement.{statement}
+use Rattle.call_replay.proofs.pairs_met.mark_row.Tie as tie
 
 abbrev Inv-loop : tie.InvT-loop
 Inv-loop team m t row₀ k₀ row k =

@@ -1,10 +1,10 @@
--- `call_replay::marks::mark_pair` meets its contract.
+-- `call_replay::pairs_met::mark_pair` meets its contract.
 -- Assumes nothing.
 use mathlib.Core.Path.{refl, _∙_}
 use borrow.Author.Needs.{needs}
 use Rattle.call_replay.proofs.Sheets.{line-same, pair-met, pair-one}
-use Rattle.call_replay.proofs.marks.mark_pair.Statement.{statement}
-use Rattle.call_replay.proofs.marks.mark_pair.Tie as tie
+use Rattle.call_replay.proofs.pairs_met.mark_pair.Statement.{statement}
+use Rattle.call_replay.proofs.pairs_met.mark_pair.Tie as tie
 
 node-of-requires : tie.Need-node-of-requires
 node-of-requires c κs = c .before .before .before .pre

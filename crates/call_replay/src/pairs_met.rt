@@ -4,11 +4,10 @@ ghost use mathlib.Core.Bool.{Bool, _&&_, _||_, not};
 ghost use Prim.Native.Nat.{ℕ, _*_, _≤_, _<_};
 ghost use lib.Dec.{eqb};
 ghost use lib.ListN.{length};
-ghost use Rattle.lists.specs.Range.{any};
 ghost use Rattle.theory_team.specs.State.{State};
 ghost use Rattle.theory_traces.specs.Replay.{together};
 ghost use Rattle.answer_steps.specs.Tables.{Shows};
-ghost use Rattle.call_replay.specs.Marks.{Line, Sheet, Kept};
+ghost use Rattle.call_replay.specs.PairsMet.{besides, meets, Line, Sheet, Kept};
 use answer_steps::tables::TeamTable;
 use answer_steps::tables::node_of;
 
@@ -18,13 +17,20 @@ pub struct Rows {
     pub count: usize,
 }
 
+impl Rows {
+    // The byte of a pair that is not met, and of one that is.
+    pub const NOT_MET: u8 = 0;
+
+    pub const MET: u8 = 1;
+}
+
 // Node b is met, by the node whose row it is. A number that is no node has no entry.
 fn mark(row: &mut [u8], b: usize)
     ensures { λ _. ⌜ ((met : ℕ → Bool) → Line met (now (row .entry)) → Line (λ y. met y || eqb b y) (now (row .exit))) ⌝ }
     ensures { λ _. ⌜ length (now (row .exit)) ≡ length (now (row .entry)) ⌝ }
 {
     if b < row.len() {
-        row[b] = 1;
+        row[b] = Rows::MET;
     }
 }
 
@@ -42,7 +48,7 @@ fn mark_pair(team: &TeamTable, t: usize, k: usize, row: &mut [u8])
 // All threads but t are met.
 fn mark_row(team: &TeamTable, m: usize, t: usize, row: &mut [u8])
     requires { ⌜ (length (now team) ≡ 785) × (m ≤ 8) ⌝ }
-    ensures { λ _. ⌜ ((σ : State) (met : ℕ → Bool) → Shows σ (now (team .entry)) → Line met (now (row .entry)) → Line (λ y. met y || any m (λ k. not (eqb t k) && eqb (σ .node k) y)) (now (row .exit))) ⌝ }
+    ensures { λ _. ⌜ ((σ : State) (met : ℕ → Bool) → Shows σ (now (team .entry)) → Line met (now (row .entry)) → Line (λ y. met y || besides m σ t y) (now (row .exit))) ⌝ }
     ensures { λ _. ⌜ length (now (row .exit)) ≡ length (now (row .entry)) ⌝ }
 {
     let mut k = 0;
@@ -55,7 +61,7 @@ fn mark_row(team: &TeamTable, m: usize, t: usize, row: &mut [u8])
 // Whom thread t meets, if the row of its node is kept.
 fn mark_thread(team: &TeamTable, m: usize, n: usize, rows: Rows, t: usize, out: &mut [u8])
     requires { ⌜ (length (now team) ≡ 785) × (m ≤ 8) × (rows .count * n ≤ length (now out)) × (t < 8) ⌝ }
-    ensures { λ _. ⌜ ((σ : State) (met : ℕ → ℕ → Bool) → Shows σ (now (team .entry)) → Sheet n rows met (now (out .entry)) → Sheet n rows (λ a b. met a b || any m (λ k. not (eqb t k) && (eqb (σ .node t) a && eqb (σ .node k) b))) (now (out .exit))) ⌝ }
+    ensures { λ _. ⌜ ((σ : State) (met : ℕ → ℕ → Bool) → Shows σ (now (team .entry)) → Sheet n rows met (now (out .entry)) → Sheet n rows (λ a b. met a b || meets m σ t a b) (now (out .exit))) ⌝ }
     ensures { λ _. ⌜ Kept (rows .count * n) (now (out .entry)) (now (out .exit)) ⌝ }
 {
     let a = node_of(team, t);

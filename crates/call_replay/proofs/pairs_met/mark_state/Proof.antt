@@ -1,4 +1,4 @@
--- `call_replay::marks::mark_state` meets its contract. The loop's invariant: what the threads passed meet is marked.
+-- `call_replay::pairs_met::mark_state` meets its contract. The loop's invariant: what the threads passed meet is marked.
 -- Assumes nothing.
 use mathlib.Core.Path.{_≡_}
 use mathlib.Core.Bool.{Bool, _&&_, _||_, not}
@@ -9,10 +9,10 @@ use Rattle.lists.specs.Range.{any}
 use Rattle.theory_team.specs.State.{State}
 use Rattle.theory_traces.specs.Replay.{together}
 use Rattle.answer_steps.specs.Tables.{Shows}
-use Rattle.call_replay.specs.Marks.{Sheet, Kept}
+use Rattle.call_replay.specs.PairsMet.{Sheet, Kept}
 use Rattle.call_replay.proofs.Sheets.{sheet-same, kept-same, kept-then, met-none, met-more}
-use Rattle.call_replay.proofs.marks.mark_state.Statement.{statement}
-use Rattle.call_replay.proofs.marks.mark_state.Tie as tie
+use Rattle.call_replay.proofs.pairs_met.mark_state.Statement.{statement}
+use Rattle.call_replay.proofs.pairs_met.mark_state.Tie as tie
 
 abbrev Inv-loop : tie.InvT-loop
 Inv-loop team m n rows out₀ t₀ out t =

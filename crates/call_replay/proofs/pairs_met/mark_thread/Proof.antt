@@ -1,4 +1,4 @@
--- `call_replay::marks::mark_thread` meets its contract.
+-- `call_replay::pairs_met::mark_thread` meets its contract.
 -- Assumes nothing.
 use mathlib.Core.Path.{_≡_, refl, _∙_}
 use mathlib.Core.Logic.{inl, inr}
@@ -8,8 +8,8 @@ use native.Mathlib.Omega.{arith}
 use lib.ListN.{length}
 use Rattle.call_replay.proofs.Sheets.{sheet-off, sheet-marked, sheet-thread, others, lent-line, kept-same, kept-part, row-fits}
 use borrow.Author.Needs.{needs}
-use Rattle.call_replay.proofs.marks.mark_thread.Statement.{statement}
-use Rattle.call_replay.proofs.marks.mark_thread.Tie as tie
+use Rattle.call_replay.proofs.pairs_met.mark_thread.Statement.{statement}
+use Rattle.call_replay.proofs.pairs_met.mark_thread.Tie as tie
 
 node-of-requires : tie.Need-node-of-requires
 node-of-requires c κs = (c .before .pre .0, c .before .pre .3)
