@@ -32,7 +32,11 @@ pub data After (n m : ℕ) (rows : Rows) (P : Play) : Option Play → Bool → L
 abbrev pub Ready : List ℕ → List ℕ → ℕ → ℕ → Rows → List ℕ → Type 0
 Ready table team m v rows out = (R : Region) × (P : Play) × Tabled R table × Playing (R .nodes) m rows P team out × (m ≤ 8) × (v < 256) × (rows .count * R .nodes ≤ length out)
 
--- After it: what it leads to, and the bytes past the rows as they were.
+-- What holds of every region that has the table, and of every play that team and rows show.
+abbrev pub OfPlays : ℕ → Rows → List ℕ → List ℕ → List ℕ → (Region → Play → Type 0) → Type 0
+OfPlays m rows table team out X = (R : Region) (P : Play) → Tabled R table → Playing (R .nodes) m rows P team out → X R P
+
+-- After an entry: what it leads to, and the bytes past the rows as they were.
 abbrev pub Fed : Region → ℕ → Rows → Play → Option Play → Bool → List ℕ → List ℕ → List ℕ → Type 0
 Fed R m rows P next done team old new = After (R .nodes) m rows P next done team new × Kept (rows .count * R .nodes) old new
 

@@ -8,9 +8,9 @@ ghost use Rattle.lists.specs.Range.{every};
 ghost use Rattle.chart.specs.Region.{Region};
 ghost use Rattle.theory_team.specs.State.{State, released};
 ghost use Rattle.theory_traces.specs.Decide.{allowed};
-ghost use Rattle.theory_traces.specs.Replay.{Play, gathered as isGathered, choose as chosenBy, feed as fedBy, atFinish};
+ghost use Rattle.theory_traces.specs.Replay.{gathered as isGathered, choose as chosenBy, feed as fedBy, atFinish};
 ghost use Rattle.answer_steps.specs.Tables.{Tabled, Shows};
-ghost use Rattle.call_replay.specs.Playing.{Playing, Ready, Fed};
+ghost use Rattle.call_replay.specs.Playing.{Ready, OfPlays, Fed};
 use crate::pairs_met::Rows;
 use crate::pairs_met::mark_state;
 use answer_steps::decide::decide;
@@ -107,7 +107,7 @@ fn choose(
     out: &mut [u8],
 ) -> bool
     requires { ⌜ Ready (now table) (now team) m v rows (now out) ⌝ }
-    ensures { λ r. ⌜ ((R : Region) (P : Play) → Tabled R (now (table .entry)) → Playing (R .nodes) m rows P (now (team .entry)) (now (out .entry)) → Fed R m rows P (chosenBy R m P t v) r (now (team .exit)) (now (out .entry)) (now (out .exit))) ⌝ }
+    ensures { λ r. ⌜ OfPlays m rows (now (table .entry)) (now (team .entry)) (now (out .entry)) (λ R P. Fed R m rows P (chosenBy R m P t v) r (now (team .exit)) (now (out .entry)) (now (out .exit))) ⌝ }
 {
     let pending = team[PENDING] as usize;
     if t != pending {
@@ -151,7 +151,7 @@ fn step(
 ) -> bool
     requires { ⌜ Ready (now table) (now team) m v rows (now out) ⌝ }
     requires { ⌜ ((t c : ℕ) → t < 8 → c < 48 → getD (now team) (97 * t + 1 + c) 0 + 1 < 18446744073709551616) ⌝ }
-    ensures { λ r. ⌜ ((R : Region) (P : Play) → Tabled R (now (table .entry)) → Playing (R .nodes) m rows P (now (team .entry)) (now (out .entry)) → isGathered R m (P .state) ≡ false → Fed R m rows P (fedBy R m P t v) r (now (team .exit)) (now (out .entry)) (now (out .exit))) ⌝ }
+    ensures { λ r. ⌜ OfPlays m rows (now (table .entry)) (now (team .entry)) (now (out .entry)) (λ R P. isGathered R m (P .state) ≡ false → Fed R m rows P (fedBy R m P t v) r (now (team .exit)) (now (out .entry)) (now (out .exit))) ⌝ }
 {
     let effect = decide(table, team, m, t, v);
     if !is_allowed(effect) {
@@ -175,7 +175,7 @@ pub fn feed(
 ) -> bool
     requires { ⌜ Ready (now table) (now team) m v rows (now out) ⌝ }
     requires { ⌜ ((t c : ℕ) → t < 8 → c < 48 → getD (now team) (97 * t + 1 + c) 0 + 1 < 18446744073709551616) ⌝ }
-    ensures { λ r. ⌜ ((R : Region) (P : Play) → Tabled R (now (table .entry)) → Playing (R .nodes) m rows P (now (team .entry)) (now (out .entry)) → Fed R m rows P (fedBy R m P t v) r (now (team .exit)) (now (out .entry)) (now (out .exit))) ⌝ }
+    ensures { λ r. ⌜ OfPlays m rows (now (table .entry)) (now (team .entry)) (now (out .entry)) (λ R P. Fed R m rows P (fedBy R m P t v) r (now (team .exit)) (now (out .entry)) (now (out .exit))) ⌝ }
 {
     if gathered(table, team, m) {
         return choose(table, team, m, t, v, rows, out);
