@@ -2,18 +2,19 @@
 // for each list's number, as Judge gives it, and one with the bytes of the part from the first false claim on.
 mod lines;
 
-ghost use Prim.Native.Nat.{_≤_, _<_};
-ghost use lib.ListN.{length};
 use call_judge::two::judge_two;
 use chart::cursor::wide;
 use chart::format::Chart;
-use program_io::framing::Framed;
-use program_io::framing::list_at;
-use program_io::framing::too_long;
-use program_io::framing::too_short;
+use program_io::input::Part;
+use program_io::input::list_at;
+use program_io::input::too_long;
+use program_io::input::too_short;
+
+// Bytes in front of the lists: the region.
+const FRONT: usize = 1;
 
 // The longest input: both lists and the chart as long as they can be.
-const MOST: usize = 1 + 2 * (Framed::LENGTH + Framed::MOST) + Chart::MOST_BYTES;
+const MOST: usize = FRONT + 2 * (Part::LENGTH + Part::MOST) + Chart::MOST_BYTES;
 
 fn print_judged<'a>(s: &[u8], region: usize, x: &'a [u8], y: &'a [u8]) {
     let mut first = 0i64;
@@ -24,24 +25,27 @@ fn print_judged<'a>(s: &[u8], region: usize, x: &'a [u8], y: &'a [u8]) {
     lines::bytes(b"part", part);
 }
 
-// What the program prints where the first list stands at these places.
-fn print_after(input: &[u8], start: usize, end: usize)
-    requires { ⌜ (0 < length (now input)) × (start ≤ end) × (end ≤ length (now input)) ⌝ }
-{
-    match list_at(input, end) {
-        Framed::Short => too_short(),
-        Framed::Bytes(from, to) => {
-            let region = wide(input[0]);
-            print_judged(&input[to..], region, &input[start..end], &input[from..to])
-        }
-    }
-}
-
 fn print(input: &[u8]) {
-    match list_at(input, 1) {
-        Framed::Short => too_short(),
-        Framed::Bytes(start, end) => print_after(input, start, end),
+    if input.len() < FRONT {
+        too_short();
+        return;
     }
+    let first = list_at(input, FRONT);
+    if !first.whole {
+        too_short();
+        return;
+    }
+    let start = first.start;
+    let end = first.end;
+    let second = list_at(input, end);
+    if !second.whole {
+        too_short();
+        return;
+    }
+    let from = second.start;
+    let to = second.end;
+    let region = wide(input[0]);
+    print_judged(&input[to..], region, &input[start..end], &input[from..to]);
 }
 
 fn main() {

@@ -2,7 +2,7 @@
 use call_listing::drawing::listing;
 use chart::format::Chart;
 use output::Written;
-use program_io::framing::too_long;
+use program_io::input::too_long;
 use program_io::printing::print;
 use program_io::printing::print_refusal;
 

@@ -1,1 +1,1 @@
-pub mod Framed
+pub mod Part

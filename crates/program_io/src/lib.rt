@@ -1,4 +1,4 @@
 // What the programs read and print.
-pub mod framing;
-mod lines;
+pub mod input;
+pub mod lines;
 pub mod printing;

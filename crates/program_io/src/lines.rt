@@ -1,12 +1,23 @@
 // The lines that the program prints, from what Admit answers and Phases and Sheet write.
 ghost use Prim.Native.Nat.{_+_, _≤_, _<_};
 use chart::cursor::wide;
+use chart::format::Chart;
+use output::Written;
 use theory_answers::Answer;
 use theory_calls::Counts;
 
-fn number(word: &[u8], n: u64) {
+// The most bytes that Phases writes, and that a sheet has.
+pub const PHASES: usize = Written::PHASES_NODE * Chart::NODES;
+
+pub const SHEET: usize = Chart::NODES * Chart::NODES;
+
+pub fn number(word: &[u8], n: u64) {
     io::write_all(1, word);
     io::print_decimal(1, n);
+}
+
+pub fn end_line() {
+    io::write_all(1, b"\n");
 }
 
 pub fn counts(counts: Counts) {
@@ -17,11 +28,11 @@ pub fn counts(counts: Counts) {
 }
 
 // The mask of the eight bytes that begin at `at`, little-endian.
-fn mask_at(masks: &[u8; 3072], at: usize) -> u64
+fn mask_at(masks: &[u8; PHASES], at: usize) -> u64
     requires { ⌜ at + 8 ≤ 3072 ⌝ }
 {
     let mut mask = 0;
-    let mut k = 8;
+    let mut k = Written::MASK;
     while 0 < k {
         k -= 1;
         mask = (mask << 8) | wide(masks[at + k]) as u64;
@@ -29,17 +40,20 @@ fn mask_at(masks: &[u8; 3072], at: usize) -> u64
     mask
 }
 
-fn node(masks: &[u8; 3072], x: usize)
+fn node(masks: &[u8; PHASES], x: usize)
     requires { ⌜ x < 192 ⌝ }
 {
     number(b"node ", x as u64);
-    number(b" starts ", mask_at(masks, 16 * x));
-    number(b" ends ", mask_at(masks, 16 * x + 8));
-    io::write_all(1, b"\n");
+    number(b" starts ", mask_at(masks, Written::PHASES_NODE * x));
+    number(
+        b" ends ",
+        mask_at(masks, Written::PHASES_NODE * x + Written::MASK),
+    );
+    end_line();
 }
 
 // A line for each of the n nodes that is no barrier.
-pub fn nodes(masks: &[u8; 3072], answers: &[u8; 36864], n: usize)
+pub fn nodes(masks: &[u8; PHASES], answers: &[u8; SHEET], n: usize)
     requires { ⌜ n ≤ 192 ⌝ }
 {
     let mut x = 0;
@@ -55,11 +69,11 @@ fn pair(a: usize, b: usize, answer: u8) {
     number(b"pair ", a as u64);
     number(b" ", b as u64);
     number(b" ", wide(answer) as u64);
-    io::write_all(1, b"\n");
+    end_line();
 }
 
 // A line for each pair of a and a node from a on, neither of which is a barrier.
-fn pairs_of(answers: &[u8; 36864], n: usize, a: usize)
+fn pairs_of(answers: &[u8; SHEET], n: usize, a: usize)
     requires { ⌜ (n ≤ 192) × (a < n) ⌝ }
 {
     let mut b = a;
@@ -73,7 +87,7 @@ fn pairs_of(answers: &[u8; 36864], n: usize, a: usize)
 }
 
 // A line for each pair of the n nodes.
-pub fn pairs(answers: &[u8; 36864], n: usize)
+pub fn pairs(answers: &[u8; SHEET], n: usize)
     requires { ⌜ n ≤ 192 ⌝ }
 {
     let mut a = 0;

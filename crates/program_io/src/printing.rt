@@ -14,17 +14,16 @@ use theory_calls::Admission;
 use theory_calls::Counts;
 
 pub fn print_refusal(refusal: Refusal) {
-    io::write_all(1, b"refused ");
-    io::print_decimal(1, wide(refusal.number) as u64);
-    io::write_all(1, b"\n");
+    lines::number(b"refused ", wide(refusal.number) as u64);
+    lines::end_line();
 }
 
 // The lines of an admitted chart: those of its outermost region.
 fn print_admitted(s: &[u8], counts: Counts)
     requires { ⌜ counts .nodes ≤ 192 ⌝ }
 {
-    let mut masks = [0u8; 3072];
-    let mut answers = [0u8; 36864];
+    let mut masks = [0u8; lines::PHASES];
+    let mut answers = [0u8; lines::SHEET];
     phases(s, Chart::OUTERMOST, &mut masks);
     sheet(s, Chart::OUTERMOST, Size::Any, &mut answers);
     lines::counts(counts);

@@ -1,28 +1,23 @@
 // What the replay says, and the pairs met.
 ghost use Prim.Native.Nat.{_*_, _≤_, _<_};
+use call_replay::pairs_met::Rows;
 use chart::cursor::wide;
 use chart::format::Chart;
+use program_io::lines::SHEET;
+use program_io::lines::end_line;
+use program_io::lines::number;
 use theory_traces::Replayed;
-
-pub fn number(word: &[u8], n: usize) {
-    io::write_all(1, word);
-    io::print_decimal(1, n as u64);
-}
 
 fn word(said: &[u8]) {
     io::write_all(1, said);
 }
 
-pub fn end_line() {
-    io::write_all(1, b"\n");
-}
-
-pub fn answer(said: Replayed) {
+pub fn outcome(said: Replayed) {
     match said {
         Replayed::Finished => word(b"finished"),
         Replayed::Unfinished => word(b"unfinished"),
-        Replayed::Forbidden(index) => number(b"forbidden ", index),
-        Replayed::Refused(refusal) => number(b"refused ", wide(refusal.number)),
+        Replayed::Forbidden(index) => number(b"forbidden ", index as u64),
+        Replayed::Refused(refusal) => number(b"refused ", wide(refusal.number) as u64),
     }
     end_line();
 }
@@ -42,25 +37,25 @@ pub fn nodes_of(s: &[u8]) -> usize
 }
 
 fn pair(a: usize, b: usize) {
-    number(b"met ", a);
-    number(b" ", b);
+    number(b"met ", a as u64);
+    number(b" ", b as u64);
     end_line();
 }
 
 // A line for each pair of the row of a that is met, the lower node first.
-fn row(out: &[u8; 36864], n: usize, a: usize)
+fn row(out: &[u8; SHEET], n: usize, a: usize)
     requires { ⌜ (n ≤ 192) × (a < n) ⌝ }
 {
     let mut b = a;
     while b < n {
-        if out[a * n + b] == 1 {
+        if out[a * n + b] == Rows::MET {
             pair(a, b);
         }
         b += 1;
     }
 }
 
-pub fn met(out: &[u8; 36864], n: usize)
+pub fn met(out: &[u8; SHEET], n: usize)
     requires { ⌜ n ≤ 192 ⌝ }
 {
     let mut a = 0;

@@ -3,49 +3,49 @@
 mod lines;
 mod threads;
 
-ghost use Prim.Native.Nat.{_≤_, _<_};
-ghost use lib.ListN.{length};
 use call_replay::run::run;
 use chart::cursor::wide;
 use chart::format::Chart;
-use program_io::framing::Framed;
-use program_io::framing::list_at;
-use program_io::framing::too_long;
-use program_io::framing::too_short;
+use program_io::input::Part;
+use program_io::input::list_at;
+use program_io::input::too_long;
+use program_io::input::too_short;
+use program_io::lines::SHEET;
 use theory_traces::Replayed;
 
-// The longest input: trace and chart as long as they can be.
-const MOST: usize = 2 + Framed::LENGTH + Framed::MOST + Chart::MOST_BYTES;
+// Bytes in front of the trace: the region, and the size of the team.
+const FRONT: usize = 2;
 
-// A sheet for the most nodes.
-const SHEET: usize = Chart::NODES * Chart::NODES;
+// The longest input: trace and chart as long as they can be.
+const MOST: usize = FRONT + Part::LENGTH + Part::MOST + Chart::MOST_BYTES;
 
 fn print_replayed(s: &[u8], region: usize, trace: &[u8], m: usize) {
     let mut out = [0u8; SHEET];
     let team = run(s, region, trace, m, &mut out);
-    let answer = team.answer;
-    lines::answer(answer);
-    if let Replayed::Refused(_) = answer {
+    let said = team.answer;
+    lines::outcome(said);
+    if let Replayed::Refused(_) = said {
         return;
     }
     threads::all(team);
     lines::met(&out, lines::nodes_of(s));
 }
 
-// What the program prints where the trace stands at these places.
-fn print_after(input: &[u8], start: usize, end: usize)
-    requires { ⌜ (2 ≤ length (now input)) × (start ≤ end) × (end ≤ length (now input)) ⌝ }
-{
+fn print(input: &[u8]) {
+    if input.len() < FRONT {
+        too_short();
+        return;
+    }
+    let trace = list_at(input, FRONT);
+    if !trace.whole {
+        too_short();
+        return;
+    }
+    let start = trace.start;
+    let end = trace.end;
     let region = wide(input[0]);
     let m = wide(input[1]);
     print_replayed(&input[end..], region, &input[start..end], m);
-}
-
-fn print(input: &[u8]) {
-    match list_at(input, 2) {
-        Framed::Short => too_short(),
-        Framed::Bytes(start, end) => print_after(input, start, end),
-    }
 }
 
 fn main() {

@@ -1,11 +1,11 @@
 // The records of a team.
 ghost use Prim.Native.Nat.{_≤_};
-use crate::lines::end_line;
-use crate::lines::number;
 use call_replay::run::Team;
 use chart::cursor::wide;
 use chart::format::Chart;
 use masks::bits::has;
+use program_io::lines::end_line;
+use program_io::lines::number;
 use theory_traces::Thread;
 
 // Each construct whose begin the thread has left.
@@ -14,8 +14,8 @@ fn counts(counts: [u64; Chart::CONSTRUCTS]) {
     while c < Chart::CONSTRUCTS {
         let count = counts[c];
         if count != 0 {
-            number(b" construct ", c);
-            number(b" count ", count as usize);
+            number(b" construct ", c as u64);
+            number(b" count ", count);
         }
         c += 1;
     }
@@ -36,15 +36,15 @@ fn taken(all: u64) {
     let mut x = 0;
     while x < Chart::CONSTRUCTS {
         if has(all, x) {
-            number(b" taken ", x);
+            number(b" taken ", x as u64);
         }
         x += 1;
     }
 }
 
 fn thread(t: usize, thread: Thread) {
-    number(b"thread ", t);
-    number(b" node ", wide(thread.node));
+    number(b"thread ", t as u64);
+    number(b" node ", wide(thread.node) as u64);
     let left = thread.counts;
     counts(left);
     let masks = thread.taken;

@@ -3,35 +3,34 @@
 use call_edges::ask::ask;
 use chart::cursor::Cursor;
 use chart::cursor::wide;
-use chart::format::Refusal;
+use program_io::input::Part;
+use program_io::input::too_long;
+use program_io::input::too_short;
+use program_io::lines::end_line;
+use program_io::lines::number;
+use program_io::printing::print_refusal;
 use theory_edits::Asked;
 use theory_edits::Receipt;
 
-// Bytes in front of the buffer, and the longest input.
-const FRONT: usize = 4;
+// Bytes of the edge, and in front of the buffer; the longest input.
+const EDGE: usize = 2;
 
-const MOST: usize = FRONT + 65535;
+const FRONT: usize = EDGE + Part::LENGTH;
+
+const MOST: usize = FRONT + Part::MOST;
 
 fn print_receipt(receipt: Receipt) {
-    io::write_all(1, b"length ");
-    io::print_decimal(1, receipt.length as u64);
-    io::write_all(1, b" place ");
-    io::print_decimal(1, receipt.place as u64);
-    io::write_all(1, b"\n");
-}
-
-fn print_refusal(refusal: Refusal) {
-    io::write_all(1, b"refused ");
-    io::print_decimal(1, wide(refusal.number) as u64);
-    io::write_all(1, b"\n");
+    number(b"length ", receipt.length as u64);
+    number(b" place ", receipt.place as u64);
+    end_line();
 }
 
 fn print(input: &[u8]) {
     if input.len() < FRONT {
-        io::write_all(1, b"input too short\n");
+        too_short();
         return;
     }
-    let cursor = Cursor { at: 2 };
+    let cursor = Cursor { at: EDGE };
     let len = cursor.field(input, 0);
     match ask(&input[FRONT..], len, wide(input[0]), wide(input[1])) {
         Asked::Admitted(receipt) => print_receipt(receipt),
@@ -43,7 +42,7 @@ fn main() {
     let mut buffer = [0u8; MOST + 1];
     let n = io::read_full(0, &mut buffer);
     if MOST < n {
-        io::write_all(1, b"input too long\n");
+        too_long();
         return;
     }
     print(&buffer[..n]);

@@ -11,8 +11,8 @@ slice-aggregate-run c = search needs
 run-requires : tie.Need-run-requires
 run-requires c κs = search needs
 
-answer-requires : tie.Need-answer-requires
-answer-requires c κs = search needs
+outcome-requires : tie.Need-outcome-requires
+outcome-requires c κs = search needs
 
 enum-told : tie.Need-enum-told
 enum-told c = search needs
@@ -38,7 +38,7 @@ print-replayed-spec =
     (tie.spec
     slice-aggregate-run
     run-requires
-    answer-requires
+    outcome-requires
     enum-told
     returns
     all-requires
