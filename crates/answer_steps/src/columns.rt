@@ -7,6 +7,7 @@ ghost use Rattle.chart.specs.Format.{decode};
 ghost use Rattle.chart.specs.Scope.{liesAt};
 ghost use Rattle.mark_tables.specs.Tables.{Accepted};
 ghost use Rattle.answer_steps.specs.Words.{Column, roleCode, nodeWord, constructWord, Above};
+use crate::tables::BYTES;
 use crate::tables::KINDS;
 use crate::tables::ROLES;
 use crate::tables::RegionTable;
@@ -113,7 +114,7 @@ pub fn fill_nodes(
     let n = chart.nodes;
     let mut x = 0;
     while x < n {
-        table[ROLES + 256 * which + x] = node_word(s, chart, members, above, which, x);
+        table[ROLES + BYTES * which + x] = node_word(s, chart, members, above, which, x);
         x += 1;
     }
 }
@@ -161,7 +162,14 @@ pub fn fill_constructs(
     let n = chart.constructs;
     let mut c = 0;
     while c < n {
-        table[KINDS + 48 * which + c] = construct_word(s, chart, begins, ends, which, c);
+        table[KINDS + Chart::CONSTRUCTS * which + c] = construct_word(
+            s,
+            chart,
+            begins,
+            ends,
+            which,
+            c,
+        );
         c += 1;
     }
 }

@@ -8,6 +8,7 @@ ghost use Rattle.search.specs.Parts.{row};
 ghost use Rattle.mark_tables.specs.Tables.{Accepted};
 ghost use Rattle.answer_steps.specs.Words.{Beside, Marked};
 use crate::tables::RegionTable;
+use crate::tables::WORDS;
 use chart::cursor::wide;
 use chart::format::Chart;
 use mark_tables::fill::load_edges;
@@ -24,7 +25,7 @@ fn mark_edges(edges: &[[u8; Chart::EDGES]; Parts::ROWS], n: usize, table: &mut R
     while i < n {
         let from = wide(edges[Parts::FROM][i]);
         let to = wide(edges[Parts::TO][i]);
-        let at = 4 * from + to / 64;
+        let at = WORDS * from + to / 64;
         table[at] = bit(to % 64) | table[at];
         i += 1;
     }

@@ -3,7 +3,14 @@ ghost use mathlib.Core.Path.{_≡_};
 ghost use Prim.Native.Nat.{_+_, _*_, _/_, _%_, _<_};
 ghost use lib.ListN.{length, getD};
 ghost use Rattle.lists.specs.Bits.{has as hasBit};
+use chart::format::Chart;
 use masks::bits::has;
+use theory_traces::Thread;
+
+// A column of the nodes has a place for each byte; so has a mask of nodes, 64 in a word.
+pub const BYTES: usize = 256;
+
+pub const WORDS: usize = BYTES / 64;
 
 // The table of a region: columns of the nodes, with a place for each byte, then columns of the constructs, then single numbers.
 pub type RegionTable = [u64; REGION];
@@ -11,33 +18,33 @@ pub type RegionTable = [u64; REGION];
 // Four words of a node: the mask of the nodes that its edges lead to.
 pub const EDGES: usize = 0;
 // What a node is: PLAIN, BARRIER, OPENS or CLOSES.
-pub const ROLES: usize = 1024;
+pub const ROLES: usize = EDGES + WORDS * BYTES;
 // The construct that it opens or closes.
-pub const NUMBERS: usize = 1280;
+pub const NUMBERS: usize = ROLES + BYTES;
 // The mask of the constructs around it, of this region or another.
-pub const INSIDES: usize = 1536;
+pub const INSIDES: usize = NUMBERS + BYTES;
 
-pub const KINDS: usize = 1792;
+pub const KINDS: usize = INSIDES + BYTES;
 
-pub const PARENTS: usize = 1840;
+pub const PARENTS: usize = KINDS + Chart::CONSTRUCTS;
 
-pub const THREADS: usize = 1888;
+pub const THREADS: usize = PARENTS + Chart::CONSTRUCTS;
 
-pub const BEGINS: usize = 1936;
+pub const BEGINS: usize = THREADS + Chart::CONSTRUCTS;
 
-pub const ENDS: usize = 1984;
+pub const ENDS: usize = BEGINS + Chart::CONSTRUCTS;
 // The mask of the region's constructs.
-pub const MEMBERS: usize = 2032;
+pub const MEMBERS: usize = ENDS + Chart::CONSTRUCTS;
 
-pub const CONSTRUCTS: usize = 2033;
+pub const CONSTRUCTS: usize = MEMBERS + 1;
 
-pub const START: usize = 2034;
+pub const START: usize = CONSTRUCTS + 1;
 
-pub const FINISH: usize = 2035;
+pub const FINISH: usize = START + 1;
 
-pub const NODES: usize = 2036;
+pub const NODES: usize = FINISH + 1;
 
-pub const REGION: usize = 2037;
+pub const REGION: usize = NODES + 1;
 
 pub const BARRIER: usize = 1;
 
@@ -49,17 +56,17 @@ pub const CLOSES: usize = 3;
 // that is not yet whole, and how many they are.
 pub type TeamTable = [u64; TEAM];
 
-pub const THREAD: usize = 97;
-
 pub const COUNTS: usize = 1;
 
-pub const TAKEN: usize = 49;
+pub const TAKEN: usize = COUNTS + Chart::CONSTRUCTS;
 
-pub const CHOSEN: usize = 776;
+pub const THREAD: usize = TAKEN + Chart::CONSTRUCTS;
 
-pub const PENDING: usize = 784;
+pub const CHOSEN: usize = Thread::MOST * THREAD;
 
-pub const TEAM: usize = 785;
+pub const PENDING: usize = CHOSEN + Thread::MOST;
+
+pub const TEAM: usize = PENDING + 1;
 
 // A number of the region's table.
 pub fn at(table: &RegionTable, place: usize) -> usize
@@ -74,7 +81,7 @@ pub fn leads(table: &RegionTable, x: usize, y: usize) -> bool
     requires { ⌜ (length (now table) ≡ 2037) × (x < 256) × (y < 256) ⌝ }
     ensures { λ r. ⌜ r ≡ hasBit (getD (now (table .entry)) (4 * x + y / 64) 0) (y % 64) ⌝ }
 {
-    has(table[4 * x + y / 64], y % 64)
+    has(table[WORDS * x + y / 64], y % 64)
 }
 
 // The node of a thread.
