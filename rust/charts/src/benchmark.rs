@@ -1,12 +1,15 @@
 //! The charts of the benchmark, all fixed: six to be asked again and again, which are the costliest ones
-//! for each part of the work and a typical one, 64 to be asked in turn, two for locks, and four for long traces.
+//! for each part of the work and a typical one, 64 to be asked in turn, as many of both with constructs of more
+//! sorts, two for locks, and four for long traces.
 
 mod code;
 mod rings;
+mod sorts;
 mod turns;
 mod zigzag;
 
 pub use rings::rings;
+pub use sorts::{sorts, sorts_in_turn};
 pub use turns::in_turn;
 
 use crate::random::Random;

@@ -33,8 +33,8 @@ pub struct Shape {
 
 /// Without sections. The benchmark's charts are drawn from these: with another list they are others.
 pub const PLAIN_KINDS: &[u8] = &[1, 1, 1, 2, 2, 3, 3, 5, 5, 5, 5];
-// A do comes where an ordered finds none, a sections where a section does.
-const ALL_KINDS: &[u8] = &[1, 1, 1, 1, 2, 2, 2, 3, 3, 5, 5, 5, 5, 5, 5, 7, 7];
+/// A do comes where an ordered finds none, a sections where a section does.
+pub const ALL_KINDS: &[u8] = &[1, 1, 1, 1, 2, 2, 2, 3, 3, 5, 5, 5, 5, 5, 5, 7, 7];
 /// Mostly sections, with what may stand in them and beside them.
 const DEALT_KINDS: &[u8] = &[1, 2, 3, 3, 3, 5, 6, 7, 7, 7, 7, 7, 7, 7];
 /// Mostly masked constructs, with what may stand above, below and beside them.

@@ -302,6 +302,63 @@ fn charts_in_turn_are_admitted_or_refused_by_each_row() {
     assert_eq!(different.len(), 64);
 }
 
+/// Constructs of a chart that return, and those that could and do not.
+fn returns(chart: &Chart) -> [usize; 2] {
+    let returns = reference::phases::Phases::of(chart).returns;
+    let returnable = [Construct::SINGLE, Construct::DO, Construct::SECTIONS];
+    let kinds = chart.constructs.iter().map(|x| x.kind);
+    let returns = kinds
+        .zip(returns)
+        .filter(|(kind, _)| returnable.contains(kind));
+    let (back, on): (Vec<bool>, Vec<bool>) = returns.map(|x| x.1).partition(|&back| back);
+    [back.len(), on.len()]
+}
+
+#[test]
+fn charts_of_more_sorts_are_what_they_are_named_after() {
+    let sizes = [
+        (48, [0, 0]),
+        (48, [12, 12]),
+        (40, [20, 20]),
+        (48, [4, 4]),
+        (40, [0, 0]),
+        (10, [2, 1]),
+        (48, [7, 4]),
+    ];
+    for ((name, bytes), (constructs, returning)) in benchmark::sorts().into_iter().zip(sizes) {
+        let chart = decode_checked(&bytes).unwrap_or_else(|row| panic!("{name}: refused {row}"));
+        assert_eq!(chart.constructs.len(), constructs, "{name}");
+        assert_eq!(returns(&chart), returning, "{name}");
+    }
+}
+
+#[test]
+fn charts_of_more_sorts_in_turn_have_all_sorts() {
+    let bytes = benchmark::sorts_in_turn();
+    let different: std::collections::BTreeSet<&Vec<u8>> = bytes.iter().collect();
+    assert_eq!(different.len(), 64);
+    let charts: Vec<Chart> = bytes.iter().map(|x| decode_checked(x).unwrap()).collect();
+    assert!(charts
+        .iter()
+        .all(|x| (10..=48).contains(&x.constructs.len())));
+    assert!(share(&charts, |x| x.constructs.len() > 30) > 15);
+    for kind in Construct::SINGLE..=Construct::SECTION {
+        let has_kind = |x: &Chart| x.constructs.iter().any(|c| c.kind == kind);
+        assert!(share(&charts, has_kind) > 40, "kind {kind}");
+    }
+    let nested = |x: &Chart| {
+        let critical = |number: u8| {
+            x.constructs.get(usize::from(number)).map(|c| c.kind) == Some(Construct::CRITICAL)
+        };
+        x.constructs
+            .iter()
+            .any(|c| c.kind == Construct::CRITICAL && critical(c.parent))
+    };
+    assert!(share(&charts, nested) > 20);
+    assert!(share(&charts, |x| returns(x).iter().all(|&count| count > 0)) > 30);
+    assert!(share(&charts, |x| filter_pairs(x).iter().any(|(f, g)| f != g)) > 15);
+}
+
 /// FNV-1a over the bytes of some charts.
 fn digest<'a>(charts: impl IntoIterator<Item = &'a Vec<u8>>) -> u64 {
     let bytes = charts.into_iter().flatten();
@@ -315,17 +372,22 @@ fn digest<'a>(charts: impl IntoIterator<Item = &'a Vec<u8>>) -> u64 {
 fn benchmark_charts_stay_what_they_are() {
     let repeated = benchmark::all().map(|(_, chart)| chart);
     let rings = benchmark::rings().map(|(_, chart)| chart);
+    let sorts = benchmark::sorts().map(|(_, chart)| chart);
     let digests = [
         digest(&repeated),
         digest(&benchmark::in_turn()),
         digest(&rings),
+        digest(&sorts),
+        digest(&benchmark::sorts_in_turn()),
     ];
     assert_eq!(
         digests,
         [
             0x13ED_3A24_1488_B394,
             0x65CD_BCFC_5735_F67C,
-            0x8D51_155D_9878_BA93
+            0x8D51_155D_9878_BA93,
+            0x9A4C_91EA_2EC7_3392,
+            0x2C27_FEB5_D2BC_00DB
         ]
     );
 }

@@ -242,7 +242,8 @@ fn all_calls_agree() {
 fn benchmark_charts_agree() {
     let mut comparison = Comparison::new();
     let each = charts::benchmark::all().into_iter();
-    for (_, chart) in each.chain(charts::benchmark::criticals()) {
+    let each = each.chain(charts::benchmark::criticals());
+    for (_, chart) in each.chain(charts::benchmark::sorts()) {
         let nodes = comparison.admit(&chart);
         comparison.phases(&chart, calls::PHASE_BYTES * nodes);
         comparison.distances(&chart, nodes);

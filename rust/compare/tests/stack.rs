@@ -25,6 +25,7 @@ fn inner() -> Vec<u8> {
 fn calls_fit_a_small_stack() {
     let each = charts::benchmark::all().into_iter();
     let each = each.chain(charts::benchmark::criticals());
+    let each = each.chain(charts::benchmark::sorts());
     let outermost = each.map(|(name, chart)| (name, chart, Outermost));
     let others = [
         ("the longest chart", longest(), Outermost),

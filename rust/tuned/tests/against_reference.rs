@@ -162,8 +162,10 @@ fn large_charts() {
 #[test]
 fn benchmark_charts() {
     let each = benchmark::all().into_iter().chain(benchmark::criticals());
-    let each = each.map(|(_, chart)| chart);
-    for (seed, chart) in each.chain(benchmark::in_turn()).enumerate() {
+    let each = each.chain(benchmark::sorts()).map(|(_, chart)| chart);
+    let in_turn = benchmark::in_turn().into_iter();
+    let in_turn = in_turn.chain(benchmark::sorts_in_turn());
+    for (seed, chart) in each.chain(in_turn).enumerate() {
         assert_alike::<true>(&chart, seed as u64);
         assert_alike::<false>(&chart, seed as u64);
     }

@@ -1,6 +1,6 @@
 //! The charts to be asked in turn, as a build asks them: each call sees another one.
 
-use super::code;
+use super::code::{self, Style};
 use crate::damage::aimed_at;
 use crate::random::Random;
 use crate::valid::{valid, Shape, EDITION_1, PLAIN_KINDS};
@@ -61,7 +61,7 @@ fn sparse(random: &mut Random) -> ChartBuilder {
 
 fn structured(random: &mut Random) -> ChartBuilder {
     let nodes = random.between(24, 160);
-    code::chart(random, nodes)
+    code::chart(random, nodes, &Style::FIRST)
 }
 
 /// A chart of any of these kinds, damaged until the row refuses it.
