@@ -3,7 +3,7 @@
 use crate::by_node::{ByNode, FoundAhead};
 use crate::edges::{ends_of, Edge, Edges};
 use crate::nodes::Nodes;
-use crate::sweeps::{FEW, MOST};
+use crate::sweeps::MOST;
 use crate::tables::Tables;
 
 /// The fewest edges to each node, `FAR` while there is no path.
@@ -11,22 +11,27 @@ pub type Levels = [u8; 256];
 pub const FAR: u8 = 254;
 pub const AT_BARRIER: u8 = 255;
 
-/// With more falling edges than this, and so many times as many edges between nodes that are no barriers
-/// as out of barriers, a search is faster; else sweeps, which find low levels soon.
+/// With more falling edges than this, half as many as rising ones, and so many times as many edges between nodes that
+/// are no barriers as out of barriers, a search is faster; else sweeps, which find low levels soon.
 const FALLING: usize = 24;
 const FAR_OFF: usize = 4;
+
+/// Whether levels take a search.
+#[inline(always)]
+pub fn are_far(edges: &Edges) -> bool {
+    let (up, down, out) = (edges.up().len(), edges.down().len(), edges.out().len());
+    (down > FALLING) & (2 * down > up) & (up + down > FAR_OFF * out)
+}
 
 /// Fills the levels of nodes that are no barriers.
 #[inline(always)]
 pub fn fill(t: &Tables, nodes: &Nodes, edges: &Edges, levels: &mut Levels) {
-    let (up, down, out) = (edges.up(), edges.down(), edges.out());
-    if down.len() > FALLING && up.len() + down.len() > FAR_OFF * out.len() {
+    if are_far(edges) {
         search(t, nodes, levels);
         return;
     }
-    for &edge in out {
-        levels[usize::from(ends_of(edge).1)] = 1;
-    }
+    let (up, down) = (edges.up(), edges.down());
+    sow(edges.out(), levels);
     sweep(up, levels);
     let mut met = 0;
     while sweep(down, levels) && sweep(up, levels) {
@@ -39,29 +44,24 @@ pub fn fill(t: &Tables, nodes: &Nodes, edges: &Edges, levels: &mut Levels) {
     }
 }
 
+/// Those of nodes to which an edge leads from a barrier.
+#[inline(always)]
+pub fn sow(out: &[Edge], levels: &mut Levels) {
+    for &edge in out {
+        levels[usize::from(ends_of(edge).1)] = 1;
+    }
+}
+
 /// Sweeps a list; whether a level has changed.
 #[inline(always)]
 fn sweep(list: &[Edge], levels: &mut Levels) -> bool {
     let mut new = 0;
-    if list.len() < FEW {
-        // As with masks: the level written last stays at hand.
-        let (mut node, mut level) = (255, 0);
-        for &edge in list {
-            let (from, to) = ends_of(edge);
-            let (old, read) = (levels[usize::from(to)], levels[usize::from(from)]);
-            level = (if from == node { level } else { read } + 1).min(old);
-            node = to;
-            levels[usize::from(to)] = level;
-            new |= level ^ old;
-        }
-    } else {
-        for &edge in list {
-            let (from, to) = ends_of(edge);
-            let old = levels[usize::from(to)];
-            let level = (levels[usize::from(from)] + 1).min(old);
-            levels[usize::from(to)] = level;
-            new |= level ^ old;
-        }
+    for &edge in list {
+        let (from, to) = ends_of(edge);
+        let old = levels[usize::from(to)];
+        let level = (levels[usize::from(from)] + 1).min(old);
+        levels[usize::from(to)] = level;
+        new |= level ^ old;
     }
     new != 0
 }

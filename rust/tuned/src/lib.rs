@@ -7,9 +7,9 @@
 //! With `LEVELS` a call also works out the fewest edges on a barrier-free path from any start to every
 //! node, whether it tells them or not, as the library's marking does.
 //!
-//! A set of barriers or constructs is one word, a set of nodes three. The node table is taken apart into
-//! bytes and sets, the edges are sorted once onto lists, marking sweeps these, the sheet works on sets of
-//! nodes. Tables that a node number indexes have 256 entries, those that a construct number indexes 64,
+//! A set of barriers or constructs is one word, often of both together, a set of nodes three. The node table is taken
+//! apart into bytes and sets, the edges are sorted once onto lists, marking sweeps these, levels among the masks, the
+//! sheet works on sets of nodes. Tables that a node number indexes have 256 entries, those that a construct number indexes 64,
 //! so that no access needs a bounds check. All that a call does is inlined into it.
 
 #![forbid(unsafe_code)]
@@ -120,10 +120,11 @@ fn admitted<const RULES: bool, const LEVELS: bool, T>(
         edges: &edges,
     };
     let mut marks = Marks::new();
-    let sound = if RULES && constructs.returnable() != 0 {
-        marks.find::<true, LEVELS>(&read)
+    let asked = if RULES { read.may_return() } else { 0 };
+    let sound = if RULES && asked.count_ones() as usize + nodes.barriers > 64 {
+        marks.find_apart::<LEVELS>(&read, asked)
     } else {
-        marks.find::<false, LEVELS>(&read)
+        marks.find::<false, LEVELS>(&read, asked)
     };
     if !sound {
         return Err(10);

@@ -19,6 +19,21 @@ pub struct Read<'a> {
     pub edges: &'a Edges,
 }
 
+impl Read<'_> {
+    /// Constructs that may return and whose return takes exclusions away: none where no edge falls and no construct ends
+    /// before it begins.
+    #[inline(always)]
+    pub fn may_return(&self) -> u64 {
+        let Nodes { begin, end, .. } = self.nodes;
+        let frames = begin.iter().zip(end);
+        let back = frames.fold(0, |back, (begin, end)| back | u8::from(begin > end));
+        match self.edges.down().is_empty() && back == 0 {
+            true => 0,
+            false => self.constructs.returnable(),
+        }
+    }
+}
+
 /// The marks of an admitted chart.
 pub struct Marks {
     /// 0 for a barrier and where there is no node; never 0 for another node, and so the next.
@@ -40,28 +55,21 @@ impl Marks {
         }
     }
 
-    /// Fills the marks; false if row 10 applies. With `LEFT` also the constructs that return.
+    /// Fills the marks; false if row 10 applies. Of some constructs it is asked whether they return: their bits are in a
+    /// table of their own with `LEFT`, and else behind those of the barriers, where there must be room.
     #[inline(always)]
-    pub fn find<const LEFT: bool, const LEVELS: bool>(&mut self, read: &Read) -> bool {
+    pub fn find<const LEFT: bool, const LEVELS: bool>(&mut self, read: &Read, asked: u64) -> bool {
         let barriers = &read.nodes.barrier[..read.nodes.barriers];
         self.seed(read.edges, barriers);
         let mut left = [0u64; 256];
-        if LEFT {
-            for construct in bits(read.constructs.returnable()) {
-                left[usize::from(read.nodes.end[construct])] = 1 << construct;
-            }
+        let table = if LEFT { &mut left } else { &mut self.starts };
+        for (place, construct) in bits(asked).enumerate() {
+            let end = usize::from(read.nodes.end[construct]);
+            table[end] |= 1 << bit_of::<LEFT>(read, place);
         }
-        let measured = self.close::<LEFT, LEVELS>(read, &mut left);
-        if LEFT {
-            for construct in bits(read.constructs.returnable()) {
-                let begin = read.nodes.begin[construct];
-                self.kept &= !(left[usize::from(begin)] & 1 << construct);
-            }
-            // A section's exclusion goes with its sections construct.
-            for part in bits(read.constructs.parts) {
-                let dealt = at(read.constructs.parent[part]);
-                self.kept &= !((!self.kept >> dealt & 1) << part);
-            }
+        let measured = self.close::<LEFT, LEVELS>(read, asked != 0, &mut left);
+        if asked != 0 {
+            self.keep::<LEFT>(read, asked, &left);
         }
         if LEVELS {
             if !measured {
@@ -74,6 +82,32 @@ impl Marks {
             black_box(&self.levels);
         }
         self.all_on_paths(read)
+    }
+
+    /// Keeps the exclusions of constructs that do not return, and the bits of barriers alone.
+    #[inline(always)]
+    fn keep<const LEFT: bool>(&mut self, read: &Read, asked: u64, left: &Masks) {
+        let table = if LEFT { left } else { &self.starts };
+        for (place, construct) in bits(asked).enumerate() {
+            let begin = table[usize::from(read.nodes.begin[construct])];
+            self.kept &= !((begin >> bit_of::<LEFT>(read, place) & 1) << construct);
+        }
+        // A section's exclusion goes with its sections construct.
+        for part in bits(read.constructs.parts) {
+            let dealt = at(read.constructs.parent[part]);
+            self.kept &= !((!self.kept >> dealt & 1) << part);
+        }
+        if !LEFT {
+            let own = u64::MAX >> (64 - read.nodes.barriers);
+            let starts = &mut self.starts[..read.tables.nodes.len()];
+            starts.iter_mut().for_each(|mask| *mask &= own);
+        }
+    }
+
+    /// As `find`, where there is no room; seldom, so that it is not inlined.
+    #[inline(never)]
+    pub fn find_apart<const LEVELS: bool>(&mut self, read: &Read, asked: u64) -> bool {
+        self.find::<true, LEVELS>(read, asked)
     }
 
     /// The masks of nodes next to barriers; a barrier has its own bit as its end.
@@ -98,18 +132,13 @@ impl Marks {
     fn close<const LEFT: bool, const LEVELS: bool>(
         &mut self,
         read: &Read,
+        asked: bool,
         left: &mut Masks,
     ) -> bool {
         let edges = read.edges;
-        let two = read.nodes.barriers == 2 && edges.up().len() >= FEW;
-        let closed = if edges.up().len() < FEW {
-            let mut swept = Swept {
-                starts: &mut self.starts,
-                left,
-                ends: &mut self.ends,
-            };
-            swept.close::<LEFT>(edges)
-        } else {
+        let long = edges.up().len() >= FEW;
+        let two = long && read.nodes.barriers == 2;
+        let closed = if long {
             let n = read.tables.nodes.len();
             let marked = match two {
                 true => self.close_two::<LEVELS>(read),
@@ -118,18 +147,36 @@ impl Marks {
                         && close_long::<true, true>(edges, &mut self.ends, n, None)
                 }
             };
-            marked && (!LEFT || close_long::<false, false>(edges, left, n, None))
+            let more = if LEFT { &mut *left } else { &mut self.starts };
+            marked && (!(LEFT || two && asked) || close_long::<false, false>(edges, more, n, None))
+        } else {
+            self.close_short::<LEFT, LEVELS>(edges, left)
         };
         if !closed {
-            close_by_loops(
-                &read.tables,
-                &read.nodes.barrier[..read.nodes.barriers],
-                &mut self.starts,
-                &mut self.ends,
-                LEFT.then_some(left),
-            );
+            self.close_by_loops(read, LEFT.then_some(left));
         }
-        two
+        two || (closed && !long && !levels::are_far(edges))
+    }
+
+    /// Sweeps short lists; with `LEVELS` also the levels, unless they are far.
+    #[inline(always)]
+    fn close_short<const LEFT: bool, const LEVELS: bool>(
+        &mut self,
+        edges: &Edges,
+        left: &mut Masks,
+    ) -> bool {
+        let mut swept = Swept {
+            starts: &mut self.starts,
+            left,
+            levels: &mut self.levels,
+            ends: &mut self.ends,
+        };
+        if LEVELS && !levels::are_far(edges) {
+            levels::sow(edges.out(), swept.levels);
+            swept.close::<LEFT, true>(edges)
+        } else {
+            swept.close::<LEFT, false>(edges)
+        }
     }
 
     /// With two barriers, all nodes have the one start and the one end, or row 10 applies: no sweep is
@@ -147,7 +194,7 @@ impl Marks {
         let started = if LEVELS {
             levels::search(&read.tables, read.nodes, levels);
             for (mask, &level) in starts[..count].iter_mut().zip(&levels[..count]) {
-                *mask = u64::from(level < FAR);
+                *mask |= u64::from(level < FAR);
             }
             true
         } else {
@@ -158,6 +205,19 @@ impl Marks {
         let ended = started && close_long::<true, true>(read.edges, ends, count, Some(2));
         (ends[0], ends[last]) = (1, 2);
         ended
+    }
+
+    /// Closes masks that sweeps have not closed.
+    #[cold]
+    #[inline(never)]
+    fn close_by_loops(&mut self, read: &Read, left: Option<&mut Masks>) {
+        let barriers = &read.nodes.barrier[..read.nodes.barriers];
+        let loops = Loops::of(&read.tables, barriers);
+        loops.close::<false>(&mut self.starts);
+        loops.close::<true>(&mut self.ends);
+        if let Some(left) = left {
+            loops.close::<false>(left);
+        }
     }
 
     /// Row 10: each node has a start and an end, and each barrier is on a path from the first barrier to
@@ -196,6 +256,13 @@ impl Marks {
     }
 }
 
+/// The bit of a construct whose return is asked, by its place among them.
+#[inline(always)]
+fn bit_of<const LEFT: bool>(read: &Read, place: usize) -> usize {
+    let first = if LEFT { 0 } else { read.nodes.barriers };
+    (first + place) & 63
+}
+
 /// Whether each barrier is reached from the first and reaches the last.
 #[inline(always)]
 fn all_joined(next: &[u64; 64], count: usize) -> bool {
@@ -216,23 +283,5 @@ fn all_joined(next: &[u64; 64], count: usize) -> bool {
         if before == (from, to) {
             return false;
         }
-    }
-}
-
-/// Closes masks that sweeps have not closed.
-#[cold]
-#[inline(never)]
-fn close_by_loops(
-    tables: &Tables,
-    barriers: &[u8],
-    starts: &mut Masks,
-    ends: &mut Masks,
-    left: Option<&mut Masks>,
-) {
-    let loops = Loops::of(tables, barriers);
-    loops.close::<false>(starts);
-    loops.close::<true>(ends);
-    if let Some(left) = left {
-        loops.close::<false>(left);
     }
 }

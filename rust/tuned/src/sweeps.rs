@@ -4,6 +4,7 @@
 
 use crate::bits::Masks;
 use crate::edges::{ends_of, Edge, Edges};
+use crate::levels::Levels;
 
 /// Sweeps are given up when they have met about so many edges, each as often as it was swept.
 pub const MOST: usize = 8_192;
@@ -41,39 +42,73 @@ impl Last {
     }
 }
 
-/// The masks that are swept: starts and, where they are asked for, the constructs left behind go along
-/// the edges, ends against them.
+/// The same of levels: the fewest edges of a path.
+struct LastLevel {
+    node: u8,
+    level: u8,
+    new: u8,
+}
+
+impl LastLevel {
+    #[inline(always)]
+    fn new() -> LastLevel {
+        LastLevel {
+            node: 255,
+            level: 0,
+            new: 0,
+        }
+    }
+
+    #[inline(always)]
+    fn carry(&mut self, levels: &mut Levels, from: u8, to: u8) {
+        let old = levels[usize::from(to)];
+        let read = levels[usize::from(from)];
+        let own = if from == self.node { self.level } else { read };
+        self.level = (own + 1).min(old);
+        self.node = to;
+        levels[usize::from(to)] = self.level;
+        self.new |= self.level ^ old;
+    }
+}
+
+/// What is swept: starts, the constructs left behind and levels, where they are asked for, go along the edges, ends
+/// against them.
 pub struct Swept<'a> {
     pub starts: &'a mut Masks,
     pub left: &'a mut Masks,
+    pub levels: &'a mut Levels,
     pub ends: &'a mut Masks,
 }
 
 impl Swept<'_> {
     /// Sweeps a short list in both directions at once, so that neither waits for the other's memory;
-    /// whether a mask has changed.
+    /// whether anything has changed.
     #[inline(always)]
-    fn sweep<const LEFT: bool>(&mut self, list: &[Edge]) -> bool {
+    fn sweep<const LEFT: bool, const LEVELS: bool>(&mut self, list: &[Edge]) -> bool {
         let (mut starts, mut left, mut ends) = (Last::new(), Last::new(), Last::new());
+        let mut levels = LastLevel::new();
         for (&ahead, &behind) in list.iter().zip(list.iter().rev()) {
             let ((a, b), (p, q)) = (ends_of(ahead), ends_of(behind));
             starts.carry(self.starts, a, b);
             if LEFT {
                 left.carry(self.left, a, b);
             }
+            if LEVELS {
+                levels.carry(self.levels, a, b);
+            }
             ends.carry(self.ends, q, p);
         }
-        starts.new | left.new | ends.new != 0
+        (starts.new | left.new | ends.new) != 0 || levels.new != 0
     }
 
     /// Sweeps short lists until a sweep changes nothing, or gives up; one sweep along rising edges closes
-    /// them. Whether all masks are closed.
+    /// them. Whether all is closed.
     #[inline(always)]
-    pub fn close<const LEFT: bool>(&mut self, edges: &Edges) -> bool {
+    pub fn close<const LEFT: bool, const LEVELS: bool>(&mut self, edges: &Edges) -> bool {
         let (up, down) = (edges.up(), edges.down());
-        self.sweep::<LEFT>(up);
+        self.sweep::<LEFT, LEVELS>(up);
         let mut met = 0;
-        while self.sweep::<LEFT>(down) && self.sweep::<LEFT>(up) {
+        while self.sweep::<LEFT, LEVELS>(down) && self.sweep::<LEFT, LEVELS>(up) {
             met += up.len() + down.len();
             if met > MOST {
                 return false;

@@ -5,6 +5,8 @@
 use charts::races::{accesses, wrong_accesses};
 use charts::random::Random;
 use charts::{benchmark, draw};
+use reference::builder::ChartBuilder;
+use reference::chart::Construct;
 use reference::known::*;
 use reference::refusals::decode_checked;
 use reference::regions::{outermost, read_outermost};
@@ -166,6 +168,48 @@ fn benchmark_charts() {
     let in_turn = benchmark::in_turn().into_iter();
     let in_turn = in_turn.chain(benchmark::sorts_in_turn());
     for (seed, chart) in each.chain(in_turn).enumerate() {
+        assert_alike::<true>(&chart, seed as u64);
+        assert_alike::<false>(&chart, seed as u64);
+    }
+}
+
+/// A path of so many nodes on which rising and falling edges alternate, with a single that returns at its begin, and
+/// further rising edges that lead back on it: sweeps of short lists are given up, with levels among them or without.
+fn slow(nodes: usize, further: usize) -> Vec<u8> {
+    let on_path = |place: usize| match place % 2 {
+        0 => 1 + place / 2,
+        _ => nodes - place / 2,
+    };
+    let mut chart = ChartBuilder::new();
+    let single = chart.construct(Construct::SINGLE, Construct::NONE, 0);
+    chart.barrier();
+    for node in 1..=nodes {
+        match (0..3).find(|&place| on_path(place) == node) {
+            Some(0) => chart.begin(single),
+            Some(1) => chart.plain(single),
+            Some(_) => chart.end(single),
+            None => chart.plain(Construct::NONE),
+        };
+    }
+    let finish = chart.barrier();
+    (1..nodes).for_each(|place| chart.edge(on_path(place - 1), on_path(place)));
+    let back = (4..nodes).step_by(2);
+    let back = back.flat_map(|from| (3..from).step_by(2).map(move |to| (from, to)));
+    for (from, to) in back.take(further) {
+        chart.edge(on_path(from), on_path(to));
+    }
+    let last = on_path(nodes - 1);
+    chart.edge(0, on_path(0));
+    chart.edge(last, on_path(0));
+    chart.edge(last, finish);
+    chart.bytes()
+}
+
+#[test]
+fn slow_charts() {
+    for (seed, (nodes, further)) in [(188, 0), (124, 130), (124, 60)].into_iter().enumerate() {
+        let chart = slow(nodes, further);
+        assert!(calls::admit(&chart) > 0, "{nodes} nodes");
         assert_alike::<true>(&chart, seed as u64);
         assert_alike::<false>(&chart, seed as u64);
     }
