@@ -4,6 +4,7 @@ use crate::calls::Calls;
 use crate::timing::least;
 use bohrali::layout::{BYTES_ACCESS, BYTES_ENTRY, BYTES_PHASES};
 use bohrali::limits::{MOST_ACCESSES, MOST_CONSTRUCTS};
+use charts::benchmark;
 use charts::races::accesses;
 use charts::random::Random;
 use charts::traces::legal;
@@ -159,19 +160,19 @@ impl Subject {
 
     /// The charts that are asked again and again, each by itself.
     pub fn each() -> Vec<Subject> {
-        let charts = charts::benchmark::all().into_iter();
+        let charts = benchmark::all().into_iter().chain(benchmark::sorts());
         charts
             .map(|(name, chart)| Subject::new(name, [chart], MOST_ACCESSES))
             .collect()
     }
 
     /// The charts that are asked in turn.
-    pub fn in_turn() -> Subject {
-        Subject::new(
-            "64 charts in turn",
-            charts::benchmark::in_turn(),
-            FEW_ACCESSES,
-        )
+    pub fn in_turn() -> [Subject; 2] {
+        [
+            ("64 charts in turn", benchmark::in_turn()),
+            ("64 with constructs in turn", benchmark::sorts_in_turn()),
+        ]
+        .map(|(name, charts)| Subject::new(name, charts, FEW_ACCESSES))
     }
 
     /// Nanoseconds of one call on one chart by each implementation that has it; the first has all calls.

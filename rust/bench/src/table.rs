@@ -14,15 +14,16 @@ type Times<const N: usize> = [[f64; N]; Call::ALL.len()];
 /// and again, one of those that are asked in turn, and the worst ratios of each.
 pub fn print<const N: usize>(by: By<N>) {
     let (each, in_turn) = (Subject::each(), Subject::in_turn());
-    let mut times = vec![[[f64::INFINITY; N]; Call::ALL.len()]; each.len() + 1];
+    let count = each.len() + in_turn.len();
+    let mut times = vec![[[f64::INFINITY; N]; Call::ALL.len()]; count];
     for _ in 0..ROUNDS {
-        for (subject, times) in each.iter().chain([&in_turn]).zip(&mut times) {
+        for (subject, times) in each.iter().chain(&in_turn).zip(&mut times) {
             measure(subject, &by, times);
         }
     }
-    let (last, times) = times.split_last().expect("the charts in turn");
+    let (times, last) = times.split_at(each.len());
     let worst = print_table(&by, each.iter().zip(times));
-    let worst_in_turn = print_table(&by, [(&in_turn, last)]);
+    let worst_in_turn = print_table(&by, in_turn.iter().zip(last));
     for (index, (name, _)) in by.iter().enumerate().skip(1) {
         println!(
             "worst ratio to {name}: {}; in turn {}",
