@@ -6,6 +6,7 @@ pub mod before;
 pub mod calls;
 pub mod first_edges;
 pub mod locks;
+pub mod regions;
 pub mod replay;
 pub mod subject;
 pub mod table;

@@ -175,6 +175,21 @@ impl Subject {
         .map(|(name, charts)| Subject::new(name, charts, FEW_ACCESSES))
     }
 
+    /// The regions that a build asks about, each another chart.
+    pub fn regions(charts: Vec<Vec<u8>>) -> Subject {
+        Subject::new("regions", charts, FEW_ACCESSES)
+    }
+
+    /// Nanoseconds to read all bytes of one chart.
+    pub fn reading(&self) -> [f64; 1] {
+        let all = least([true], |_| {
+            let sum = |chart: &[u8]| chart.iter().map(|&byte| i64::from(byte)).sum::<i64>();
+            let charts = self.charts.iter();
+            charts.map(|asked| sum(black_box(&asked.chart))).sum()
+        });
+        all.map(|time| time / self.charts.len() as f64)
+    }
+
     /// Nanoseconds of one call on one chart by each implementation that has it; the first has all calls.
     pub fn times<const N: usize>(&self, call: Call, by: [&Calls; N]) -> [f64; N] {
         let mut out = vec![0; self.room];

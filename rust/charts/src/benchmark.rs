@@ -13,9 +13,13 @@ pub use sorts::{sorts, sorts_in_turn};
 pub use turns::in_turn;
 
 use crate::random::Random;
+use code::Style;
 use reference::builder::ChartBuilder;
 use reference::chart::{Construct, Edge};
+use std::collections::BTreeSet;
 
+/// Code that is to have so many nodes has some more.
+const MOST_OF_CODE: usize = 160;
 const NODES: usize = 192;
 const EDGES: usize = 1024;
 const NONE: u8 = Construct::NONE;
@@ -30,6 +34,21 @@ pub fn all() -> [(&'static str, Vec<u8>); 6] {
         ("48 constructs that return", returning().bytes()),
         ("zigzag of 189, 1024 edges", zigzag::chart()),
     ]
+}
+
+/// So many different charts of structured code, with about as many nodes as are given, by turns.
+pub fn source(nodes: &[usize], count: usize) -> Vec<Vec<u8>> {
+    let mut random = Random::new(1_000);
+    let mut charts = BTreeSet::new();
+    let mut sizes = nodes.iter().cycle();
+    while charts.len() < count {
+        let style = random.pick(&[Style::FIRST, Style::ALL]);
+        let nodes = sizes.next().map_or(MOST_OF_CODE, |&x| x.min(MOST_OF_CODE));
+        charts.insert(code::chart(&mut random, nodes, &style).bytes());
+    }
+    let mut charts: Vec<Vec<u8>> = charts.into_iter().collect();
+    random.shuffle(&mut charts);
+    charts
 }
 
 /// The charts with the most criticals: the locks of all are needed, and those of all can be dropped.

@@ -359,6 +359,16 @@ fn charts_of_more_sorts_in_turn_have_all_sorts() {
     assert!(share(&charts, |x| filter_pairs(x).iter().any(|(f, g)| f != g)) > 15);
 }
 
+#[test]
+fn charts_of_source_are_admitted_and_different() {
+    let charts = benchmark::source(&[5, 40, 100, 192], 400);
+    let different: std::collections::BTreeSet<&Vec<u8>> = charts.iter().collect();
+    assert_eq!(different.len(), 400);
+    let charts: Vec<Chart> = charts.iter().map(|x| decode_checked(x).unwrap()).collect();
+    assert!(share(&charts, |x| x.nodes.len() < 20) > 80);
+    assert!(share(&charts, |x| x.nodes.len() > 150) > 80);
+}
+
 /// FNV-1a over the bytes of some charts.
 fn digest<'a>(charts: impl IntoIterator<Item = &'a Vec<u8>>) -> u64 {
     let bytes = charts.into_iter().flatten();

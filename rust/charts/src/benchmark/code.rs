@@ -13,6 +13,7 @@ const DEPTH: usize = 4;
 const MOST_CONSTRUCTS: usize = 48;
 
 /// What constructs code has.
+#[derive(Clone, Copy)]
 pub struct Style {
     /// Kinds outside all other constructs, likelier ones more often.
     kinds: &'static [u8],
