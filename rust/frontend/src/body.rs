@@ -65,6 +65,7 @@ impl Draft {
             of: None,
             callee: None,
             lines: Vec::new(),
+            is_mute: false,
         };
         let mut is_library = false;
         while let Some(cell) = cells.more() {
@@ -73,6 +74,7 @@ impl Draft {
                     read.of = Some(below_limit("directive", number(directive)?, directives)?);
                 }
                 ("stop", "") => {}
+                ("mute", "") => read.is_mute = true,
                 ("library", "") => is_library = true,
                 ("callee", "*") => read.callee = Some(Callee::Pointer),
                 ("callee", symbol) => {

@@ -1,6 +1,7 @@
-//! A directory of region tables: for each region NAME.csv, and NAME.txt with its notes; program.txt for the
-//! program as a whole, with the names of all tables, so that none is missed and no old one is read.
+//! A directory of region tables: for each region NAME.csv, NAME.txt with its notes, and NAME.map with what a
+//! recorded run has for its nodes; program.txt for the program as a whole, with the names of all tables, so that none is missed and no old one is read.
 
+use crate::map::Map;
 use crate::notes::{Key, Notes};
 use crate::problem::Problem;
 use crate::regions::RegionChart;
@@ -35,31 +36,44 @@ pub fn is_directory(path: &Path) -> bool {
 
 /// Writes the tables of a program, in place of those that were written there before.
 pub fn write(path: &Path, regions: &[RegionChart], notes: &Notes) -> Result<(), Problem> {
-    let failed = |path: &Path, error: io::Error| {
-        Problem::whole(
-            &path.display().to_string(),
-            format!("cannot be written: {error}"),
-        )
-    };
-    clear(path)?;
-    fs::create_dir_all(path).map_err(|x| failed(path, x))?;
-    let put = |name: String, text: String| {
-        let file = path.join(name);
-        fs::write(&file, text).map_err(|x| failed(&file, x))
-    };
-    // First, so that what is half written is known for what it is.
-    put(PROGRAM.into(), notes.write())?;
+    // The index first, so that what is half written is known for what it is.
+    let folder = Folder::begin(path, PROGRAM, notes)?;
     for region in regions {
         if let Some(table) = &region.table {
-            put(format!("{}.csv", region.name), table.write())?;
+            folder.put(&format!("{}.csv", region.name), &table.write())?;
         }
-        put(format!("{}.txt", region.name), region.notes.write())?;
+        folder.put(&format!("{}.txt", region.name), &region.notes.write())?;
+        folder.put(&format!("{}.map", region.name), &region.map.write())?;
     }
     Ok(())
 }
 
+/// A directory that is written as a whole, with an index of what is in it.
+pub(crate) struct Folder<'a>(&'a Path);
+
+impl Folder<'_> {
+    /// In place of what was written there before with an index of this name.
+    pub fn begin<'a>(path: &'a Path, index: &str, notes: &Notes) -> Result<Folder<'a>, Problem> {
+        clear(path, index)?;
+        fs::create_dir_all(path).map_err(|x| unwritten(path, &x))?;
+        let folder = Folder(path);
+        folder.put(index, &notes.write())?;
+        Ok(folder)
+    }
+
+    pub fn put(&self, name: &str, text: &str) -> Result<(), Problem> {
+        let file = self.0.join(name);
+        fs::write(&file, text).map_err(|x| unwritten(&file, &x))
+    }
+}
+
+fn unwritten(path: &Path, error: &io::Error) -> Problem {
+    let message = format!("cannot be written: {error}");
+    Problem::whole(&path.display().to_string(), message)
+}
+
 /// Takes away what an earlier run wrote; a directory of anything else is left alone.
-fn clear(path: &Path) -> Result<(), Problem> {
+fn clear(path: &Path, index: &str) -> Result<(), Problem> {
     let name = path.display().to_string();
     let is_empty = match fs::read_dir(path) {
         Ok(mut entries) => entries.next().is_none(),
@@ -69,29 +83,39 @@ fn clear(path: &Path) -> Result<(), Problem> {
     if is_empty {
         return Ok(());
     }
-    let program = path.join(PROGRAM);
-    if !is_directory(path) {
-        let message = "holds files and no program.txt, so it is none of region tables; name one that is new or empty";
+    let index_path = path.join(index);
+    if !index_path.is_file() {
+        let message = format!("holds files and no {index}, so it is none that this command writes; name one that is new or empty");
         return Err(Problem::whole(&name, message));
     }
-    let notes = read_notes(&program)?;
-    for note in notes.of(Key::Table) {
-        for ending in ["csv", "txt"] {
-            let file = path.join(format!("{}.{ending}", safe(&program, &note.subject)?));
-            match fs::remove_file(&file) {
-                Err(error) if error.kind() != io::ErrorKind::NotFound => {
-                    let message = format!("cannot be replaced: {error}");
-                    return Err(Problem::whole(&file.display().to_string(), message));
-                }
-                _ => {}
-            }
+    let notes = read_notes(&index_path)?;
+    let kinds = [
+        (Key::Table, &["csv", "txt", "map"][..]),
+        (Key::Trace, &["trace"][..]),
+    ];
+    for (key, endings) in kinds {
+        for (note, ending) in notes
+            .of(key)
+            .flat_map(|x| endings.iter().map(move |y| (x, y)))
+        {
+            remove(&path.join(format!("{}.{ending}", safe(&index_path, &note.subject)?)))?;
         }
     }
     Ok(())
 }
 
+fn remove(file: &Path) -> Result<(), Problem> {
+    match fs::remove_file(file) {
+        Err(error) if error.kind() != io::ErrorKind::NotFound => {
+            let message = format!("cannot be replaced: {error}");
+            Err(Problem::whole(&file.display().to_string(), message))
+        }
+        _ => Ok(()),
+    }
+}
+
 /// The name of a table, which leads nowhere else.
-fn safe<'a>(program: &Path, name: &'a str) -> Result<&'a str, Problem> {
+pub(crate) fn safe<'a>(program: &Path, name: &'a str) -> Result<&'a str, Problem> {
     let is_name = !name.is_empty() && !name.starts_with('.') && !name.contains(['/', '\\']);
     let wrong = || {
         let message = format!("'{name}' is no name of a table");
@@ -100,7 +124,7 @@ fn safe<'a>(program: &Path, name: &'a str) -> Result<&'a str, Problem> {
     is_name.then_some(name).ok_or_else(wrong)
 }
 
-fn read_notes(path: &Path) -> Result<Notes, Problem> {
+pub(crate) fn read_notes(path: &Path) -> Result<Notes, Problem> {
     let name = path.display().to_string();
     let bytes = load::bytes(path, MOST_BYTES).map_err(|x| Problem::whole(&name, x))?;
     Notes::read(&name, &bytes)
@@ -132,6 +156,24 @@ impl Directory {
     pub fn all_notes(&self) -> impl Iterator<Item = &crate::notes::Note> {
         let of_regions = self.regions.iter().flat_map(|x| x.notes.iter());
         of_regions.chain(self.notes.iter())
+    }
+}
+
+impl Held {
+    /// What a recorded run has for the nodes of its chart.
+    pub(crate) fn map(&self) -> Result<Map, Problem> {
+        let path = self.table.with_extension("map");
+        let name = path.display().to_string();
+        let bytes = load::bytes(&path, MOST_BYTES).map_err(|x| Problem::whole(&name, x))?;
+        let map = Map::read(&name, &bytes)?;
+        let nodes = self.loaded.as_ref().map_or(0, |x| x.counts.nodes);
+        match map.nodes.len() == nodes {
+            true => Ok(map),
+            false => {
+                let message = "is not of the table beside it; 'bohrali regions' writes both anew";
+                Err(Problem::whole(&name, message))
+            }
+        }
     }
 }
 

@@ -165,6 +165,8 @@ pub struct FlowNode {
     pub of: Option<usize>,
     pub callee: Option<Callee>,
     pub lines: Vec<SourceLine>,
+    /// A recorded run has no entry for it.
+    pub is_mute: bool,
 }
 
 #[derive(Debug, Default)]
@@ -196,6 +198,8 @@ impl Body {
 pub struct Function {
     pub symbol: Word,
     pub is_public: bool,
+    /// By which a recorded run names it.
+    pub mark: u64,
     /// Or why the compiler's side gave it up.
     pub body: Result<Body, String>,
 }

@@ -6,6 +6,14 @@ use crate::program::Target;
 use crate::set::Set;
 use std::collections::BTreeMap;
 
+/// What a recorded run has for a node: a function's node, so many regions below the region.
+#[derive(Clone, Copy, Debug, PartialEq, Eq, PartialOrd, Ord, Hash)]
+pub(crate) struct Record {
+    pub function: usize,
+    pub node: usize,
+    pub depth: usize,
+}
+
 #[derive(Clone, Debug)]
 pub(crate) struct Node {
     pub kind: NodeKind,
@@ -18,6 +26,8 @@ pub(crate) struct Node {
     pub last: Option<SourceLine>,
     /// The lines of the calls that led here.
     pub via: Set<SourceLine>,
+    /// Empty where a recorded run has no entry for it.
+    pub records: Set<Record>,
 }
 
 #[derive(Clone, Debug, Default)]

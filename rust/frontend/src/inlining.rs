@@ -1,8 +1,8 @@
 //! The flow of a region out of the flow of its function, with calls opened where the callee's flow is
 //! known and has barriers or constructs of the team.
 
-use crate::flow::{Body, NodeKind, SourceLine};
-use crate::graph::{Graph, Node};
+use crate::flow::{Body, DirectiveKind, FlowNode, NodeKind, SourceLine};
+use crate::graph::{Graph, Node, Record};
 use crate::program::{Program, Target};
 use crate::set::Set;
 use std::collections::BTreeMap;
@@ -38,6 +38,7 @@ pub(crate) fn open(program: &Program, region: Parallel, opens_calls: bool) -> Op
     while let Some((node, stack)) = inlining.work.pop() {
         inlining.call(node, &stack, opens_calls);
     }
+    set_depths(&mut inlining.graph);
     Some(Opened {
         graph: inlining.graph,
         closed: inlining.closed,
@@ -120,6 +121,27 @@ impl Inlining<'_> {
     }
 }
 
+/// How many regions deeper than this one each node is entered at. The end of a deeper region is its own
+/// threads'.
+fn set_depths(graph: &mut Graph) {
+    let is_parallel = |x: usize| graph.directives[x].kind == DirectiveKind::Parallel;
+    let mut depths = Vec::with_capacity(graph.directives.len());
+    for (number, directive) in graph.directives.iter().enumerate() {
+        let around: usize = directive.parent.map_or(0, |x| depths[x]);
+        depths.push(around + usize::from(number != graph.region && is_parallel(number)));
+    }
+    let depth = |node: &Node| {
+        let ends = node.kind == NodeKind::Close;
+        let own = node.of.filter(|&x| ends && is_parallel(x));
+        own.or(node.within).map_or(0, |x| depths[x])
+    };
+    let found: Vec<usize> = graph.live().map(|x| depth(x.1)).collect();
+    for (node, depth) in graph.nodes.iter_mut().flatten().zip(found) {
+        let records = node.records.iter();
+        node.records = records.map(|x| Record { depth, ..x }).collect();
+    }
+}
+
 /// The routine of known flow that a node calls.
 fn known_callee(graph: &Graph, node: usize) -> Option<usize> {
     match graph.nodes[node].as_ref()?.calls.only()? {
@@ -170,6 +192,16 @@ fn own_flow(program: &Program, body: &Body, region: Parallel) -> Option<Graph> {
     Some(graph)
 }
 
+/// What a recorded run has for a node of a function.
+fn record(function: usize, number: usize, node: &FlowNode) -> Option<Record> {
+    let is_framing = matches!(node.kind, NodeKind::Entry | NodeKind::Exit);
+    (!node.is_mute && !is_framing).then_some(Record {
+        function,
+        node: number,
+        depth: 0,
+    })
+}
+
 /// Copies the nodes of a function that are kept; what lies in none of its directives lies where the call
 /// does. Returns the number of each in the graph.
 fn copy(
@@ -204,6 +236,7 @@ fn copy(
                 lines: node.lines.iter().copied().collect(),
                 last: node.lines.iter().copied().max(),
                 via: via.clone(),
+                records: record(function, number, node).into_iter().collect(),
             }),
         );
     }

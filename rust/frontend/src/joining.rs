@@ -150,5 +150,6 @@ fn absorb(graph: &mut Graph, into: usize, gone: usize) {
         node.lines.extend(&gone.lines);
         node.via.extend(&gone.via);
         node.calls.extend(&gone.calls);
+        node.records.extend(&gone.records);
     }
 }

@@ -16,6 +16,8 @@ mod flow;
 mod graph;
 mod inlining;
 mod joining;
+mod log;
+mod map;
 mod notes;
 mod problem;
 mod program;
@@ -27,6 +29,8 @@ mod shaping;
 mod statement;
 #[cfg(test)]
 mod testing;
+pub mod traces;
+mod walk;
 
 pub use ask::{ask, Asked, Finding, Verdict};
 pub use directory::{Directory, Held};

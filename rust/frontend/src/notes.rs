@@ -35,11 +35,21 @@ pub enum Key {
     Table,
     /// A function that the compiler's side gave up, and why.
     NotRead,
+    /// A trace of this directory, and the table of its region.
+    Trace,
+    /// A trace that is not all of its instance, and why.
+    Cut,
+    /// Instances of a region without a trace, and why.
+    LeftOut,
+    /// How many entries of all traces are filled in from the charts, and what they are.
+    FilledIn,
+    /// What the log as a whole lacks.
+    Log,
 }
 
 impl Key {
     /// By the words of the text, in the order in which they are written.
-    const WORDS: [(&'static str, Key); 13] = [
+    const WORDS: [(&'static str, Key); 18] = [
         ("region", Key::Region),
         ("threads", Key::Threads),
         ("no chart", Key::NoChart),
@@ -53,6 +63,11 @@ impl Key {
         ("lost to the limits", Key::LostToLimits),
         ("table", Key::Table),
         ("not read", Key::NotRead),
+        ("trace", Key::Trace),
+        ("cut", Key::Cut),
+        ("left out", Key::LeftOut),
+        ("filled in", Key::FilledIn),
+        ("log", Key::Log),
     ];
 
     pub fn word(self) -> &'static str {

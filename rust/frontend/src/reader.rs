@@ -11,6 +11,16 @@ pub(crate) const MOST_BYTES: u64 = 1 << 28;
 const HEADER: &str = "bohrali-flow";
 const VERSION: &str = "1";
 
+const FIRST_MARK: u64 = 0xcbf2_9ce4_8422_2325;
+
+/// A mark with one row more: FNV-1a, of 64 bits.
+fn marked(mark: u64, row: &str) -> u64 {
+    let bytes = row.bytes().chain([b'\n']);
+    bytes.fold(mark, |mark, x| {
+        (mark ^ u64::from(x)).wrapping_mul(0x100_0000_01b3)
+    })
+}
+
 /// Why a row is not taken.
 pub(crate) type Outcome<T> = Result<T, String>;
 
@@ -49,6 +59,8 @@ struct Reader<'a> {
     words: &'a mut Words,
     unit: Unit,
     files: Vec<Word>,
+    /// The mark of the unit's row.
+    mark: u64,
     /// The function whose rows are being read.
     open: Option<(Function, Draft)>,
     is_complete: bool,
@@ -58,6 +70,12 @@ struct Reader<'a> {
 pub(crate) struct Cells<'a>(std::str::Split<'a, char>);
 
 impl<'a> Cells<'a> {
+    /// The first cell of a row, and those behind it.
+    pub fn of(line: &'a str) -> (&'a str, Cells<'a>) {
+        let mut split = line.split(' ');
+        (split.next().unwrap_or(""), Cells(split))
+    }
+
     pub fn next(&mut self, what: &str) -> Outcome<&'a str> {
         let cell = self.0.next().filter(|x| !x.is_empty());
         cell.ok_or_else(|| format!("{what} expected, and the row ends"))
@@ -139,15 +157,14 @@ impl<'a> Reader<'a> {
             words,
             unit: Unit::default(),
             files: Vec::new(),
+            mark: FIRST_MARK,
             open: None,
             is_complete: false,
         }
     }
 
     fn row(&mut self, row: usize, line: &str) -> Outcome<()> {
-        let mut split = line.split(' ');
-        let first = split.next().unwrap_or("");
-        let mut cells = Cells(split);
+        let (first, mut cells) = Cells::of(line);
         if self.is_complete {
             return Err("a row stands behind 'complete'".into());
         }
@@ -161,12 +178,13 @@ impl<'a> Reader<'a> {
             (0, _) => Err(format!("this is no flow: '{HEADER} {VERSION}' is expected")),
             (1, "unit") => {
                 safe_word(cells.next("a path")?)?;
+                self.mark = marked(self.mark, line);
                 cells.end()
             }
             (1, _) => Err("'unit' expected".into()),
             (_, "file") => self.file(cells),
             _ if self.open.is_some() => self.inside(first, cells, line),
-            (_, "function") => self.function(cells),
+            (_, "function") => self.function(cells, line),
             (_, "alias") => self.alias(cells),
             (_, "complete") => self.complete(cells),
             _ => Err(format!("'{first}' is no row of a flow")),
@@ -180,7 +198,7 @@ impl<'a> Reader<'a> {
         cells.end()
     }
 
-    fn function(&mut self, mut cells: Cells) -> Outcome<()> {
+    fn function(&mut self, mut cells: Cells, line: &str) -> Outcome<()> {
         cells.in_turn(self.unit.functions.len())?;
         let symbol = safe_word(cells.next("a symbol")?)?;
         source_line(&self.files, cells.next("a place")?)?;
@@ -188,6 +206,7 @@ impl<'a> Reader<'a> {
         let function = Function {
             symbol: self.words.number(symbol),
             is_public,
+            mark: marked(self.mark, line),
             body: Err(String::new()),
         };
         self.open = Some((function, Draft::default()));
@@ -199,6 +218,7 @@ impl<'a> Reader<'a> {
         let Some((function, draft)) = &mut self.open else {
             return Ok(());
         };
+        function.mark = marked(function.mark, line);
         match first {
             "trouble" => draft.give_up(line.strip_prefix("trouble ").unwrap_or("")),
             "dir" => draft.directive(cells, &self.files, self.words),

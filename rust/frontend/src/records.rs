@@ -1,7 +1,7 @@
 //! The records of a chart, numbered, with what is known of their source.
 
 use crate::flow::{Filter, NodeKind, SourceLine, Word, Words};
-use crate::graph;
+use crate::graph::{self, Record};
 use crate::program::Target;
 use crate::shaping::Shape;
 use region::{Chart, Construct, ConstructKind, Name, Names, Node};
@@ -25,6 +25,8 @@ pub(crate) struct Charted {
     /// What calls come to that are not opened, in all and at each node.
     pub calls: BTreeSet<Target>,
     pub calls_at: Vec<Vec<Target>>,
+    /// Of each node what a recorded run has for it.
+    pub records: Vec<Vec<Record>>,
     /// Routines with barriers or constructs of the team that are not opened, and why.
     pub closed: BTreeMap<usize, &'static str>,
     /// Criticals of the region's code, by function and directive; and those that the chart does not have.
@@ -60,6 +62,7 @@ pub(crate) fn records(words: &Words, shape: Shape) -> Result<Charted, String> {
             .collect(),
         last: nodes.iter().map(|x| x.last).collect(),
         calls_at: nodes.iter().map(|x| x.calls.iter().collect()).collect(),
+        records: nodes.iter().map(|x| x.records.iter().collect()).collect(),
         chart,
         names,
         lessened: shape.constructs.lessened,

@@ -4,7 +4,9 @@ use crate::alike::branches;
 use crate::carried::Carried;
 use crate::charting::chart;
 use crate::flow::{DirectiveKind, FlowNode, NodeKind, SourceLine};
+use crate::graph::Record;
 use crate::inlining::Parallel;
+use crate::map::{Map, Marked};
 use crate::notes::{Key, Notes};
 use crate::program::{Program, Target};
 use crate::records::{critical_name, Charted};
@@ -19,6 +21,7 @@ pub struct RegionChart {
     /// None where the notes say why.
     pub table: Option<Table>,
     pub notes: Notes,
+    pub map: Map,
 }
 
 /// A region with its chart, or why it has none.
@@ -49,6 +52,7 @@ impl Program {
                     .ok()
                     .map(|x| self.table(x, &carried)),
                 notes: self.notes(charting, &carried),
+                map: self.map(charting),
             });
         }
         let whole = self.whole_notes(&charted, &regions);
@@ -73,6 +77,25 @@ impl Program {
     fn place(&self, region: Parallel) -> Option<SourceLine> {
         let body = self.functions[region.function].body.as_ref().ok()?;
         Some(body.directives[region.directive].place)
+    }
+
+    /// By what a recorded run names the region, and each node of its chart.
+    fn map(&self, charting: &Charting) -> Map {
+        let mark = |function: usize| self.functions[function].mark;
+        let nodes = charting.result.as_ref().ok().map(|x| {
+            let marked = |x: &Record| Marked {
+                function: mark(x.function),
+                node: x.node as u32,
+                depth: x.depth.min(usize::from(u8::MAX)) as u8,
+            };
+            let node = |x: &Vec<Record>| x.iter().map(marked).collect();
+            x.records.iter().map(node).collect()
+        });
+        Map {
+            function: mark(charting.region.function),
+            directive: charting.region.directive as u32,
+            nodes: nodes.unwrap_or_default(),
+        }
     }
 
     /// FUNCTION-LINE, with a number behind it from the second of that name on.
