@@ -1,7 +1,7 @@
 # make            prove the library and build it, and the command: target/staticlib/libbohrali.a, target/lib/libbohrali.so, target/bin/bohrali
 # make demo       the same, then show both: charts of the paper from C, and the command on examples/playtest
 # make test       the gate: all proofs, must-fail edits and tests
-# make frontend   the gcc plugin that writes control flow, and the wrappers bohrali-gcc, bohrali-g++, bohrali-gfortran: target/frontend
+# make frontend   the gcc plugin that writes control flow, the recorder, and the wrappers bohrali-gcc, bohrali-g++, bohrali-gfortran: target/frontend
 # make mutants    the other wrong programs that the prover must refuse (tests/mutants)
 # make bench      the library's times by those of hand-written Rust
 # make bench-against BEFORE=path/to/libbohrali.a    by those of another build of it
@@ -81,7 +81,7 @@ install: $(ARCHIVE) $(SHARED) $(COMMAND) $(REPLAY)
 	if [ -d target/frontend ]; then \
 	    install -d $(DESTDIR)$(PREFIX)/bin $(DESTDIR)$(PREFIX)/lib/bohrali && \
 	    install -m 755 target/frontend/bohrali-* $(DESTDIR)$(PREFIX)/bin && \
-	    install -m 644 target/frontend/flow-*.so $(DESTDIR)$(PREFIX)/lib/bohrali; fi
+	    install -m 644 target/frontend/flow-*.so target/frontend/libbohrali-record.a $(DESTDIR)$(PREFIX)/lib/bohrali; fi
 	install -D $(COMMAND) $(DESTDIR)$(PREFIX)/bin/bohrali
 	install -D $(REPLAY) $(DESTDIR)$(PREFIX)/libexec/bohrali/replay_trace
 	install -D -m 644 docs/bohrali.1 $(DESTDIR)$(PREFIX)/share/man/man1/bohrali.1

@@ -10,6 +10,7 @@ static bool is_call(gimple *statement, built_in_function routine)
 
 void graph::walk(basic_block block, context where)
 {
+    here = {NULL, block};
     current = entry_of[block->index] = add_node(PLAIN, where);
     for (gimple_stmt_iterator i = gsi_start_bb(block); !gsi_end_p(i); gsi_next(&i)) {
         gimple *statement = gsi_stmt(i);
@@ -22,6 +23,7 @@ void graph::walk(basic_block block, context where)
         default:
             break;
         }
+        here.before = statement;
         if (ends_block(statement, block, where)) {
             return;
         }
@@ -204,16 +206,17 @@ bool graph::leave(gimple *statement, basic_block block, context where)
         if (in_tail) {
             give_up("a continue out of place");
         } else if (directives[where].kind == TASK) {
+            directives[where].body_end = here;
             follow(block, where);
         } else {
             /* The ways on from the close were laid where the directive was opened. */
-            step(close_of(where));
+            step_to_close(where);
         }
         return true;
     }
     context left = in_tail ? directives[where].tail_of : where;
     if (!in_tail) {
-        step(close_of(left));
+        step_to_close(left);
     }
     directive &d = directives[left];
     bool waits = d.kind == FOR || d.kind == SINGLE || d.kind == SECTIONS || d.scope;
@@ -256,11 +259,11 @@ context graph::call(gimple *statement, context where)
     }
     bool in_body = where != OUTSIDE && directives[where].tail_of == OUTSIDE;
     if (in_body && starts_body(statement, directives[where].kind)) {
-        step(add_node(PLAIN, where));
+        wait(where);
         return where;
     }
     if (in_body && ends_body(statement, directives[where].kind)) {
-        step(close_of(where));
+        step_to_close(where);
         return tail_of(where);
     }
     if (is_call(statement, BUILT_IN_GOMP_CANCEL)) {
@@ -268,6 +271,18 @@ context graph::call(gimple *statement, context where)
     }
     routine(statement, where);
     return where;
+}
+
+/* The body of a critical or an ordered begins behind the wait for it; what waits is no place inside. */
+void graph::wait(context where)
+{
+    if (nodes[current].kind == PLAIN && nodes[current].lines.empty()) {
+        nodes[current].at = {NULL, NULL};
+    }
+    gimple_stmt_iterator behind = gsi_for_stmt(here.before);
+    gsi_next_nondebug(&behind);
+    step(add_node(PLAIN, where));
+    nodes[current].at = gsi_end_p(behind) ? point{NULL, NULL} : point{gsi_stmt(behind), here.block};
 }
 
 /* Out of a cancelled sections threads go before all sections are taken, and barriers of routines

@@ -32,9 +32,20 @@ int graph::close_of(context opened)
     if (directives[opened].close < 0) {
         int close = add_node(CLOSE, directives[opened].parent);
         nodes[close].of = opened;
+        nodes[close].at = {NULL, NULL};
         directives[opened].close = close;
     }
     return directives[opened].close;
+}
+
+/* The body ends at the statement that is being walked over. */
+void graph::step_to_close(context opened)
+{
+    int close = close_of(opened);
+    if (!nodes[close].at.block) {
+        nodes[close].at = here;
+    }
+    step(close);
 }
 
 /* The way of those who do not enter, or who have left: from the close into the tail. */
@@ -112,6 +123,7 @@ void graph::chosen(basic_block block, context opened)
     entry_of[test->index] = current;
     go(current, opened, yes->dest);
     around(opened, no->dest);
+    nodes[close_of(opened)].at = {NULL, no->dest};
 }
 
 void graph::loop(basic_block block, gimple *statement, context where)

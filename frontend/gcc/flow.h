@@ -45,6 +45,12 @@ enum node_kind { PLAIN, CALL, BARRIER, WEAK, OPEN, CLOSE, ENTRY, EXIT };
 typedef int context;
 const context OUTSIDE = -1;
 
+/* Where a thread comes to a node: before a statement, or without one at the start of a block. */
+struct point {
+    gimple *before;
+    basic_block block;
+};
+
 struct directive {
     directive_kind kind;
     context parent;
@@ -61,11 +67,13 @@ struct directive {
     std::string filter;   /* of a master: a number, or ? */
     std::string threads;  /* of a parallel: a number, or ?, or empty */
     int close = -1;       /* its node */
+    point body_end = {NULL, NULL}; /* of a task, whose close is not in the body */
 };
 
 struct node {
     node_kind kind;
     context where;
+    point at;                   /* without a block: at no place of its own */
     context of = OUTSIDE;       /* the directive that it opens or closes */
     bool stop = false;          /* nothing follows: the program ends or hangs here */
     bool library = false;       /* a call that GCC knows as one of the C library */
@@ -82,6 +90,11 @@ public:
 
     explicit graph(function *fn) : fn(fn) { build(); }
 
+    /* The innermost parallel around a place, or OUTSIDE; of a parallel's close it is its own. */
+    context region_of(const node &n) const;
+    /* Whether no record of a thread can stand at a node, so that a recorded run lacks it. */
+    bool is_mute(const node &n) const;
+
 private:
     /* An edge of GCC's graph out of a node, to the block that it leads to. */
     struct way {
@@ -95,7 +108,8 @@ private:
     std::map<int, int> entry_of;       /* by block: its first node */
     std::vector<way> ways;
     std::vector<std::pair<basic_block, context>> work;
-    int current = -1; /* the node that is being filled */
+    int current = -1;           /* the node that is being filled */
+    point here = {NULL, NULL};  /* the statement that is being walked over */
 
     /* graph.cc */
     void build();
@@ -116,6 +130,7 @@ private:
     bool target(gimple *statement, basic_block block, context where);
     bool leave(gimple *statement, basic_block block, context where);
     context call(gimple *statement, context where);
+    void wait(context where);
     void cancel(gimple *statement, context where);
     void routine(gimple *statement, context where);
 
@@ -123,6 +138,7 @@ private:
     context open(directive_kind kind, context where, gimple *statement);
     context tail_of(context opened);
     int close_of(context opened);
+    void step_to_close(context opened);
     void task(basic_block block, context opened);
     void chosen(basic_block block, context opened);
     void loop(basic_block block, gimple *statement, context where);

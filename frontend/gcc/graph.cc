@@ -30,6 +30,7 @@ int graph::add_node(node_kind kind, context where)
     node added;
     added.kind = kind;
     added.where = where;
+    added.at = here;
     nodes.push_back(added);
     return nodes.size() - 1;
 }
@@ -73,6 +74,31 @@ bool graph::encloses(context outer, context inner) const
         inner = directives[inner].parent;
     }
     return inner == outer;
+}
+
+context graph::region_of(const node &n) const
+{
+    bool is_end = n.kind == CLOSE && directives[n.of].kind == PARALLEL;
+    for (context x = is_end ? n.of : n.where; x != OUTSIDE; x = directives[x].parent) {
+        if (directives[x].tail_of == OUTSIDE && directives[x].kind == PARALLEL) {
+            return x;
+        }
+    }
+    return OUTSIDE;
+}
+
+bool graph::is_mute(const node &n) const
+{
+    if (n.kind == ENTRY || n.kind == EXIT) {
+        return false;
+    }
+    /* The switch of a sections stands first behind its begin, and between the halves of an atomic
+     * there is nothing but what they compute. */
+    bool in_sections = n.kind == PLAIN && n.where != OUTSIDE && directives[n.where].kind == SECTIONS
+                       && directives[n.where].tail_of == OUTSIDE;
+    return !n.at.block || in_sections
+           || (single_pred_p(n.at.block)
+               && ends_with(single_pred(n.at.block), GIMPLE_OMP_ATOMIC_LOAD));
 }
 
 void graph::build()

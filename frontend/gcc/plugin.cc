@@ -1,4 +1,5 @@
 /* GCC plugin: writes the control flow of each function, for each unit a file beside the object. */
+#include "recording.h"
 #include "text.h"
 
 int plugin_is_GPL_compatible;
@@ -40,7 +41,11 @@ public:
     {
         begin();
         if (!failed) {
-            unit.write(fn, flow::graph(fn));
+            flow::graph graph(fn);
+            uint64_t mark = unit.write(fn, graph);
+            if (recording::is_wanted()) {
+                recording::insert(fn, graph, mark);
+            }
         }
         return 0;
     }
@@ -91,6 +96,9 @@ int plugin_init(plugin_name_args *info, plugin_gcc_version *version)
     place.ref_pass_instance_number = 1;
     place.pos_op = PASS_POS_INSERT_BEFORE;
     register_callback(info->base_name, PLUGIN_PASS_MANAGER_SETUP, NULL, &place);
+    if (recording::is_wanted()) {
+        recording::register_guards(info->base_name);
+    }
     register_callback(info->base_name, PLUGIN_ALL_IPA_PASSES_START, write_aliases, NULL);
     register_callback(info->base_name, PLUGIN_FINISH_UNIT, finish, NULL);
     return 0;

@@ -31,8 +31,19 @@ bool text::begin(const std::string &path, const char *unit)
     if (!out) {
         return false;
     }
-    fprintf(out, "bohrali-flow 1\nunit %s\n", word(unit).c_str());
+    std::string row = "unit " + word(unit) + "\n";
+    fprintf(out, "bohrali-flow 1\n%s", row.c_str());
+    own = mark(row, 14695981039346656037u);
     return true;
+}
+
+/* FNV-1a, of 64 bits. */
+uint64_t text::mark(const std::string &bytes, uint64_t from)
+{
+    for (unsigned char byte : bytes) {
+        from = (from ^ byte) * 1099511628211u;
+    }
+    return from;
 }
 
 /* A source line as FILE:LINE; the file is numbered where it is met first. */
@@ -45,9 +56,7 @@ std::string text::place(const std::string &file, int line)
     return std::to_string(at.first->second) + ":" + std::to_string(line);
 }
 
-/* The number of each directive in the text. Tails have none: what lies in one lies where its
- * directive lies. */
-static std::vector<int> numbers(const graph &graph)
+std::vector<int> numbers(const graph &graph)
 {
     std::vector<int> named;
     int count = 0;
@@ -66,61 +75,66 @@ static int number_of(const std::vector<int> &named, context where)
     return where == OUTSIDE ? OUTSIDE : named[where];
 }
 
-void text::write(function *fn, const graph &graph)
+uint64_t text::write(function *fn, const graph &graph)
 {
     expanded_location at = expand_location(DECL_SOURCE_LOCATION(fn->decl));
     if (!at.file) {
         at.file = main_input_filename;
     }
-    std::string where = place(at.file, at.line);
-    fprintf(out, "function %d %s %s%s\n", functions++, word(symbol(fn->decl)).c_str(), where.c_str(),
-            TREE_PUBLIC(fn->decl) ? " public" : "");
-    if (!graph.trouble.empty()) {
-        fprintf(out, "trouble %s\nend\n", graph.trouble.c_str());
-        return;
+    std::string rows = "function " + std::to_string(functions++) + " " + word(symbol(fn->decl)) + " "
+                       + place(at.file, at.line) + (TREE_PUBLIC(fn->decl) ? " public\n" : "\n");
+    if (graph.trouble.empty()) {
+        std::vector<int> named = numbers(graph);
+        rows += directive_rows(graph, named, at);
+        rows += node_rows(graph, named);
+        for (const std::pair<int, int> &edge : graph.edges) {
+            rows += "edge " + std::to_string(edge.first) + " " + std::to_string(edge.second) + "\n";
+        }
+    } else {
+        rows += "trouble " + graph.trouble + "\n";
     }
-    std::vector<int> named = numbers(graph);
-    write_directives(graph, named, at);
-    write_nodes(graph, named);
-    for (const std::pair<int, int> &edge : graph.edges) {
-        fprintf(out, "edge %d %d\n", edge.first, edge.second);
-    }
-    fprintf(out, "end\n");
+    rows += "end\n";
+    fputs(rows.c_str(), out);
+    return mark(rows, own);
 }
 
-void text::write_directives(const graph &graph, const std::vector<int> &named,
-                            const expanded_location &fallback)
+std::string text::directive_rows(const graph &graph, const std::vector<int> &named,
+                                 const expanded_location &fallback)
 {
+    std::string rows;
     for (const directive &d : graph.directives) {
         if (d.tail_of != OUTSIDE) {
             continue;
         }
         expanded_location at = expand_location(d.place);
         std::string where = at.file ? place(at.file, at.line) : place(fallback.file, fallback.line);
-        fprintf(out, "dir %d %s %d %s", named[&d - &graph.directives[0]],
-                directive_names[d.kind], number_of(named, d.parent), where.c_str());
+        rows += "dir " + std::to_string(named[&d - &graph.directives[0]]) + " "
+                + directive_names[d.kind] + " " + std::to_string(number_of(named, d.parent)) + " "
+                + where;
         const std::pair<bool, const char *> flags[] = {
             {d.flat, "flat"}, {d.ordered, "ordered"}, {d.cancel, "cancel"}, {d.early, "early"}};
         for (const std::pair<bool, const char *> &flag : flags) {
             if (flag.first) {
-                fprintf(out, " %s", flag.second);
+                rows += std::string(" ") + flag.second;
             }
         }
         if (!d.name.empty()) {
-            fprintf(out, " name=%s", word(d.name).c_str());
+            rows += " name=" + word(d.name);
         }
         if (d.kind == MASTER) {
-            fprintf(out, " filter=%s", d.filter.empty() ? "0" : d.filter.c_str());
+            rows += " filter=" + (d.filter.empty() ? "0" : d.filter);
         }
         if (!d.threads.empty()) {
-            fprintf(out, " threads=%s", d.threads.c_str());
+            rows += " threads=" + d.threads;
         }
-        fprintf(out, "\n");
+        rows += "\n";
     }
+    return rows;
 }
 
-void text::write_nodes(const graph &graph, const std::vector<int> &named)
+std::string text::node_rows(const graph &graph, const std::vector<int> &named)
 {
+    std::string rows;
     for (const node &n : graph.nodes) {
         std::string row = "node " + std::to_string(&n - &graph.nodes[0]) + " " + node_names[n.kind]
                           + " " + std::to_string(number_of(named, n.where));
@@ -129,6 +143,9 @@ void text::write_nodes(const graph &graph, const std::vector<int> &named)
         }
         if (n.stop) {
             row += " stop";
+        }
+        if (graph.is_mute(n)) {
+            row += " mute";
         }
         if (n.library) {
             row += " library";
@@ -139,8 +156,9 @@ void text::write_nodes(const graph &graph, const std::vector<int> &named)
         for (const std::pair<std::string, int> &line : n.lines) {
             row += " " + place(line.first, line.second);
         }
-        fprintf(out, "%s\n", row.c_str());
+        rows += row + "\n";
     }
+    return rows;
 }
 
 void text::alias(tree name, tree target)

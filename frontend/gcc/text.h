@@ -2,6 +2,7 @@
 #ifndef BOHRALI_TEXT_H
 #define BOHRALI_TEXT_H
 
+#include <cstdint>
 #include <cstdio>
 #include <map>
 #include <string>
@@ -10,11 +11,17 @@
 
 namespace flow {
 
+/* The number of each directive in the text. Tails have none: what lies in one lies where its
+ * directive lies. */
+std::vector<int> numbers(const graph &graph);
+
 class text {
 public:
     /* Begins the text of a unit; false where the file cannot be written. */
     bool begin(const std::string &path, const char *unit);
-    void write(function *fn, const graph &graph);
+    /* Writes the rows of a function; returns the mark by which a recorded run names it: that of the
+     * unit's row and of these. */
+    uint64_t write(function *fn, const graph &graph);
     void alias(tree name, tree target);
     /* Ends it with the mark that it is whole; false where not all of it could be written. */
     bool end();
@@ -23,11 +30,13 @@ private:
     FILE *out = NULL;
     std::map<std::string, int> files; /* their numbers */
     int functions = 0;
+    uint64_t own = 0; /* the mark of the unit's row */
 
     std::string place(const std::string &file, int line);
-    void write_directives(const graph &graph, const std::vector<int> &named,
-                          const expanded_location &fallback);
-    void write_nodes(const graph &graph, const std::vector<int> &named);
+    std::string directive_rows(const graph &graph, const std::vector<int> &named,
+                               const expanded_location &fallback);
+    std::string node_rows(const graph &graph, const std::vector<int> &named);
+    static uint64_t mark(const std::string &bytes, uint64_t from);
 };
 
 }
