@@ -8,6 +8,8 @@ use region::quoted;
 pub struct Trace {
     /// As the proved program takes them, two bytes an entry.
     pub bytes: Vec<u8>,
+    /// The threads of the team, where the text says so.
+    team: Option<usize>,
 }
 
 impl Trace {
@@ -22,15 +24,17 @@ impl Trace {
 
     /// Bytes, or text: the first byte of entries is a thread's number, which no text begins with.
     pub fn read(file: &str, bytes: &[u8]) -> Result<Trace, Failure> {
-        let bytes = match bytes.first() {
+        let (team, bytes) = match bytes.first() {
             Some(&first) if first >= Trace::MOST_THREADS => {
-                let entries = lines::each(file, &lines::of(file, bytes)?, entry)?;
-                entries.into_flattened()
+                let lines = lines::of(file, bytes)?;
+                let team = lines.first().and_then(team);
+                let entries = &lines[usize::from(team.is_some())..];
+                (team, lines::each(file, entries, entry)?.into_flattened())
             }
-            _ => bytes.to_vec(),
+            _ => (None, bytes.to_vec()),
         };
         match bytes.len() <= Trace::MOST {
-            true => Ok(Trace { bytes }),
+            true => Ok(Trace { bytes, team }),
             false => {
                 let most = Trace::MOST / 2;
                 Err(Failure::about(
@@ -51,11 +55,17 @@ impl Trace {
         Some((entry[0], entry[1]))
     }
 
-    /// One more than the highest thread.
+    /// The threads of its team: as many as it says, or else one more than the highest.
     pub fn threads(&self) -> usize {
         let threads = self.bytes.iter().step_by(2);
-        threads.max().map_or(1, |&x| usize::from(x) + 1)
+        let met = threads.max().map_or(1, |&x| usize::from(x) + 1);
+        self.team.unwrap_or(met)
     }
+}
+
+/// The team that a first line names.
+fn team(line: &Line) -> Option<usize> {
+    line.text.strip_prefix("team ")?.trim().parse().ok()
 }
 
 fn entry(line: &Line) -> Result<[u8; 2], String> {

@@ -40,6 +40,17 @@ pub fn node(table: &Table, node: u8) -> String {
     }
 }
 
+/// The source lines of a node's own code.
+pub fn own_lines(table: &Table, node: u8) -> &str {
+    let place = table.place(node);
+    let behind = [" via ", " into "].map(|x| place.find(x).unwrap_or(place.len()));
+    let own = &place[..behind[0].min(behind[1])];
+    match own.starts_with("via ") || own.starts_with("into ") {
+        true => "",
+        false => own,
+    }
+}
+
 /// That two threads can be at two nodes, which may be one.
 pub fn together(table: &Table, a: u8, b: u8) -> String {
     let at = match a == b {

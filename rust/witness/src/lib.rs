@@ -8,6 +8,7 @@ mod certify;
 mod cover;
 mod error;
 mod event;
+pub mod forbidden;
 mod layout;
 mod march;
 mod naming;

@@ -15,8 +15,10 @@ mod program_why;
 mod races;
 mod regions;
 pub mod replay;
+mod replay_all;
 mod sheet;
 mod tidy;
+mod trace;
 mod why;
 
 use crate::arguments::{Arguments, Opt};
@@ -37,7 +39,7 @@ pub struct Command {
 }
 
 /// All commands, in the order in which one needs them.
-pub const COMMANDS: [&Command; 16] = [
+pub const COMMANDS: [&Command; 17] = [
     &check::COMMAND,
     &sheet::COMMAND,
     &pair::COMMAND,
@@ -54,6 +56,7 @@ pub const COMMANDS: [&Command; 16] = [
     &tidy::COMMAND,
     &regions::COMMAND,
     &ask::COMMAND,
+    &trace::COMMAND,
 ];
 
 /// The command of this name.

@@ -1,6 +1,6 @@
 //! `bohrali replay`: a recorded run against a region, by the proved program.
 
-use super::Command;
+use super::{replay_all, Command};
 use crate::arguments::{Arguments, Opt, JSON, REGION, SIZE};
 use crate::json::Json;
 use crate::program::{self, Replayed, Verdict};
@@ -9,7 +9,11 @@ use crate::subject::{self, Subject, Team};
 use crate::trace::Trace;
 use crate::words::{self, count};
 use bohrali::{Region, Size};
+use frontend::traces;
 use std::ffi::OsStr;
+use std::path::Path;
+use witness::forbidden;
+use witness::view::View;
 
 const STRICT: Opt = Opt {
     name: "--strict",
@@ -19,17 +23,19 @@ const STRICT: Opt = Opt {
 
 pub const COMMAND: Command = Command {
     name: "replay",
-    operands: "FILE TRACE",
-    count: (2, 2),
+    operands: "FILE TRACE | OUT",
+    count: (1, 2),
     summary: "a recorded run: finished, unfinished or forbidden, and where",
     details: &[
         "TRACE has an entry for each step of a thread: two bytes, thread and node, one entry behind the other;
 or text, a line 'THREAD NODE' for each, where '#' begins a comment. When a barrier opens there is one
-entry for each thread, in thread order. The team has one thread more than the highest number in it, or as
-many as --size says, at most 8.",
+entry for each thread, in thread order. The team has as many threads as --size says, or a first line
+'team N', or else one more than the highest number in it; at most 8. OUT is a directory of traces, which
+'bohrali trace' writes: all of them are replayed, and those that do not finish are told.",
         "A finished run shows that two threads can be at the nodes that it met, barriers aside; it shows no
-never. A forbidden entry says that the region is not the one that ran, or that the record is not in
-order.",
+never. A forbidden entry says that the chart is not that of the region, that the record is not in order, or
+that the program breaks OpenMP, as where threads wait at two barriers. The rule that it breaks is named; that
+it is forbidden is proved.",
         "The verdict is that of the proved program replay_trace. It is looked for where BOHRALI_REPLAY says,
 beside this command, in ../libexec/bohrali from there, and where it was built.",
     ],
@@ -47,8 +53,10 @@ pub struct Told<'a> {
 
 fn run(arguments: &Arguments, terminal: &Terminal) -> Result<Report, Failure> {
     let team = Team::named(arguments)?;
+    let [_, file] = &arguments.operands[..] else {
+        return directory(arguments, terminal);
+    };
     let subject = Subject::read(&arguments.operands[0])?;
-    let file = &arguments.operands[1];
     let told = Told::of(&subject, team, file)?;
     let text = match arguments.has(&JSON) {
         true => told.document(),
@@ -61,6 +69,21 @@ fn run(arguments: &Arguments, terminal: &Terminal) -> Result<Report, Failure> {
             false => GOOD,
         }),
     )
+}
+
+/// All traces of a directory.
+fn directory(arguments: &Arguments, terminal: &Terminal) -> Result<Report, Failure> {
+    let path = Path::new(&arguments.operands[0]);
+    let name = path.display().to_string();
+    if !traces::is_directory(path) {
+        let message = "no directory of traces, which 'bohrali trace' writes; of a region it is 'bohrali replay FILE TRACE'";
+        return Err(Failure::about(&name, message));
+    }
+    if arguments.has(&REGION) || arguments.has(&SIZE) {
+        let message = "--region and --size are for one trace, and this is a directory of them";
+        return Err(Failure::about(&name, message));
+    }
+    replay_all::run(path, arguments.has(&JSON), arguments.has(&STRICT), terminal)
 }
 
 impl Told<'_> {
@@ -84,7 +107,19 @@ impl Told<'_> {
     }
 
     fn text(&self, file: &str, terminal: &Terminal) -> String {
-        self.verdict(file, terminal) + &self.met()
+        self.verdict(file, terminal) + &self.met() + &self.met_lines()
+    }
+
+    pub fn outcome(&self) -> Verdict {
+        self.replayed.verdict
+    }
+
+    pub fn subject(&self) -> &Subject {
+        self.subject
+    }
+
+    pub fn entries(&self) -> usize {
+        self.trace.entries()
     }
 
     /// The entries that the rules allow, thread and node.
@@ -106,19 +141,20 @@ impl Told<'_> {
     pub fn verdict(&self, file: &str, terminal: &Terminal) -> String {
         let table = self.subject.table();
         let entries = count(self.trace.entries(), "entry");
-        let (word, colour) = match self.replayed.verdict {
-            Verdict::Finished => ("finished", Colour::Good),
-            Verdict::Unfinished => ("unfinished", Colour::Strong),
-            Verdict::Forbidden(_) => ("forbidden", Colour::Warm),
+        let colour = match self.replayed.verdict {
+            Verdict::Finished => Colour::Good,
+            Verdict::Unfinished => Colour::Strong,
+            Verdict::Forbidden(_) => Colour::Warm,
         };
         let region = words::region(table, self.team.region);
         let threads = count(self.team.size.map_or(0, |x| x.0), "thread");
-        let word = terminal.paint(colour, word);
+        let word = terminal.paint(colour, self.word());
         let mut text = format!("{file}: {word}: {entries}, a team of {threads} in {region}\n");
         if let Some((index, thread, from, to)) = self.forbidden() {
             let from = from.map_or("nowhere".into(), |x| words::node(table, x));
             let to = words::node(table, to);
             text += &format!("entry {index}, counted from 0: no step by the rules leads thread {thread} from {from} to {to}\n");
+            text += &self.rule(index).map_or(String::new(), |x| format!("{x}\n"));
         } else if self.replayed.verdict == Verdict::Unfinished {
             for (thread, &node) in self.replayed.at.iter().enumerate() {
                 text += &format!("thread {thread} is at {}\n", words::node(table, node));
@@ -135,6 +171,37 @@ impl Told<'_> {
         let (thread, to) = self.trace.entry(index)?;
         let from = self.replayed.at.get(usize::from(thread)).copied();
         Some((index, thread, from, to))
+    }
+
+    /// The rule by which an entry is forbidden.
+    fn rule(&self, index: usize) -> Option<String> {
+        let table = self.subject.table();
+        let view = View::read(&self.subject.loaded.bytes, self.team.region).ok()?;
+        let entries: Vec<(u8, u8)> = (0..=index).filter_map(|x| self.trace.entry(x)).collect();
+        let named = |x: usize| words::node(table, u8::try_from(x).unwrap_or(u8::MAX));
+        let threads = self.team.size.map_or(0, |x| x.0);
+        Some(forbidden::rule(&view, threads, &entries, named)).filter(|x| !x.is_empty())
+    }
+
+    /// The pairs met by their source lines: for each place, in the order of the nodes, those that it was met with.
+    fn met_lines(&self) -> String {
+        let table = self.subject.table();
+        let mut met: Vec<(&str, Vec<&str>)> = Vec::new();
+        for &(a, b) in &self.replayed.met {
+            let [a, b] = [a, b].map(|x| words::own_lines(table, x));
+            if a.is_empty() || b.is_empty() {
+                continue;
+            }
+            match met.iter_mut().find(|x| x.0 == a) {
+                Some((_, with)) if with.contains(&b) => {}
+                Some((_, with)) => with.push(b),
+                None => met.push((a, vec![b])),
+            }
+        }
+        let line = |(place, with): (&str, Vec<&str>)| {
+            format!("together: {place} with {}\n", with.join(", "))
+        };
+        met.into_iter().map(line).collect()
     }
 
     /// The pairs met, so many on a line.
@@ -155,16 +222,20 @@ impl Told<'_> {
         }
     }
 
-    fn document(&self) -> String {
-        let word = match self.replayed.verdict {
+    pub fn word(&self) -> &'static str {
+        match self.replayed.verdict {
             Verdict::Finished => "finished",
             Verdict::Unfinished => "unfinished",
             Verdict::Forbidden(_) => "forbidden",
-        };
+        }
+    }
+
+    pub fn document(&self) -> String {
         let forbidden = self.forbidden();
+        let rule = forbidden.and_then(|x| self.rule(x.0));
         let mut fields = self.subject.asked(self.team);
         fields.extend([
-            ("verdict", Json::text(word)),
+            ("verdict", Json::text(self.word())),
             ("entry", Json::option(forbidden, |x| Json::Number(x.0))),
             ("thread", Json::option(forbidden, |x| Json::number(x.1))),
             (
@@ -172,6 +243,7 @@ impl Told<'_> {
                 Json::option(forbidden.and_then(|x| x.2), Json::number),
             ),
             ("to", Json::option(forbidden, |x| Json::number(x.3))),
+            ("rule", Json::option(rule, Json::text)),
             ("at", Json::list(&self.replayed.at, |&x| Json::number(x))),
             (
                 "met",
