@@ -326,6 +326,7 @@ void graph::routine(gimple *statement, context where)
     step(add_node(CALL, where));
     nodes[current].callee = name;
     nodes[current].library = known;
+    nodes[current].system = callee && DECL_IN_SYSTEM_HEADER(callee);
     add_line(current, gimple_location(statement));
 }
 

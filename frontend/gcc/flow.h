@@ -77,6 +77,7 @@ struct node {
     context of = OUTSIDE;       /* the directive that it opens or closes */
     bool stop = false;          /* nothing follows: the program ends or hangs here */
     bool library = false;       /* a call that GCC knows as one of the C library */
+    bool system = false;        /* a call of what a header of the system declares */
     std::string callee;         /* * for a call through a pointer */
     std::set<std::pair<std::string, int>> lines;
 };

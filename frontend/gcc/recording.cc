@@ -98,30 +98,66 @@ static bool is_of_team(const graph &graph, const node &n)
     return true;
 }
 
-/* Whether a node can be of a team that calls the function, so that a chart may open it. */
-static bool binds_caller(const graph &graph, const node &n)
+/* What is known of a function's code outside its own regions, which threads of a caller's team run. */
+struct routine_facts {
+    bool binds = false;              /* has a barrier or a construct of that team */
+    std::set<std::string> callees;   /* that may have, here or in another unit */
+    std::set<std::string> of_system; /* that the system declares: they may have where they are here */
+    std::set<unsigned> nodes;        /* outside its regions */
+};
+
+/* The functions of the unit, by symbol and by mark. */
+static std::map<std::string, routine_facts> routines;
+static std::map<uint64_t, std::string> marked;
+
+static bool is_team_construct(flow::directive_kind kind)
 {
-    if (graph.region_of(n) != OUTSIDE || !is_of_team(graph, n)) {
-        return false;
-    }
-    switch (n.kind) {
-    case flow::BARRIER:
-    case flow::WEAK:
-        return true;
-    case flow::CALL:
-        return !n.library && n.callee != "*" && n.callee.compare(0, 4, "omp_") != 0;
-    case flow::OPEN:
-        switch (graph.directives[n.of].kind) {
-        case flow::PARALLEL:
-        case flow::TASK:
-        case flow::TARGET:
-        case flow::TEAMS:
-            return false;
-        default:
-            return true;
+    return kind != flow::PARALLEL && kind != flow::TASK && kind != flow::TARGET
+           && kind != flow::TEAMS;
+}
+
+static routine_facts facts_of(const graph &graph)
+{
+    routine_facts facts;
+    for (const node &n : graph.nodes) {
+        if (graph.region_of(n) != OUTSIDE || !is_of_team(graph, n)) {
+            continue;
         }
-    default:
-        return false;
+        if (n.kind == flow::BARRIER || n.kind == flow::WEAK
+            || (n.kind == flow::OPEN && is_team_construct(graph.directives[n.of].kind))) {
+            facts.binds = true;
+        }
+        if (n.kind == flow::CALL && !n.library && n.callee != "*"
+            && n.callee.compare(0, 4, "omp_") != 0) {
+            (n.system ? facts.of_system : facts.callees).insert(n.callee);
+        }
+    }
+    return facts;
+}
+
+static bool binds_or_else(const std::string &callee, bool where_unknown)
+{
+    std::map<std::string, routine_facts>::iterator known = routines.find(callee);
+    return known == routines.end() ? where_unknown : known->second.binds;
+}
+
+/* Lets each function of the unit bind that calls one which binds, or which another unit may have. */
+static void settle_routines()
+{
+    bool changed = true;
+    while (changed) {
+        changed = false;
+        for (std::pair<const std::string, routine_facts> &caller : routines) {
+            bool binds = caller.second.binds;
+            for (const std::string &callee : caller.second.callees) {
+                binds = binds || binds_or_else(callee, true);
+            }
+            for (const std::string &callee : caller.second.of_system) {
+                binds = binds || binds_or_else(callee, false);
+            }
+            changed = changed || binds != caller.second.binds;
+            caller.second.binds = binds;
+        }
     }
 }
 
@@ -202,10 +238,15 @@ void insert(function *fn, const graph &graph, uint64_t mark)
     if (!graph.trouble.empty()) {
         return;
     }
-    bool is_called = false;
+    routine_facts facts = facts_of(graph);
+    bool is_called = facts.binds || !facts.callees.empty() || !facts.of_system.empty();
     for (const node &n : graph.nodes) {
-        is_called = is_called || binds_caller(graph, n);
+        if (graph.region_of(n) == OUTSIDE) {
+            facts.nodes.insert(&n - &graph.nodes[0]);
+        }
     }
+    marked[mark] = flow::symbol(fn->decl);
+    routines[marked[mark]] = facts;
     std::vector<int> named = flow::numbers(graph);
     /* What stands before a statement goes there in the order of the nodes; then, backwards, what
      * stands at the start of a block. */
@@ -276,13 +317,22 @@ public:
 
     unsigned execute(function *fn) final override
     {
+        /* All functions of the unit have been lowered by now. */
+        settle_routines();
         std::vector<gimple *> calls;
         basic_block block;
         FOR_EACH_BB_FN (block, fn) {
-            for (gimple_stmt_iterator i = gsi_start_bb(block); !gsi_end_p(i); gsi_next(&i)) {
-                if (is_guarded(gsi_stmt(i))) {
-                    calls.push_back(gsi_stmt(i));
+            gimple_stmt_iterator i = gsi_start_bb(block);
+            while (!gsi_end_p(i)) {
+                gimple *statement = gsi_stmt(i);
+                if (is_call_of(statement, at_node()) && says_nothing(statement)) {
+                    gsi_remove(&i, true);
+                    continue;
                 }
+                if (is_call_of(statement, at_node()) || is_call_of(statement, aside())) {
+                    calls.push_back(statement);
+                }
+                gsi_next(&i);
             }
         }
         for (gimple *call : calls) {
@@ -293,10 +343,18 @@ public:
     }
 
 private:
-    static bool is_guarded(gimple *statement)
+    static bool is_call_of(gimple *statement, tree routine)
     {
-        tree callee = is_gimple_call(statement) ? gimple_call_fndecl(statement) : NULL_TREE;
-        return callee && (callee == at_node() || callee == aside());
+        return is_gimple_call(statement) && gimple_call_fndecl(statement) == routine;
+    }
+
+    /* Whether a call is outside all regions, in a function that no chart opens. */
+    static bool says_nothing(gimple *call)
+    {
+        uint64_t mark = tree_to_uhwi(gimple_call_arg(call, 0));
+        unsigned number = tree_to_uhwi(gimple_call_arg(call, 1));
+        const routine_facts &facts = routines[marked[mark]];
+        return !facts.binds && facts.nodes.count(number);
     }
 };
 
