@@ -2,6 +2,7 @@
 # make demo       the same, then show both: charts of the paper from C, and the command on examples/playtest
 # make test       the gate: all proofs, must-fail edits and tests
 # make frontend   the gcc plugin that writes control flow, the recorder, and the wrappers bohrali-gcc, bohrali-g++, bohrali-gfortran: target/frontend
+# make evidence   real programs recorded on libgomp and LLVM's runtime and replayed (tests/evidence.sh); fetches their sources, takes about an hour
 # make mutants    the other wrong programs that the prover must refuse (tests/mutants)
 # make bench      the library's times by those of hand-written Rust
 # make bench-against BEFORE=path/to/libbohrali.a    by those of another build of it
@@ -17,7 +18,7 @@ SOURCES := crates.txt $(wildcard crates/*/src/*.rt crates/*/specs/*.antt)
 RUST := rust/Cargo.toml rust/Cargo.lock $(wildcard page/* rust/bohrali/src/*.rs rust/bohrali/build.rs $(foreach x,region witness frontend tool,rust/$(x)/Cargo.toml rust/$(x)/src/*.rs rust/$(x)/src/*/*.rs))
 CFLAGS ?= -O2 -Wall -Wextra -Werror
 
-.PHONY: all demo test frontend mutants bench bench-against install clean
+.PHONY: all demo test frontend evidence mutants bench bench-against install clean
 
 all: $(ARCHIVE) $(SHARED) $(COMMAND)
 
@@ -60,6 +61,9 @@ test:
 
 frontend:
 	$(MAKE) -C frontend/gcc
+
+evidence: all frontend
+	tests/evidence.sh
 
 mutants:
 	tests/mutants.sh

@@ -8,18 +8,16 @@ shift 2
 mkdir -p "$out"
 out=$(cd "$out" && pwd)
 export root sources out
+# shellcheck source=tests/sources.sh
+. "$root/tests/sources.sh"
+export -f wrapper_of options_of
 
 one() { # one SOURCE OPTION..
-    local source=$1 name=${1#"$sources"/} wrapper
+    local source=$1 name=${1#"$sources"/} wrapper own
     shift
     name=${name//\//_}
-    case $source in
-    *.c) wrapper=bohrali-gcc ;;
-    *.C | *.cc | *.cpp) wrapper=bohrali-g++ ;;
-    *) wrapper=bohrali-gfortran ;;
-    esac
-    local own
-    own=$(sed -n 's/.*dg-\(additional-\)\?options "\([^"]*\)".*/\2/p' "$source" | tr '\n' ' ' | sed 's/-fdump[^ ]*//g; s/-foffload[^ ]*//g')
+    wrapper=$(wrapper_of "$source")
+    own=$(options_of "$source")
     for more in "$own" ""; do
         # shellcheck disable=SC2086 # the options are several words
         if (cd "$out" && timeout 300 "$root/target/frontend/$wrapper" -fopenmp -w $more "$@" -I"$(dirname "$source")" -S -o "$name.s" "$source") \
@@ -34,7 +32,7 @@ one() { # one SOURCE OPTION..
 }
 export -f one
 
-find "$sources" -type f \( -name '*.c' -o -name '*.C' -o -name '*.cc' -o -name '*.cpp' -o -iname '*.f90' -o -iname '*.f' \) -print0 | sort -z |
+sources_below "$sources" |
     xargs -0 -P "$(nproc)" -I{} bash -c 'one "$@"' one {} "$@" | sort
 
 number() { # number PATTERN FILES: rows like this, in all notes
