@@ -20,6 +20,7 @@ one() {
     local corpus=$1 level=$2 source=$3 name own more runtime
     shift 3
     name=$corpus.$level.$(basename "$(dirname "$source")")_$(basename "$source")
+    export name
     mkdir -p "$out/work/$name"
     cd "$out/work/$name"
     own=$(options_of "$source")
@@ -39,16 +40,23 @@ one() {
     rm -rf "$out/work/$name"
 }
 
+# ended PRELOAD THREADS: how the program of this directory ends
+ended() {
+    local status=0
+    env OMP_NUM_THREADS="$2" OMP_CANCELLATION=true OMP_WAIT_POLICY=passive OMP_MAX_ACTIVE_LEVELS=3 OMP_DYNAMIC=false LD_PRELOAD="$1" \
+        timeout -k 1 20 ./program ${arguments:-} <"${input:-/dev/null}" >/dev/null 2>&1 || status=$?
+    case $status in 124 | 137) echo timeout ;; *) echo "status $status" ;; esac
+}
+
 # run RUNTIME: the program of this directory with teams of 4 and of 3, traced and replayed
 run() {
-    local threads status preload= end
+    local threads preload= end off
     if [ "$1" = libomp ]; then preload=$libomp; fi
+    rm -f log
+    off=$(ended "$preload" 4)
     for threads in 4 3; do
-        status=0
-        env OMP_NUM_THREADS=$threads OMP_CANCELLATION=true OMP_WAIT_POLICY=passive OMP_MAX_ACTIVE_LEVELS=3 OMP_DYNAMIC=false LD_PRELOAD="$preload" \
-            BOHRALI_LOG="$PWD/log" BOHRALI_FIRST=6 BOHRALI_MOST=1000000 BOHRALI_SHAKE=$threads timeout -k 1 20 ./program ${arguments:-} <"${input:-/dev/null}" >/dev/null 2>&1 ||
-            status=$?
-        case $status in 0) end=0 ;; 124 | 137) end=timeout ;; *) end=other ;; esac
+        end=$(BOHRALI_LOG=$PWD/log BOHRALI_FIRST=6 BOHRALI_MOST=1000000 BOHRALI_SHAKE=$threads ended "$preload" $threads)
+        if [ "$end" != "$off" ]; then echo "$name, $1, $threads threads: ends by $end, and by $off where it is not recorded" >>"$out/ends.txt"; fi
         if [ ! -s log ]; then
             printf '%s\t%s\t%s\t%s\t%s\tno log\n' "$corpus" "$level" "$1" "$source" "$end" >>"$out/runs.tsv"
             return
@@ -103,7 +111,7 @@ counts() {
         { grep '^left out' left.txt || true; } | sed 's/.*, \([0-9]*\) times .*/\1/; /^left/s/.*/1/' | awk '{ n += $1 } END { print n + 0 }'
     } | paste -sd'\t'
 }
-export -f one run counts faults
+export -f one run ended counts faults
 
 part() { # part: of rows, the N-th of every M that PART names
     awk -v part="${PART:-1/1}" -v RS='\0' -v ORS='\0' '{ split(part, p, "/") } NR % p[2] == p[1] % p[2]'
@@ -113,13 +121,13 @@ corpus() { # corpus NAME DIR OPTION..
     local name=$1 dir=$2 level
     shift 2
     for level in O0 O2; do
-        sources_below "$dir" | part | xargs -0 -r -P "${JOBS:-$(nproc)}" -I{} bash -c 'set -u; one "$@"' one "$name" "$level" {} "$@"
+        sources_below "$dir" | part | xargs -0 -r -P "${JOBS:-$(nproc)}" -I{} bash -c 'one "$@" 2>/dev/null' one "$name" "$level" {} "$@"
     done
 }
 
 begun=$SECONDS
 test -f "$out/sources/fasttree/fasttree.c" || fetch "$out/sources"
-rm -rf "$out"/{runs.tsv,faults.tsv,forbidden.txt,failed.txt,work,kept}
+rm -rf "$out"/{runs.tsv,faults.tsv,ends.txt,forbidden.txt,failed.txt,work,kept}
 mkdir -p "$out/own"
 cp "$root"/rust/frontend/tests/programs/{stress,narrow}/* "$root/examples/playtest/playtest.c" "$out/own"
 awk 'BEGIN { srand(1); for (s = 0; s < 40; s++) { printf ">s%d\n", s; for (i = 0; i < 120; i++) printf "%s", substr("ACGT", 1 + int(rand() * 4), 1); print "" } }' >"$out/alignment.fa"
@@ -146,4 +154,6 @@ END { print "corpus\tlevel\truntime\tprograms\tregions\ttraces\tentries\tfilled 
 echo "faults put into charts, instances of these, and how many do not finish any more:"
 awk -F'\t' '{ n[$1] += $2; spoiled[$1] += $3 } END { for (x in n) print x, n[x], spoiled[x] }' "$out/faults.tsv" | sort
 echo "not built: $(grep -c 'not built' "$out/runs.tsv" || true) of $(cut -f4 "$out/runs.tsv" | sort -u | wc -l) sources; $((SECONDS - begun)) s"
-test ! -f "$out/failed.txt" || { echo "failed:"; cat "$out/failed.txt"; }
+for told in ends failed; do
+    test ! -f "$out/$told.txt" || { echo "$told:"; cat "$out/$told.txt"; }
+done

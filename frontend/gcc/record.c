@@ -314,6 +314,7 @@ static bool is_wanted(void)
 
 /* A region as its encountering thread begins it, and as its threads run it. */
 struct start {
+    void *reductions; /* which GOMP_parallel_reductions looks for first in its data */
     void (*body)(void *);
     void *data;
     struct instance *recorded;
@@ -425,7 +426,7 @@ static void *next_of(const char *name)
         if (!next) {                                                                               \
             next = (type(*) declared)next_of(#name);                                               \
         }                                                                                          \
-        struct start own = {.body = body, .data = data};                                           \
+        struct start own = {.reductions = REDUCTIONS_##type, .body = body, .data = data};          \
         start(&own);                                                                               \
         if (own.is_framed) {                                                                       \
             body = enter;                                                                          \
@@ -435,6 +436,9 @@ static void *next_of(const char *name)
         finish(&own);                                                                              \
         END_##type                                                                                 \
     }
+/* The one that returns a number is the one with reductions. */
+#define REDUCTIONS_void NULL
+#define REDUCTIONS_unsigned (*(void **)data)
 #define RETURN_void
 #define END_void
 #define RETURN_unsigned unsigned result =
