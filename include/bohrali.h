@@ -348,7 +348,23 @@ enum bohrali_lock {
  * All threads begin at the region's Start. When all stand at one barrier it opens: that is an entry
  * for each thread, in the order of their numbers, and takes effect with the last of these. Each
  * other entry is one step of one thread. The program replay_trace tells of any trace what becomes
- * of it, and which pairs of nodes it meets. */
+ * of it, and which pairs of nodes it meets.
+ *
+ * How a trace is logged. One counter orders the entries of all threads. A thread draws its place
+ * when it has come to a node: before it waits at a barrier, behind the wait of an ordered. Who
+ * takes a single or a section is logged in one step with the claim, or draws its place before it
+ * claims while who finds it taken draws one behind; otherwise real runs are forbidden. Thread 0 of
+ * an inner team is still a thread of the outer one and belongs into both logs; an entry then needs
+ * how deep it is, since a routine may be called at several depths. Tasks are no flow of the
+ * region's threads.
+ *
+ * For makers of charts. A forbidden entry of a real run shows a chart that is too narrow. In the
+ * reading of an outer region the constructs of deeper ones are plain nodes, and no step leads past
+ * a deeper single, masked, do or sections or round a deeper do or sections again, though a real
+ * thread of the outer team, which is thread 0 of the inner one, does so. The answers for the outer
+ * region are the same; its runs are fewer. A chart for each region, in which deeper regions are
+ * plain code with edges past and round, has these runs. A sections that can be cancelled is no
+ * sections, since its end is left with sections untaken: a do is right for it. */
 
 /* ==== Refusals ================================================================================ */
 

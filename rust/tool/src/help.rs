@@ -32,6 +32,7 @@ What each part can be trusted for:
     region table                          tested; a table is taken exactly when its chart is admitted
     locks over regions and files          put together of proved answers; tested
     charts from source                    tested: expected answers
+    recorded runs                         tested on real programs
     this command                          shows library bytes; decides nothing";
 
 /// The help for all.
