@@ -1,57 +1,22 @@
 /* The recorder, which a program built with `bohrali-gcc --record` is linked with. With BOHRALI_LOG set
  * it writes which nodes the threads of parallel regions come to, in the order of one counter, into
- * that file; docs/FRONTEND.md has its form and what else is set.
- *
- * The file is mapped. An entry's place in it is drawn from the counter, and its kind is written last:
- * where the program is killed in between there is a hole, and what stands before the hole is a prefix
- * of the run. Memory is that of the file, which is bounded; its space is reserved before it is
- * written, so that a full disk ends the log and not the program.
+ * that file (record_log.c); docs/FRONTEND.md has its form and what else is set.
  *
  * Teams are told apart by standing before GOMP_parallel and its kin: threads run their body through
  * `enter`, which keeps a chain of frames. Thread 0 of an inner team is still a thread of the outer
  * one, and its entries go to both. */
 #define _GNU_SOURCE
+#include "record.h"
+
 #include <dlfcn.h>
-#include <errno.h>
-#include <fcntl.h>
 #include <pthread.h>
 #include <sched.h>
-#include <stdarg.h>
-#include <stdatomic.h>
-#include <stdbool.h>
-#include <stdint.h>
 #include <stdio.h>
 #include <stdlib.h>
 #include <string.h>
-#include <sys/file.h>
-#include <sys/mman.h>
 #include <unistd.h>
 
-enum kind { HOLE, AT, CLAIM, REGION, TEAM, OVER, NOTHING };
-
-struct entry {
-    uint64_t function; /* its mark, as the flow has it */
-    uint32_t instance; /* of a region, from 0 */
-    uint32_t node;     /* AT: a node; CLAIM: what was taken, or 0; REGION: its directive; TEAM: threads; OVER: entries that were left out */
-    uint16_t thread;
-    uint8_t depth; /* how many regions deeper than the instance */
-    _Atomic uint8_t kind;
-    uint32_t zero;
-};
-
-struct header {
-    char words[16];
-    uint64_t entries; /* once the log is closed */
-    uint64_t is_closed;
-    uint64_t left_out; /* for want of room */
-    uint64_t zero[3];
-};
-
-_Static_assert(sizeof(struct entry) == 24 && sizeof(struct header) == 64, "the log's form");
-
-enum { MOST_OF_INSTANCE = 1 << 16, CHUNK = 1 << 15, REGIONS = 1 << 12, MOST_DEPTH = 16 };
-#define DEFAULT_MOST (1u << 22)
-#define DEFAULT_FIRST 16
+enum { MOST_OF_INSTANCE = 1 << 16, REGIONS = 1 << 12, MOST_DEPTH = 16 };
 
 struct instance {
     uint32_t number;
@@ -75,21 +40,7 @@ static _Thread_local struct {
     uint32_t directive;
 } ahead;
 
-static struct {
-    int file;
-    struct header *header;
-    struct entry *entries;
-    _Atomic uint64_t used;
-    _Atomic uint64_t reserved, most; /* entries with room in the file, and the most of them */
-    atomic_bool is_on;
-    pthread_mutex_t lock;
-} record = {.file = -1, .lock = PTHREAD_MUTEX_INITIALIZER};
-
-static struct {
-    unsigned long first, shake;
-    const char *only;
-    bool shakes;
-} wanted = {.first = DEFAULT_FIRST};
+static pthread_mutex_t region_lock = PTHREAD_MUTEX_INITIALIZER;
 
 static struct {
     bool is_used;
@@ -99,167 +50,19 @@ static struct {
 
 static atomic_uint instances;
 
-static void say(const char *file, const char *message, ...)
-{
-    va_list values;
-    va_start(values, message);
-    fprintf(stderr, "bohrali: %s: ", file);
-    vfprintf(stderr, message, values);
-    fputs("; nothing is recorded\n", stderr);
-    va_end(values);
-}
-
-/* ---- The file -------------------------------------------------------------------------------- */
-
-/* Whether there is room for an entry; where the disk is full the log ends. */
-static bool reserve(uint64_t place)
-{
-    pthread_mutex_lock(&record.lock);
-    while (place >= record.reserved && place < record.most) {
-        uint64_t next = record.reserved + CHUNK < record.most ? record.reserved + CHUNK : record.most;
-        off_t end = (off_t)(sizeof(struct header) + next * sizeof(struct entry));
-        if (posix_fallocate(record.file, 0, end) == 0) {
-            record.reserved = next;
-        } else {
-            record.most = record.reserved;
-        }
-    }
-    bool is_there = place < record.reserved;
-    pthread_mutex_unlock(&record.lock);
-    return is_there;
-}
-
-/* Draws the next place and writes an entry there; none where the log is full or closed. */
-static struct entry *put(enum kind kind, uint32_t instance, uint16_t thread, uint8_t depth,
-                         uint64_t function, uint32_t node)
-{
-    if (!atomic_load_explicit(&record.is_on, memory_order_relaxed)) {
-        return NULL;
-    }
-    uint64_t place = atomic_fetch_add(&record.used, 1);
-    if (place >= record.reserved && !reserve(place)) {
-        return NULL;
-    }
-    struct entry *entry = &record.entries[place];
-    entry->function = function;
-    entry->instance = instance;
-    entry->node = node;
-    entry->thread = thread;
-    entry->depth = depth;
-    atomic_store_explicit(&entry->kind, kind, memory_order_release);
-    return entry;
-}
-
-/* The same for a thread's entry, as long as its instance has not too many of them. */
+/* Puts a thread's entry, as long as its instance has not too many of them. */
 static struct entry *put_in(struct frame *frame, enum kind kind, unsigned depth, uint64_t function,
                             uint32_t node)
 {
     if (!frame->instance || atomic_fetch_add(&frame->instance->used, 1) >= MOST_OF_INSTANCE) {
         return NULL;
     }
-    return put(kind, frame->instance->number, frame->thread, (uint8_t)depth, function, node);
+    return bohrali_put(kind, frame->instance->number, frame->thread, (uint8_t)depth, function, node);
 }
 
-/* No place is drawn any more; the file gets the length of what was written. */
-__attribute__((destructor)) static void close_log(void)
+void bohrali_leave_team(void)
 {
-    if (!atomic_exchange(&record.is_on, false)) {
-        return;
-    }
-    uint64_t drawn = atomic_fetch_add(&record.used, UINT64_C(1) << 40);
-    pthread_mutex_lock(&record.lock);
-    uint64_t entries = drawn < record.reserved ? drawn : record.reserved;
-    record.most = record.reserved;
-    record.header->entries = entries;
-    record.header->left_out = drawn - entries;
-    record.header->is_closed = 1;
-    /* Nobody writes behind the last place drawn. Where this fails zeros are left there. */
-    if (ftruncate(record.file, (off_t)(sizeof(struct header) + entries * sizeof(struct entry)))) {
-        errno = 0;
-    }
-    pthread_mutex_unlock(&record.lock);
-}
-
-/* The child of a fork has one thread and no team: the log stays the parent's. */
-static void leave_to_parent(void)
-{
-    record.is_on = false;
     bohrali_team = NULL;
-}
-
-static bool number(const char *name, unsigned long most, unsigned long *value)
-{
-    const char *text = getenv(name);
-    if (!text) {
-        return true;
-    }
-    char *end;
-    errno = 0;
-    unsigned long read = strtoul(text, &end, 10);
-    if (!*text || *end || errno || read > most || *text == '-') {
-        say(name, "'%s' found, a number up to %lu expected", text, most);
-        return false;
-    }
-    *value = read;
-    return true;
-}
-
-/* BOHRALI_LOG with the number of the process for %p. */
-static const char *log_path(char *path, size_t most)
-{
-    const char *text = getenv("BOHRALI_LOG");
-    const char *mark = text ? strstr(text, "%p") : NULL;
-    if (!mark) {
-        return text;
-    }
-    snprintf(path, most, "%.*s%ld%s", (int)(mark - text), text, (long)getpid(), mark + 2);
-    return path;
-}
-
-/* Opens a log that no other process writes. */
-static bool open_log(const char *path, uint64_t most)
-{
-    size_t bytes = sizeof(struct header) + most * sizeof(struct entry);
-    record.file = open(path, O_RDWR | O_CREAT | O_CLOEXEC, 0666);
-    if (record.file < 0) {
-        say(path, "%s", strerror(errno));
-        return false;
-    }
-    if (flock(record.file, LOCK_EX | LOCK_NB)) {
-        say(path, "another process writes it");
-        return false;
-    }
-    if (ftruncate(record.file, 0) || posix_fallocate(record.file, 0, sizeof(struct header))) {
-        say(path, "cannot be written");
-        return false;
-    }
-    void *mapped = mmap(NULL, bytes, PROT_READ | PROT_WRITE, MAP_SHARED, record.file, 0);
-    if (mapped == MAP_FAILED) {
-        say(path, "%s", strerror(errno));
-        return false;
-    }
-    record.header = mapped;
-    record.entries = (struct entry *)(record.header + 1);
-    record.most = most;
-    memcpy(record.header->words, "bohrali-log 1\n", 15);
-    return true;
-}
-
-__attribute__((constructor)) static void begin(void)
-{
-    char own[4096];
-    const char *path = log_path(own, sizeof own);
-    if (!path || !*path) {
-        return;
-    }
-    unsigned long most = DEFAULT_MOST;
-    wanted.only = getenv("BOHRALI_ONLY");
-    wanted.shakes = getenv("BOHRALI_SHAKE") != NULL;
-    if (number("BOHRALI_MOST", 1ul << 32, &most) && number("BOHRALI_FIRST", UINT32_MAX, &wanted.first)
-        && number("BOHRALI_SHAKE", UINT32_MAX, &wanted.shake) && open_log(path, most)
-        && pthread_atfork(NULL, NULL, leave_to_parent) == 0) {
-        record.is_on = true;
-    }
 }
 
 /* ---- Instances of regions -------------------------------------------------------------------- */
@@ -267,10 +70,10 @@ __attribute__((constructor)) static void begin(void)
 /* Whether BOHRALI_ONLY, a list of NAME and NAME@NUMBER with commas between them, asks for it. */
 static bool is_named(const char *name, unsigned long number)
 {
-    for (const char *item = wanted.only; *item;) {
+    for (const char *item = bohrali_wanted.only; *item;) {
         size_t length = strcspn(item, ","), own = strcspn(item, ",@");
         if (own == strlen(name) && strncmp(item, name, own) == 0) {
-            bool is_it = own == length ? number <= wanted.first
+            bool is_it = own == length ? number <= bohrali_wanted.first
                                        : strtoul(item + own + 1, NULL, 10) == number;
             if (is_it) {
                 return true;
@@ -285,7 +88,7 @@ static bool is_named(const char *name, unsigned long number)
 static unsigned long times_met(void)
 {
     unsigned long met = 0;
-    pthread_mutex_lock(&record.lock);
+    pthread_mutex_lock(&region_lock);
     uint64_t start = ahead.function ^ ahead.directive;
     for (unsigned k = 0; k < REGIONS && !met; k++) {
         unsigned i = (unsigned)((start + k) % REGIONS);
@@ -298,18 +101,18 @@ static unsigned long times_met(void)
             met = ++regions[i].met;
         }
     }
-    pthread_mutex_unlock(&record.lock);
+    pthread_mutex_unlock(&region_lock);
     return met;
 }
 
 /* Whether the region ahead is recorded this time. */
 static bool is_wanted(void)
 {
-    if (!ahead.name || !atomic_load_explicit(&record.is_on, memory_order_relaxed)) {
+    if (!ahead.name || !atomic_load_explicit(&bohrali_is_recording, memory_order_relaxed)) {
         return false;
     }
     unsigned long met = times_met();
-    return met && (wanted.only ? is_named(ahead.name, met) : met <= wanted.first);
+    return met && (bohrali_wanted.only ? is_named(ahead.name, met) : met <= bohrali_wanted.first);
 }
 
 /* A region as its encountering thread begins it, and as its threads run it. */
@@ -327,7 +130,7 @@ static void start(struct start *start)
     if (is_wanted()) {
         start->own.number = atomic_fetch_add(&instances, 1);
         start->recorded = &start->own;
-        put(REGION, start->own.number, 0, 0, ahead.function, ahead.directive);
+        bohrali_put(REGION, start->own.number, 0, 0, ahead.function, ahead.directive);
     }
     ahead.name = NULL;
     start->is_framed = start->recorded || bohrali_team;
@@ -337,7 +140,7 @@ static void finish(struct start *start)
 {
     if (start->recorded) {
         unsigned used = start->own.used;
-        put(OVER, start->own.number, 0, 0, 0, used > MOST_OF_INSTANCE ? used - MOST_OF_INSTANCE : 0);
+        bohrali_put(OVER, start->own.number, 0, 0, 0, used > MOST_OF_INSTANCE ? used - MOST_OF_INSTANCE : 0);
     }
 }
 
@@ -350,7 +153,7 @@ static void enter(void *data)
     struct start *start = data;
     struct frame frame = {start->recorded, bohrali_team, (uint16_t)omp_get_thread_num(), 0};
     if (frame.instance && frame.thread == 0) {
-        put(TEAM, frame.instance->number, 0, 0, 0, (uint32_t)omp_get_num_threads());
+        bohrali_put(TEAM, frame.instance->number, 0, 0, 0, (uint32_t)omp_get_num_threads());
     }
     bohrali_team = frame.instance || frame.outer ? &frame : NULL;
     start->body(start->data);
@@ -363,11 +166,11 @@ static void enter(void *data)
 static void shake(void)
 {
     static _Thread_local uint32_t state, calls;
-    if (!wanted.shakes || ++calls > 200000) {
+    if (!bohrali_wanted.shakes || ++calls > 200000) {
         return;
     }
     if (!state) {
-        state = (uint32_t)((uintptr_t)&state >> 6) * 2654435761u + (uint32_t)wanted.shake * 40503u;
+        state = (uint32_t)((uintptr_t)&state >> 6) * 2654435761u + (uint32_t)bohrali_wanted.shake * 40503u;
         state |= 1;
     }
     state ^= state << 13;

@@ -36,7 +36,7 @@ for directory in "$here" "$here/../lib/bohrali"; do
     plugin=$directory/flow-$version.so
     if [ -f "$plugin" ]; then
         if [ -n "$record" ] && [ -z "$shared" ]; then
-            set -- "$@" "-L$directory" -lbohrali-record -ldl -lpthread
+            set -- "$@" "-L$directory" -lbohrali-record -lgomp -ldl -lpthread
         fi
         exec "$compiler" "-fplugin=$plugin" "$@"
     fi

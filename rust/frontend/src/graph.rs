@@ -28,6 +28,8 @@ pub(crate) struct Node {
     pub via: Set<SourceLine>,
     /// Empty where a recorded run has no entry for it.
     pub records: Set<Record>,
+    /// A thread may come through it without an entry.
+    pub is_passed: bool,
 }
 
 #[derive(Clone, Debug, Default)]

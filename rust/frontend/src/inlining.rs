@@ -237,6 +237,8 @@ fn copy(
                 last: node.lines.iter().copied().max(),
                 via: via.clone(),
                 records: record(function, number, node).into_iter().collect(),
+                // Who has no turn of a loop does not come to its close.
+                is_passed: node.kind == NodeKind::Close || record(function, number, node).is_none(),
             }),
         );
     }

@@ -151,5 +151,6 @@ fn absorb(graph: &mut Graph, into: usize, gone: usize) {
         node.via.extend(&gone.via);
         node.calls.extend(&gone.calls);
         node.records.extend(&gone.records);
+        node.is_passed &= gone.is_passed;
     }
 }

@@ -1,9 +1,12 @@
 //! What a recorded run has for the nodes of a region's chart: a text beside the table.
 //!
-//!     bohrali-map 1
-//!     region FUNCTION DIRECTIVE
-//!     node FUNCTION:NODE:DEPTH ..    for each node of the chart, in order
-//!     end NODES                      0 where the region has no chart
+//! ```text
+//! bohrali-map 1
+//! region FUNCTION DIRECTIVE
+//! node FUNCTION:NODE:DEPTH ..    for each node of the chart, in order; 'pass' in place of 'node' where
+//!                                a thread may come through it without an entry
+//! end NODES                      0 where the region has no chart
+//! ```
 
 use crate::problem::Problem;
 use crate::reader::{number, Cells, Outcome};
@@ -19,13 +22,21 @@ pub(crate) struct Marked {
     pub depth: u8,
 }
 
+/// What a recorded run has for a node of a chart.
+#[derive(Clone, Debug, PartialEq, Eq)]
+pub(crate) struct Mapped {
+    pub entries: Vec<Marked>,
+    /// A thread may come through without an entry.
+    pub is_passed: bool,
+}
+
 #[derive(Clone, Debug, Default, PartialEq, Eq)]
 pub struct Map {
     /// The region's parallel.
     pub(crate) function: u64,
     pub(crate) directive: u32,
-    /// By node of the chart; nothing for a node that leaves no entry.
-    pub(crate) nodes: Vec<Vec<Marked>>,
+    /// By node of the chart.
+    pub(crate) nodes: Vec<Mapped>,
 }
 
 impl Map {
@@ -35,8 +46,8 @@ impl Map {
             self.function, self.directive
         );
         for node in &self.nodes {
-            text += "node";
-            for x in node {
+            text += if node.is_passed { "pass" } else { "node" };
+            for x in &node.entries {
                 write!(text, " {:016x}:{}:{}", x.function, x.node, x.depth).ok();
             }
             text.push('\n');
@@ -80,10 +91,13 @@ impl Map {
                 self.directive = number(cells.next("a directive")?)?;
                 cells.end()?;
             }
-            (2.., "node") => {
-                let mut node = Vec::new();
+            (2.., "node" | "pass") => {
+                let mut node = Mapped {
+                    entries: Vec::new(),
+                    is_passed: first == "pass",
+                };
                 while let Some(cell) = cells.more() {
-                    node.push(marked(cell)?);
+                    node.entries.push(marked(cell)?);
                 }
                 self.nodes.push(node);
             }

@@ -25,8 +25,8 @@ pub(crate) struct Charted {
     /// What calls come to that are not opened, in all and at each node.
     pub calls: BTreeSet<Target>,
     pub calls_at: Vec<Vec<Target>>,
-    /// Of each node what a recorded run has for it.
-    pub records: Vec<Vec<Record>>,
+    /// Of each node what a recorded run has for it, and whether a thread may come through without that.
+    pub records: Vec<(Vec<Record>, bool)>,
     /// Routines with barriers or constructs of the team that are not opened, and why.
     pub closed: BTreeMap<usize, &'static str>,
     /// Criticals of the region's code, by function and directive; and those that the chart does not have.
@@ -62,7 +62,10 @@ pub(crate) fn records(words: &Words, shape: Shape) -> Result<Charted, String> {
             .collect(),
         last: nodes.iter().map(|x| x.last).collect(),
         calls_at: nodes.iter().map(|x| x.calls.iter().collect()).collect(),
-        records: nodes.iter().map(|x| x.records.iter().collect()).collect(),
+        records: nodes
+            .iter()
+            .map(|x| (x.records.iter().collect(), x.is_passed))
+            .collect(),
         chart,
         names,
         lessened: shape.constructs.lessened,

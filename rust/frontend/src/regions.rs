@@ -6,7 +6,7 @@ use crate::charting::chart;
 use crate::flow::{DirectiveKind, FlowNode, NodeKind, SourceLine};
 use crate::graph::Record;
 use crate::inlining::Parallel;
-use crate::map::{Map, Marked};
+use crate::map::{Map, Mapped, Marked};
 use crate::notes::{Key, Notes};
 use crate::program::{Program, Target};
 use crate::records::{critical_name, Charted};
@@ -88,7 +88,10 @@ impl Program {
                 node: x.node as u32,
                 depth: x.depth.min(usize::from(u8::MAX)) as u8,
             };
-            let node = |x: &Vec<Record>| x.iter().map(marked).collect();
+            let node = |(records, is_passed): &(Vec<Record>, bool)| Mapped {
+                entries: records.iter().map(marked).collect(),
+                is_passed: *is_passed,
+            };
             x.records.iter().map(node).collect()
         });
         Map {

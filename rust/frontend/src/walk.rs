@@ -36,7 +36,8 @@ pub(crate) struct Walks<'a> {
     next: Vec<Vec<u8>>,
     /// The nodes that an entry may mean.
     nodes: HashMap<Marked, Vec<u8>>,
-    mute: Vec<bool>,
+    /// By node, whether a thread may come through it without an entry.
+    passed: Vec<bool>,
     ways: BTreeMap<u8, Ways>,
 }
 
@@ -59,15 +60,15 @@ impl<'a> Walks<'a> {
     pub fn new(chart: &'a Chart, map: &Map) -> Walks<'a> {
         let mut nodes: HashMap<Marked, Vec<u8>> = HashMap::new();
         // Nobody comes to Start.
-        for (node, records) in (0..=u8::MAX).zip(&map.nodes).skip(1) {
-            for record in records {
-                nodes.entry(*record).or_default().push(node);
+        for (node, mapped) in (0..=u8::MAX).zip(&map.nodes).skip(1) {
+            for entry in &mapped.entries {
+                nodes.entry(*entry).or_default().push(node);
             }
         }
         Walks {
             next: steps(chart),
             nodes,
-            mute: map.nodes.iter().map(Vec::is_empty).collect(),
+            passed: map.nodes.iter().map(|x| x.is_passed).collect(),
             ways: BTreeMap::new(),
             chart,
         }
@@ -85,15 +86,10 @@ impl<'a> Walks<'a> {
         self.chart.node(node).map(|x| x.kind)
     }
 
-    fn is_mute(&self, node: u8) -> bool {
-        self.mute.get(usize::from(node)).copied().unwrap_or(false)
-    }
-
-    /// Whether a thread may have passed a node without an entry. Where a construct ends is not always a
-    /// place of its own.
+    /// Whether a thread may have passed a node without an entry.
     fn is_passable(&self, node: u8) -> bool {
-        let kind = self.kind(node);
-        kind != Some(NodeKind::Barrier) && (self.is_mute(node) || kind == Some(NodeKind::End))
+        let is_passed = self.passed.get(usize::from(node)).copied();
+        self.kind(node) != Some(NodeKind::Barrier) && is_passed.unwrap_or(false)
     }
 
     /// All nodes that can be next after a node, with the fewest in between.
