@@ -44,5 +44,16 @@ for source in */*; do
     compile O2 "$source"
 done
 cd ../../..
+
+# Two sources of one base name in one command that links: a flow each.
+linked=$(mktemp -d)
+mkdir "$linked/a" "$linked/b"
+echo 'int main(void) { return 0; }' >"$linked/a/x.c"
+echo 'void other(void) {}' >"$linked/b/x.c"
+(cd "$linked" && BOHRALI_GCC=$gcc "$wrappers/bohrali-gcc" -fopenmp a/x.c b/x.c -o p)
+grep -qx 'unit a/x.c' "$linked/p-a#x.c.flow"
+grep -qx 'unit b/x.c' "$linked/p-b#x.c.flow"
+rm -r "$linked"
+
 BOHRALI_FLOWS=$flows cargo test --offline --locked --quiet -p frontend --test answers
 echo "frontend: $(find "$flows" -name '*.flow' | wc -l) flows of $gcc $("$gcc" -dumpfullversion) give the answers that are expected"

@@ -9,10 +9,38 @@ namespace {
 flow::text unit;
 bool begun, failed;
 
-/* As GCC names what it writes beside an object: obj/a.o gives obj/a.flow. */
+/* Whether the command links: GCC's names for what it writes then begin with the program's, as p-,
+ * and the last part of a source's path follows. */
+bool links()
+{
+    size_t length = dump_dir_name ? strlen(dump_dir_name) : 0;
+    return length && !IS_DIR_SEPARATOR(dump_dir_name[length - 1]);
+}
+
+/* A path as a part of a file's name, for each path another. */
+std::string in_name(const std::string &path)
+{
+    std::string name;
+    for (char byte : path) {
+        switch (byte) {
+        case '/': name += '#'; break;
+        case '#': name += "%23"; break;
+        case '%': name += "%25"; break;
+        default: name += byte;
+        }
+    }
+    return name;
+}
+
+/* Beside the object, as GCC names its own: obj/a.o gives obj/a.flow. Sources of a command that links
+ * have none, and may be of one base name: dir/a.c in the program p gives p-dir#a.c.flow. */
 std::string path()
 {
-    return std::string(aux_base_name) + ".flow";
+    std::string base = aux_base_name;
+    if (links()) {
+        base = dump_dir_name + in_name(main_input_filename);
+    }
+    return base + ".flow";
 }
 
 /* A build goes on without the flow; the reader then knows the unit's routines by name alone. */
