@@ -13,10 +13,13 @@ let R, G, S;                      // a file, one of its regions, the sheet for a
 let L = {};                       // layout
 let run = null;                   // the run that is shown: {team, moments, meet, at}
 let cursor = null, spot = null, timer = null;
-const st = { r: 0, g: 0, s: 0, a: null, b: null, n: null, t: null, q: "", wide: false };
+const st = { r: 0, g: 0, s: 0, a: null, b: null, n: null, t: null, q: "", wide: false, all: false };
 
 function title(region) {
-  return region.file.split("/").pop();
+  return region.name || region.file.split("/").pop();
+}
+function number(x) {
+  return x.toLocaleString("en");
 }
 function colourOf(c) {
   const kind = R.constructs[c].kind;
@@ -42,7 +45,12 @@ function isBarrier(i) {
   return G.barrierSet.has(i);
 }
 function isOutside(i) {
-  return G.inside[i] !== "1";
+  return !G.inside[i];
+}
+/* The master around a node: its number, what words call it, and its thread. */
+function masterOf(i) {
+  const around_ = around(i);
+  return G.masters.find(x => around_.includes(x[0]));
 }
 function counts(c) {
   return G.countSet.has(c);
@@ -54,11 +62,11 @@ function kindOf(a, b) {
 function answer(a, b) {
   return kindOf(a, b).answer;
 }
-function nodeName(i) {
-  const [kind, own] = R.nodes[i];
-  if (kind === "o") return R.constructs[own].label + " begins";
-  if (kind === "e") return R.constructs[own].label + " ends";
-  if (kind === "b") return i === 0 ? "Start" : i === R.n - 1 ? "Finish" : "barrier";
+function nodeName(i, region = R) {
+  const [kind, own] = region.nodes[i];
+  if (kind === "o") return region.constructs[own].label + " begins";
+  if (kind === "e") return region.constructs[own].label + " ends";
+  if (kind === "b") return i === 0 ? "Start" : i === region.nodes.length - 1 ? "Finish" : "barrier";
   return "plain";
 }
 function regionName(g) {
@@ -91,6 +99,41 @@ function whereText(i) {
 function betweenText(i) {
   return isBarrier(i) || isOutside(i) ? "" : G.starts[i].join(" ") + " → " + G.ends[i].join(" ");
 }
+/* Packed text: digits of 64, and copies of earlier text, each with a mark that says how many digits tell how far back it is and how long. */
+const DIGIT = new Uint8Array(128), MARK = new Int8Array(128).fill(-1);
+[..."0123456789ABCDEFGHIJKLMNOPQRSTUVWXYZabcdefghijklmnopqrstuvwxyz-_"].forEach((x, i) => { DIGIT[x.charCodeAt(0)] = i; });
+[..."!#$%()*+"].forEach((x, i) => { MARK[x.charCodeAt(0)] = i; });
+const codes = text => new TextEncoder().encode(text);
+function value(text, at, wide) {
+  let x = 0;
+  for (let i = at; i < at + wide; i++) x = x * 64 + DIGIT[text[i]];
+  return x;
+}
+function unpacked(text) {
+  const from = codes(text);
+  let out = new Uint8Array(from.length * 2), size = 0;
+  for (let i = 0; i < from.length;) {
+    const letter = from[i++], mark = MARK[letter], far = mark % 4 + 1, long = mark < 4 ? 1 : 2;
+    const back = mark < 0 ? 0 : value(from, i, far), count = mark < 0 ? 1 : value(from, i + far, long);
+    if (size + count > out.length) {
+      const larger = new Uint8Array((size + count) * 2);
+      larger.set(out);
+      out = larger;
+    }
+    for (let k = 0; k < count; k++, size++) out[size] = back ? out[size - back] : letter;
+    if (back) i += far + long;
+  }
+  return out.subarray(0, size);
+}
+/* The kinds of the cells of all sheets, a grid each. */
+function grids(text, wide, count) {
+  const cells = new Uint16Array(R.n * R.n * count);
+  for (let i = 0, at = 0; i < text.length; i += wide + 1) {
+    const kind = value(text, i, wide), end = at + value(text, i + wide, 1);
+    while (at < end) cells[at++] = kind;
+  }
+  return Array.from({ length: count }, (_, s) => cells.subarray(s * R.n * R.n, (s + 1) * R.n * R.n));
+}
 /* Makes what is looked up often out of the data, once. */
 function prepare(r, g, s) {
   R = DATA.regions[r];
@@ -99,13 +142,13 @@ function prepare(r, g, s) {
   if (!G.barrierSet) {
     G.barrierSet = new Set(G.barriers);
     G.countSet = new Set(G.counts);
-    G.decoded = [];
+    const numbers = text => Array.from({ length: text.length / 2 }, (_, i) => value(text, 2 * i, 2));
+    for (const name of ["inside", "distances", "starts", "ends"]) G[name] = numbers(unpacked(G[name]));
+    for (const name of ["starts", "ends"]) G[name] = G[name].map(x => G.sets[x]);
+    G.grids = grids(unpacked(G.cells), G.wide, G.sheets.length);
     G.start = G.region === NONE ? 0 : R.constructs[G.region].begin;
     G.finish = G.region === NONE ? R.n - 1 : R.constructs[G.region].end;
   }
   S = G.sheets[s];
-  if (!S.grid) {
-    S.grid = new Uint16Array(R.n * R.n);
-    for (let i = 0, at = 0; i < S.cells.length; i += 2) S.grid.fill(S.cells[i], at, at += S.cells[i + 1]);
-  }
+  S.grid = G.grids[s];
 }

@@ -1,6 +1,9 @@
 /* What is laid over the first file: nevers lost or gained since an older one, a recorded run, accesses that race. */
 const MOST_SHOWN = 200, MOST_MOMENTS = 2000;
 
+function isLaid() {
+  return !!(DATA.changes || DATA.recorded || DATA.races);
+}
 function changes() {
   return DATA.changes && st.r === 0 && S.size === null ? DATA.changes.filter(x => x.region === G.region) : [];
 }
@@ -79,7 +82,7 @@ function showRecorded() {
   st.a = st.b = st.n = null;
   clearMarks();
   drawArcs();
-  const { team, moments } = decoded(told.run);
+  const { team, moments } = decoded([told.run[0], codes(told.run[1])]);
   run = { team, moments: moments.slice(0, MOST_MOMENTS), meet: null, at: 0 };
   $("panel").innerHTML = BACK + `<h2>The recorded run</h2><p>${esc(told.words)}</p>` + (moments.length > MOST_MOMENTS ? `<p class="hint">The first ${MOST_MOMENTS} steps are shown.</p>` : "") + stepsHtml(null, null);
   place();

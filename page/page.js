@@ -67,7 +67,17 @@ function onPanel(data) {
   setStep("by" in data ? run.at + +data.by : "meet" in data ? run.meet : +data.step);
 }
 function onHeader() {
-  $("region").addEventListener("change", e => choose(...e.target.value.split(",").map(Number), 0));
+  $("region").addEventListener("change", e => e.target.value === "all" ? showAll() : choose(...e.target.value.split(",").map(Number), 0));
+  $("found").addEventListener("click", e => { if (e.target.closest("[data-others]")) showAll(); });
+  $("all").addEventListener("click", e => {
+    const x = e.target.closest("[data-region],[data-node]");
+    if (!x) return;
+    const [r, to] = (x.dataset.region || x.dataset.node).split(",").map(Number);
+    choose(r, x.dataset.region ? to : 0, 0);
+    if (st.q) find();
+    if (x.dataset.node) pickNode(to), scrollTo(to, to);
+    $("board").focus({ preventScroll: true });
+  });
   $("size").addEventListener("click", e => { const x = e.target.closest("button"); if (x) setSize(+x.dataset.s); });
   $("zoom").addEventListener("click", e => {
     const x = e.target.closest("button");
@@ -119,7 +129,11 @@ function onRunKey(e) {
 function onKey(e) {
   if (e.target.matches("input,select") || e.ctrlKey || e.metaKey || e.altKey) return;
   const onBoard = document.activeElement === $("board");
-  if (e.key === "Escape") {
+  if (st.all && e.key !== "/") return;
+  if (e.key === "Escape" && onBoard && isOverview() && st.a === null && st.n === null) {
+    showAll();
+    $("all").querySelector("button")?.focus();
+  } else if (e.key === "Escape") {
     if (st.a !== null) cursor = [st.a, st.b];
     showHome();
     $("board").focus({ preventScroll: true });
@@ -139,12 +153,12 @@ function checkPage() {
       cells++;
       const text = kind.words.map(x => filled(x, a, b)).join("");
       const lacks = !text || /undefined|NaN|null/.test(text) || ((v >= 2 && v <= 5 || v === 7) && !kind.constructs.length);
-      const shown = v !== 0 || tooLarge(kind) || findRun(a, b);
+      const shown = v !== 0 || tooLarge(kind) || soonest().runs[a * R.n + b] >= 0;
       if (v === 0) zeros++;
       if (lacks || !shown) bad.push([r, g, s, a, b, v]);
     }
   })));
-  DATA.regions.forEach(x => x.readings.forEach(y => { runs += y.runs.length; }));
+  DATA.regions.forEach((x, r) => x.readings.forEach((_, g) => { prepare(r, g, 0); runs += allRuns().length; }));
   prepare(st.r, st.g, st.s);
   return { count: bad.length, cells, zeros, runs, bad: bad.slice(0, 10) };
 }
@@ -152,7 +166,9 @@ onMouse();
 onHeader();
 document.addEventListener("keydown", onKey);
 let resizing;
-addEventListener("resize", () => { clearTimeout(resizing); resizing = setTimeout(relayout, 120); });
+addEventListener("resize", () => { clearTimeout(resizing); resizing = setTimeout(() => onScreen || relayout(), 120); });
+addEventListener("beforeprint", toPaper);
+addEventListener("afterprint", fromPaper);
 addEventListener("hashchange", load);
 load();
 if (/[#&]check=1/.test(FIRST_HASH)) document.documentElement.dataset.check = JSON.stringify(checkPage());

@@ -1,4 +1,5 @@
 /* The panel: a pair, a node, or the whole region. */
+const FOOT = `<footer>Answers, starts, ends and distances are the proved library's; each run was certified by a proved call. Words say what Phases and the construct records say; they are tested. This page decides nothing.</footer>`;
 const BACK = `<button class="back" data-home>← overview</button>`;
 function chip(i, common) {
   return `<button class="chip${common ? " common" : ""}" data-go="${i}">${i}</button>`;
@@ -15,11 +16,14 @@ function barriers(list) {
   const last = list.length - 1, text = list.map((x, i) => (i === 0 ? "" : i === last ? " and " : ", ") + chip(x)).join("");
   return (last ? "barriers " : "barrier ") + text;
 }
-/* A sentence with its slots filled: a and b the nodes, s and t their starts, e and f their ends, S and E what is common. */
+/* A sentence with its slots filled: a and b the nodes, s and t their starts, e and f their ends, S and E what is common, m and n the
+   masters around them, x and y the threads of these, z the size of the team, p the path by which a construct returns. */
 function filled(text, a, b) {
   const slots = {
     a: () => chip(a), b: () => chip(b), s: () => barriers(G.starts[a]), t: () => barriers(G.starts[b]), e: () => barriers(G.ends[a]),
     f: () => barriers(G.ends[b]), S: () => barriers(common(G.starts[a], G.starts[b])), E: () => barriers(common(G.ends[a], G.ends[b])),
+    m: () => esc(masterOf(a)[1]), n: () => esc(masterOf(b)[1]), x: () => masterOf(a)[2], y: () => masterOf(b)[2], z: () => S.size,
+    p: () => G.back[kindOf(a, b).constructs[0]].join(", "),
   };
   return text.split(/\u0001(.)/).map((part, i) => i % 2 ? slots[part]() : esc(part)).join("");
 }
@@ -72,7 +76,7 @@ function markPair(a, b, kind) {
     if (inA && inB) mark(i, null, a === b ? word : "both " + word, "AB");
     else mark(i, null, (inA ? "A " : "B ") + word, inA ? "A" : "B");
   }
-  kind.constructs.forEach(markConstruct);
+  kind.constructs.forEach(x => markConstruct(x === "m" ? masterOf(a)[0] : x === "n" ? masterOf(b)[0] : x));
   const path = kind.answer === 0 && kind.constructs.length ? G.back[kind.constructs[0]] || [] : [], hot = new Set();
   path.forEach((x, i) => {
     mark(x, "path");
@@ -122,22 +126,26 @@ function openPanel(i) {
   return `<h3>Between barriers</h3><table class="ev"><tr><th>starts</th><th>ends</th><th>distance</th></tr><tr><td>${chips(G.starts[i])}</td><td>${chips(G.ends[i])}</td><td>${edges} edge${edges === 1 ? "" : "s"}</td></tr></table>` +
     `<h3>Another thread may be at</h3><p>${ranges(by[0]) || `<span class="hint">no node at all</span>`}</p><h3>And never at</h3><table class="legend">${nevers}</table>`;
 }
+/* How many pairs have each answer. */
+function countPairs() {
+  const count = SHORT.map(() => 0);
+  for (let a = 0; a < R.n; a++) for (let b = a; b < R.n; b++) if (answer(a, b) !== NONE) count[answer(a, b)]++;
+  return count;
+}
 function showHome() {
   st.a = st.b = st.n = st.t = run = null;
   stop();
   clearMarks();
   drawTokens();
   drawArcs();
-  const count = SHORT.map(() => 0), number = x => x.toLocaleString("en");
-  for (let a = 0; a < R.n; a++) for (let b = a; b < R.n; b++) if (answer(a, b) !== NONE) count[answer(a, b)]++;
-  const all = count.reduce((x, y) => x + y, 0);
+  const count = countPairs(), all = count.reduce((x, y) => x + y, 0);
   const legend = count.map((x, v) => `<tr data-spot="${v}"><td style="width:34px">${swatch(v)}</td><td><b>${SHORT[v]}</b> <span class="hint">${esc(DATA.answers[v])}</span></td><td class="ct">${number(x)}</td></tr>`);
   const none = `<tr><td><div class="sw" style="background:repeating-linear-gradient(135deg,var(--hatch) 0 1px,var(--hatchbg) 1px 5px)"></div></td><td><span class="hint">a barrier, or outside the region</span></td><td></td></tr>`;
   $("panel").innerHTML = `<h2 title="${esc(R.file)}">${esc(title(R))}, ${regionName(G.region)}</h2><p>${number(count[0])} of ${number(all)} pairs of nodes may meet in ${sizeWords()}; for all others no run that finishes has two threads there together.</p>` +
-    `<div class="stack" aria-hidden="true">${count.map((x, v) => x ? `<div style="flex:${x};background:var(--c${v})"></div>` : "").join("")}</div>` +
-    `<table class="legend">${legend.join("")}${none}</table><p><button class="chip" data-csv>sheet as CSV</button></p>${layersHtml()}<h3>Criticals</h3>${locksHtml()}` +
-    `<h3>How to read it</h3><p class="hint">The rows are tab one. <b>Between</b> is the barriers a node starts from and ends at. A bar has the colour of the never that its construct gives. The sheet is tab eleven. Click a <b>cell</b> for its reason, a <b>row</b> for its node. Arrow keys move over the sheet, <kbd>Enter</kbd> explains, <kbd>n</kbd> shows the node, <kbd>/</kbd> searches, <kbd>Esc</kbd> comes back here.</p>` +
-    `<footer>Answers, starts, ends and distances are the proved library's; each run was certified by a proved call. Words say what Phases and the construct records say; they are tested. This page decides nothing.</footer>`;
+    stackHtml(count) +
+    `<table class="legend">${legend.join("")}${none}</table><p><button class="chip screen" data-csv>sheet as CSV</button></p>${layersHtml()}<h3>Criticals</h3>${locksHtml()}${R.notes.length ? `<h3>Notes</h3>${notesHtml(R.notes)}` : ""}` +
+    `<h3>How to read it</h3><p class="hint">The rows are tab one. <b>Between</b> is the barriers a node starts from and ends at. A bar has the colour of the never that its construct gives. The sheet is tab eleven. <span class="screen">Click a <b>cell</b> for its reason, a <b>row</b> for its node. Arrow keys move over the sheet, <kbd>Enter</kbd> explains, <kbd>n</kbd> shows the node, <kbd>/</kbd> searches, <kbd>Esc</kbd> comes back here.</span></p>` +
+    FOOT;
   $("panel").scrollTop = 0;
   place();
   save();
@@ -146,13 +154,16 @@ function locksHtml() {
   if (!R.locks.length) return `<p class="hint">This region has none.</p>`;
   const lock = x => {
     const own = R.constructs[x.construct], pair = x.pair && `<button class="chip" data-pair="${x.pair},${x.region}">nodes ${x.pair[0]} and ${x.pair[1]}</button>`;
-    return `<div class="lock"><span class="kw" style="background:var(--crit);color:var(--panel)">${esc(own.label)}</span>${chip(own.begin)} to ${chip(own.end)}<br>` +
-      (x.can_go ? `<span class="v drop">✓ lock can go</span>` : `<span class="v need">● needed</span> ${pair || ""}`) + `<br><small>${esc(x.words)}</small></div>`;
+    const verdict = { "can go": `<span class="v drop">✓ lock can go</span>`, "needed": `<span class="v need">● needed</span> ${pair || ""}`, "not known": `<span class="v">? not known</span>` }[x.lock];
+    return `<div class="lock"><span class="kw" style="background:var(--crit);color:var(--panel)">${esc(own.label)}</span>${chip(own.begin)} to ${chip(own.end)}<br>${verdict}<br><small>${esc(x.words)}</small></div>`;
   };
-  return R.locks.map(lock).join("") + `<p class="hint">For teams of any size, one team of each file at a time. Names are program-wide: criticals of the same name in code that the files do not hold count for nothing here. Where an edge is added, ask again.</p>`;
+  const about = DATA.program ? "In every region of the program, for teams of any size." :
+    "For teams of any size, one team of each file at a time. Names are program-wide: criticals of the same name in code that the files do not hold count for nothing here. Where an edge is added, ask again.";
+  return R.locks.map(lock).join("") + `<p class="hint">${about}</p>`;
 }
 function render(step) {
-  if (st.n !== null) showNode();
+  if (st.all) showAll();
+  else if (st.n !== null) showNode();
   else if (st.a !== null) showPair(step);
   else showHome();
 }

@@ -1,7 +1,7 @@
 /* The rows: nodes with code and lines, constructs as bars, edges as arcs. */
-function layout() {
-  const n = R.n, avail = $("board").clientWidth;
-  const rh = n <= 9 ? 46 : n <= 16 ? 36 : n <= 60 ? 23 : 16, fs = n <= 9 ? 15.5 : n <= 16 ? 14 : n <= 60 ? 12.5 : 11;
+function layout(paper) {
+  const n = R.n, rh = paper ? paperRow(n) : n <= 9 ? 46 : n <= 16 ? 36 : n <= 60 ? 23 : 16;
+  const fs = rh >= 46 ? 15.5 : rh >= 34 ? 14 : rh >= 20 ? 12.5 : rh >= 16 ? 11 : rh >= 14 ? 10 : 9;
   const far = R.edges.filter(([a, b]) => b !== a + 1).map(x => x.slice());
   const fwd = far.filter(x => x[1] > x[0]), bwd = far.filter(x => x[1] <= x[0]);
   const nf = lanes(fwd), nb = lanes(bwd), lane = Math.min(n <= 16 ? 13 : 9, 64 / Math.max(nf, nb, 1));
@@ -10,10 +10,10 @@ function layout() {
   const step = n <= 60 ? 13 : 9, textX = nestX + depth * step + 10;
   const files = new Set(R.nodes.flatMap(x => sourceIn(x[2]).map(y => y.file)));
   L = { n, rh, fs, fwd, bwd, lane, bx, numW, spine, nestX, step, textX, head: 46, H: n * rh, file: files.size === 1 ? [...files][0] : null };
-  columns(avail);
+  columns(paper ? PAPER.width : $("board").clientWidth, paper ? PAPER.cell : n > 100 ? 2.75 : 6);
 }
 /* How wide the texts and the cells are. */
-function columns(avail) {
+function columns(avail, least) {
   const { n, rh } = L, pen = document.createElement("canvas").getContext("2d");
   pen.font = L.fs + "px system-ui,sans-serif";
   const wide = (list, lo, hi) => Math.ceil(Math.max(lo, Math.min(hi, Math.max(...list.map(x => pen.measureText(x).width)))));
@@ -28,7 +28,7 @@ function columns(avail) {
   }
   L.leftW = L.textX + L.textW + L.whereW + L.btwW + 12;
   const fit = Math.floor((avail - L.leftW - 16) / n * 4) / 4;
-  L.cw = st.wide ? rh : Math.max(n > 100 ? 2.75 : 6, Math.min(rh, fit));
+  L.cw = st.wide ? rh : Math.max(least, Math.min(rh, fit));
   L.W = Math.ceil(n * L.cw);
 }
 /* Gives each edge the nearest lane in which it crosses no other, and tells how many lanes there are. */

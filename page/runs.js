@@ -1,12 +1,20 @@
 /* Certified runs: found for a pair, and stepped. */
 
-function decode(k) {
-  return G.decoded[k] = G.decoded[k] || decoded(G.runs[k]);
+/* Each run as its threads and its steps. */
+function allRuns() {
+  if (G.each) return G.each;
+  const text = unpacked(G.runs), END = ";".charCodeAt(0);
+  G.each = [];
+  for (let at = 0, end; at < text.length; at = end + 1) {
+    end = text.indexOf(END, at);
+    G.each.push([value(text, at, 1), text.subarray(at + 1, end)]);
+  }
+  return G.each;
 }
 /* The moments of a run: where each thread stands, and how it came to be. */
-function decoded([team, trace]) {
+function decoded([team, steps]) {
   const entries = [];
-  for (let i = 0; i < trace.length; i += 3) entries.push([+trace[i], parseInt(trace.substr(i + 1, 2), 36)]);
+  for (let i = 0; i < steps.length; i += 4) for (let k = 0, more = value(steps, i + 3, 1); k <= more; k++) entries.push([value(steps, i, 1), value(steps, i + 1, 2) + k]);
   let at = Array(team).fill(G.start);
   const moments = [{ at, what: "start" }];
   for (let i = 0; i < entries.length;) {
@@ -25,19 +33,28 @@ function decoded([team, trace]) {
   }
   return { team, moments };
 }
-function together(at, a, b) {
-  const first = at.indexOf(a);
-  return first >= 0 && (a === b ? at.indexOf(a, first + 1) >= 0 : at.includes(b));
+/* For each two nodes the run that comes to them soonest, of teams of the size that is shown: its number and its moment. */
+function soonest() {
+  const key = S.size ?? "any", n = R.n, known = G.soonest = G.soonest || {};
+  if (known[key]) return known[key];
+  const runs = new Int32Array(n * n).fill(-1), meets = new Int32Array(n * n), costs = new Int32Array(n * n);
+  const meet = (k, moment, cost, x, y) => [x * n + y, y * n + x].forEach(at => {
+    if (runs[at] < 0 || cost < costs[at]) runs[at] = k, meets[at] = moment, costs[at] = cost;
+  });
+  allRuns().forEach((text, k) => {
+    if (S.size !== null && text[0] !== S.size) return;
+    decoded(text).moments.forEach(({ at, thread }, i) => {
+      for (let t = 0; t < at.length; t++) for (let u = 0; u < t; u++) if (thread === undefined || t === thread || u === thread) meet(k, i, i * text[0], at[t], at[u]);
+    });
+  });
+  return known[key] = { runs, meets };
 }
 /* The run that comes soonest to two nodes, of a team of the size that is shown. */
 function findRun(a, b) {
-  let best = null;
-  for (let k = 0; k < G.runs.length; k++) {
-    if (S.size !== null && G.runs[k][0] !== S.size) continue;
-    const { team, moments } = decode(k), meet = moments.findIndex(x => together(x.at, a, b));
-    if (meet >= 0 && (!best || meet * team < best.meet * best.team)) best = { team, moments, meet, at: meet };
-  }
-  return best;
+  const { runs, meets } = soonest(), at = a * R.n + b;
+  if (runs[at] < 0) return null;
+  const { team, moments } = decoded(allRuns()[runs[at]]);
+  return { team, moments, meet: meets[at], at: meets[at] };
 }
 function describe(i) {
   const now = run.moments[i];
@@ -52,7 +69,7 @@ function describe(i) {
   return now.at.every(x => x === G.finish) ? text + " The run is finished." : text;
 }
 function runHtml(a, b) {
-  return `<h3>A run that shows it</h3><p class="hint">${run.team} threads, ${run.moments.length - 1} steps, certified by a proved call. <kbd>←</kbd> <kbd>→</kbd> step, <kbd>Home</kbd> starts again, <kbd>m</kbd> goes to the meeting.</p>` + stepsHtml(a, b);
+  return `<h3>A run that shows it</h3><p class="hint">${run.team} threads, ${run.moments.length - 1} steps, certified by a proved call. <span class="screen"><kbd>←</kbd> <kbd>→</kbd> step, <kbd>Home</kbd> starts again, <kbd>m</kbd> goes to the meeting.</span></p>` + stepsHtml(a, b);
 }
 function stepsHtml(a, b) {
   const heads = Array.from({ length: run.team }, (_, t) => `<th>thread ${t}</th>`).join("");

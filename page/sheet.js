@@ -2,17 +2,20 @@
 function css(name) {
   return getComputedStyle(document.documentElement).getPropertyValue(name).trim();
 }
-function canvas(id, W, H) {
-  const c = $(id), dpr = Math.min(window.devicePixelRatio || 1, 2, Math.sqrt(16e6 / (W * H)));   // some browsers draw nothing over 16 million pixels
-  c.width = W * dpr;
-  c.height = H * dpr;
+/* A canvas of so many pixels of the page, to be drawn on. */
+function sized(c, W, H, ratio) {
+  c.width = W * ratio;
+  c.height = H * ratio;
   c.style.width = W + "px";
   c.style.height = H + "px";
   const g = c.getContext("2d");
-  g.scale(dpr, dpr);
+  g.scale(ratio, ratio);
   g.fillStyle = css("--bg");
   g.fillRect(0, 0, W, H);
   return g;
+}
+function canvas(id, W, H) {
+  return sized($(id), W, H, Math.min(window.devicePixelRatio || 1, 2, Math.sqrt(16e6 / (W * H))));   // some browsers draw nothing over 16 million pixels
 }
 /* A tile of six pixels with lines from each of some points to the next. */
 function tile(g, lines, ink, ground) {
@@ -36,16 +39,21 @@ function tile(g, lines, ink, ground) {
 const RISING = [[-1, 1, 1, -1], [-1, 7, 7, -1], [5, 7, 7, 5]], FALLING = [[-1, 5, 1, 7], [-1, -1, 7, 7], [5, -1, 7, 1]];
 const TEXTURES = { 2: [[0, .5, 6, .5], [0, 3.5, 6, 3.5]], 3: [[.5, 0, .5, 6], [3.5, 0, 3.5, 6]], 4: RISING, 5: FALLING, 6: [[0, .5, 2, .5]], 7: [...RISING, ...FALLING] };
 function drawSheet() {
-  const { n, rh, cw, W, H } = L, g = canvas("mc", W, H);
+  const { n, W, H } = L;
   $("mat").style.width = W + "px";
   $("mat").style.height = H + "px";
-  const gap = cw >= 12 ? 1 : cw >= 7 ? .6 : .35, digits = cw >= 10.5 && rh >= 15;
+  paintSheet(canvas("mc", W, H), [0, n], [0, n]);
+  paintHead(canvas("hc", W, L.head));
+}
+/* The cells of some rows and columns, with what is laid over them. */
+function paintSheet(g, [top, bottom], [left, right]) {
+  const { rh, cw } = L, gap = cw >= 12 ? 1 : cw >= 7 ? .6 : .35, digits = cw >= 10.5 && rh >= 12;
   const looks = SHORT.map((_, v) => ({ colour: css("--c" + v), ink: css(`--c${v}t`) }));
   looks.forEach((x, v) => { x.texture = !digits && TEXTURES[v] && tile(g, TEXTURES[v], x.ink); });
   g.font = `600 ${Math.min(cw * .62, rh * .56, 13)}px system-ui,sans-serif`;
   g.textAlign = "center";
   g.textBaseline = "middle";
-  for (let a = 0; a < n; a++) for (let b = 0; b < n; b++) {
+  for (let a = top; a < bottom; a++) for (let b = left; b < right; b++) {
     const v = answer(a, b);
     if (v === NONE) continue;
     const look = looks[v], box = [b * cw + gap / 2, a * rh + gap / 2, cw - gap, rh - gap];
@@ -64,7 +72,6 @@ function drawSheet() {
   g.globalAlpha = 1;
   drawNoAnswers(g);
   drawLayers(g);
-  drawHead();
 }
 /* Rows and columns that have no answers: hatched for barriers, blank outside the region. */
 function drawNoAnswers(g) {
@@ -83,8 +90,8 @@ function drawNoAnswers(g) {
   }
 }
 /* Column numbers, and the constructs as strips over them, the outermost on top. */
-function drawHead() {
-  const { n, cw, W, head } = L, g = canvas("hc", W, head);
+function paintHead(g) {
+  const { n, cw, head } = L;
   const depth = Math.max(1, ...R.constructs.map((_, c) => depthOf(c) + 1)), high = Math.min(5, 20 / depth);
   R.constructs.forEach((own, c) => {
     g.globalAlpha = (counts(c) || own.kind === "parallel") && !isOutside(own.begin) ? 1 : .3;

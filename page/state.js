@@ -1,6 +1,6 @@
 /* What is chosen, in the address too, so that a finding can be sent as a link. */
 function save() {
-  const parts = ["r=" + st.r, "g=" + G.region, "s=" + encodeURIComponent(S.label)];
+  const parts = st.all ? ["r=all"] : ["r=" + st.r, "g=" + G.region, "s=" + encodeURIComponent(S.label)];
   if (st.a !== null) parts.push(`c=${st.a},${st.b}`);
   if (st.n !== null) parts.push("n=" + st.n);
   if (st.t !== null && run) parts.push("t=" + st.t);
@@ -30,8 +30,10 @@ function load() {
   const dark = matchMedia("(prefers-color-scheme:dark)").matches;
   document.documentElement.dataset.theme = ["light", "dark"].includes(asked.theme) ? asked.theme : dark ? "dark" : "light";
   choose(r, g, s);
+  if (asked.r === "all" ? isOverview() : asked.r === undefined && isOverview() && !isLaid()) showAll();
   const pair = nodesIn(asked.c, 2), node = nodesIn(asked.n, 1);
-  if (pair) {
+  if (st.all) st.q = "";
+  else if (pair) {
     pick(...pair, asked.t === undefined ? null : +asked.t || 0);
     scrollTo(...pair);
   } else if (node) {
@@ -44,7 +46,8 @@ function load() {
   }
 }
 function choose(r, g, s) {
-  Object.assign(st, { r, g, s });
+  Object.assign(st, { r, g, s, all: false });
+  document.body.classList.remove("all");
   prepare(r, g, s);
   controls();
   layout();
@@ -55,14 +58,14 @@ function choose(r, g, s) {
 }
 function controls() {
   const name = (region, reading) => title(region) + (reading.region === NONE ? "" : ": parallel at " + region.constructs[reading.region].begin);
-  $("region").innerHTML = DATA.regions.flatMap((region, r) => region.readings.map((reading, g) =>
-    `<option value="${r},${g}"${r === st.r && g === st.g ? " selected" : ""}>${esc(name(region, reading))}</option>`)).join("");
+  $("region").innerHTML = (isOverview() ? `<option value="all"${st.all ? " selected" : ""}>all regions</option>` : "") + DATA.regions.flatMap((region, r) => region.readings.map((reading, g) =>
+    `<option value="${r},${g}"${!st.all && r === st.r && g === st.g ? " selected" : ""}>${esc(name(region, reading))}</option>`)).join("");
   $("zoom").querySelectorAll("button").forEach(x => x.setAttribute("aria-pressed", (x.dataset.w === "1") === st.wide));
   $("size").innerHTML = G.sheets.map((x, i) => `<button aria-pressed="${i === st.s}" data-s="${i}">${esc(x.label)}</button>`).join("");
 }
-function relayout() {
+function relayout(paper) {
   const step = st.t;
-  layout();
+  layout(paper);
   drawLeft();
   drawSheet();
   render(step);
@@ -104,16 +107,26 @@ function place() {
 }
 /* Nodes by line, file and line, or any text of theirs. */
 let hits = [], hitAt = 0;
+function hitsIn(region, q) {
+  const line = q.match(/^(?:(.+):)?(\d+)$/), inFile = x => !line[1] || x.file.endsWith(line[1]);
+  const isHit = (node, i) => line ? sourceIn(node[2]).some(x => inFile(x) && x.first <= +line[2] && +line[2] <= x.last)
+    : `${node[2]} ${node[3]} ${nodeName(i, region)}`.toLowerCase().includes(q.toLowerCase());
+  return q ? region.nodes.flatMap((node, i) => isHit(node, i) ? [i] : []) : [];
+}
 function find() {
-  const q = st.q = $("find").value.trim(), line = q.match(/^(?:(.+):)?(\d+)$/);
+  const q = st.q = $("find").value.trim();
+  if (st.all) {
+    drawAll();
+    $("found").textContent = "";
+    return save();
+  }
   L.rows.forEach(x => x.classList.remove("hit"));
-  const inFile = x => !line[1] || x.file.endsWith(line[1]);
-  const isHit = i => line ? sourceIn(R.nodes[i][2]).some(x => inFile(x) && x.first <= +line[2] && +line[2] <= x.last)
-    : `${R.nodes[i][2]} ${R.nodes[i][3]} ${nodeName(i)}`.toLowerCase().includes(q.toLowerCase());
-  hits = q ? R.nodes.map((_, i) => i).filter(isHit) : [];
+  hits = hitsIn(R, q);
   hitAt = 0;
   hits.forEach(i => mark(i, "hit"));
-  $("found").textContent = !q ? "" : hits.length ? (hits.length === 1 ? "node " : "nodes ") + hits.slice(0, 8).join(", ") + (hits.length > 8 ? " …" : "") : "no node";
+  const others = DATA.regions.filter(x => x !== R && hitsIn(x, q).length).length;
+  const here = hits.length ? (hits.length === 1 ? "node " : "nodes ") + hits.slice(0, 8).join(", ") + (hits.length > 8 ? " …" : "") : "no node";
+  $("found").innerHTML = !q ? "" : here + (others ? ` <button class="chip" data-others>in ${others} other region${others === 1 ? "" : "s"}</button>` : "");
   if (hits.length) scrollTo(hits[0], 0);
   save();
 }

@@ -56,10 +56,10 @@ pub fn region(held: &Held) -> String {
 }
 
 /// A region's table as one file; none where it has none.
-pub fn subject(held: Held) -> Option<Subject> {
+pub fn subject(held: &Held) -> Option<Subject> {
     Some(Subject {
         file: held.table.display().to_string(),
-        loaded: held.loaded?,
+        loaded: held.loaded.clone()?,
     })
 }
 

@@ -34,7 +34,9 @@ impl<'a> Cover<'a> {
             if self.shown.contains(&(threads(self.view, size, a, b), a, b)) {
                 continue;
             }
-            if let Witness::Run(run) = self.witnesses.witness(size, a, b)? {
+            if let Witness::Run(run) = self.witnesses.run(size, a, b)? {
+                // certified for it already
+                self.shown.insert((run.threads, a, b));
                 self.add(run, size, pairs)?;
             }
         }

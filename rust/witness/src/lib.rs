@@ -35,7 +35,7 @@ pub use layout::{wrapped, WIDTH};
 pub use naming::Naming;
 pub use terms::SLOT;
 pub use why::{Pattern, Why};
-pub use words::{in_every_run, words};
+pub use words::{in_every_run, words, About};
 
 /// What shows an answer.
 #[derive(Clone, Debug, PartialEq, Eq)]
@@ -97,6 +97,12 @@ impl<'a> Witnesses<'a> {
             Answer::Concurrent => {}
             never => return Ok(Witness::Never(never)),
         }
+        self.run(size, a, b)
+    }
+
+    /// What shows that two nodes may be met, which is known of them.
+    fn run(&mut self, size: Option<Size>, a: usize, b: usize) -> Result<Witness, Error> {
+        let view = self.view;
         let threads = threads(view, size, a, b);
         let Some(planner) = self.planners.get_mut(threads) else {
             return Ok(Witness::LargerTeam(threads));

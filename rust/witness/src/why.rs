@@ -7,7 +7,7 @@ use crate::plan::chosen;
 use crate::run::MOST_THREADS;
 use crate::table::table;
 use crate::terms::Terms;
-use crate::words::{in_every_run, words, Pair};
+use crate::words::{in_every_run, words, About, Pair};
 use crate::{threads, Error, Witness, Witnesses};
 use bohrali::{Answer, Size};
 
@@ -38,8 +38,8 @@ impl Why {
             Witness::Never(never) => (never, None, None),
         };
         let mut words = words(naming, size, answer, a, b);
-        let terms = Terms::of(naming, a, b);
-        words.extend(larger.map(|threads| not_shown(naming, &terms, threads, a, b)));
+        let terms = Terms::of(naming, size, a, b);
+        words.extend(larger.map(|threads| not_shown(naming, &terms, size, threads, [a, b])));
         Ok(Why {
             a,
             b,
@@ -79,7 +79,7 @@ impl Why {
 #[derive(Clone, Debug, Default, PartialEq, Eq, PartialOrd, Ord)]
 pub struct Pattern {
     pub words: Vec<String>,
-    pub constructs: Vec<usize>,
+    pub constructs: Vec<About>,
 }
 
 impl Pattern {
@@ -90,7 +90,7 @@ impl Pattern {
         let mut words = pair.words(size, answer);
         let threads = threads(naming.view, size, a, b);
         if answer == Answer::Concurrent && threads > MOST_THREADS {
-            words.push(not_shown(naming, &terms, threads, a, b));
+            words.push(not_shown(naming, &terms, size, threads, [a, b]));
         }
         Pattern {
             words,
@@ -100,16 +100,21 @@ impl Pattern {
 }
 
 /// Why no run is shown: the size that is named, or a thread of too high a number.
-fn not_shown(naming: &Naming, terms: &Terms, threads: usize, a: usize, b: usize) -> String {
-    let least = chosen(naming.view, a, b).1;
+fn not_shown(
+    naming: &Naming,
+    terms: &Terms,
+    size: Option<Size>,
+    threads: usize,
+    pair: [usize; 2],
+) -> String {
     let is_high = |&v: &usize| naming.view.filter(v) >= Some(MOST_THREADS);
-    let high = [a, b].into_iter().find(is_high);
-    let more = match high.and_then(|v| Some((v, naming.view.master(v)?))) {
-        Some((v, c)) => {
-            let v = terms.node(v == a);
-            format!("Node {v} is inside {}.", naming.framed(c))
+    let more = match pair.iter().position(is_high) {
+        Some(at) => format!("Node {} is inside {}.", terms.nodes[at], terms.masters[at]),
+        None => {
+            let least = chosen(naming.view, pair[0], pair[1]).1;
+            format!("A team of {least} has one: ask without a size.")
         }
-        None => format!("A team of {least} has one: ask without a size."),
     };
+    let threads = size.map_or(threads.to_string(), |_| terms.size.clone());
     format!("No run is shown: it would have {threads} threads, and up to {MOST_THREADS} can be replayed. {more}")
 }

@@ -24,8 +24,16 @@ pub fn words(
     a: usize,
     b: usize,
 ) -> Vec<String> {
-    let terms = Terms::of(naming, a, b);
+    let terms = Terms::of(naming, size, a, b);
     Pair::of(naming, &terms, a, b).words(size, answer)
+}
+
+/// A construct that words are about.
+#[derive(Clone, Copy, Debug, PartialEq, Eq, PartialOrd, Ord)]
+pub enum About {
+    Construct(usize),
+    /// The master around the first node, 0, or the second, 1.
+    Master(usize),
 }
 
 /// Two nodes, which may be one.
@@ -68,12 +76,17 @@ impl Pair<'_> {
 
     /// The constructs that the words are about: those that keep two threads apart, or the one that would if it did
     /// not return.
-    pub fn constructs(&self, size: Option<Size>, answer: Answer) -> Vec<usize> {
+    pub fn constructs(&self, size: Option<Size>, answer: Answer) -> Vec<About> {
         let view = self.naming.view;
-        let masters = || [self.a, self.b].into_iter().filter_map(|v| view.master(v));
-        let mut found: Vec<usize> = match answer {
+        let found: Vec<usize> = match answer {
+            Answer::Master => return vec![About::Master(0), About::Master(1)],
+            Answer::MissingThread => {
+                let lacks = |v: usize| size.is_some_and(|x| view.filter(v) >= Some(x.0));
+                let both = [self.a, self.b].into_iter().enumerate();
+                let lacking = both.filter(|x| lacks(x.1));
+                return lacking.map(|x| About::Master(x.0)).collect();
+            }
             Answer::Concurrent => self.returning().into_iter().collect(),
-            Answer::Master => masters().collect(),
             Answer::Single => self.one_single().into_iter().collect(),
             Answer::Ordered => {
                 let around = view.around[self.a] | view.around[self.b];
@@ -85,14 +98,9 @@ impl Pair<'_> {
                 let sections = section.and_then(|x| view.constructs[x].parent);
                 section.into_iter().chain(sections).collect()
             }
-            Answer::MissingThread => {
-                let lacks = |c: &usize| size.is_some_and(|x| view.constructs[*c].filter >= x.0);
-                masters().filter(lacks).collect()
-            }
             _ => Vec::new(),
         };
-        found.dedup();
-        found
+        found.into_iter().map(About::Construct).collect()
     }
 
     fn one_single(&self) -> Option<usize> {
@@ -165,12 +173,13 @@ impl Pair<'_> {
     fn returns(&self, c: usize) -> Option<String> {
         let view = self.naming.view;
         let path: Vec<String> = view.way_back(c)?.iter().map(usize::to_string).collect();
+        let path = self.terms.path.clone().unwrap_or(path.join(", "));
         Some(format!(
             "{} inside {}, which returns: a path that passes no barrier leads from its end back to its begin ({}). While one \
              thread is still inside, another may be let in for the next time.",
             capital(&self.are()),
             self.naming.framed(c),
-            path.join(", ")
+            path
         ))
     }
 
@@ -194,20 +203,19 @@ impl Pair<'_> {
     }
 
     fn master(&self) -> String {
-        let naming = self.naming;
-        let view = naming.view;
+        let view = self.naming.view;
         let (Some(c), Some(d)) = (view.master(self.a), view.master(self.b)) else {
             return "Rule 2, one thread.".into();
         };
+        let [of_a, of_b] = &self.terms.masters;
         let inside = match c == d {
-            true => format!("{} inside {}", self.are(), naming.framed(c)),
+            true => format!("{} inside {of_a}", self.are()),
             false => {
-                let [c, d] = [c, d].map(|c| naming.framed(c));
                 let [a, b] = &self.terms.nodes;
-                format!("node {a} is inside {c} and node {b} inside {d}")
+                format!("node {a} is inside {of_a} and node {b} inside {of_b}")
             }
         };
-        let thread = view.constructs[c].filter;
+        let thread = &self.terms.threads[0];
         format!("Rule 2, one thread: {inside}, and thread {thread} alone goes in.")
     }
 
@@ -252,16 +260,20 @@ impl Pair<'_> {
     fn missing_thread(&self, threads: usize) -> String {
         let view = self.naming.view;
         let lacks = |&v: &usize| view.filter(v).is_some_and(|filter| filter >= threads);
-        let lacking = [self.a, self.b].into_iter().find(lacks);
-        let Some((v, c)) = lacking.and_then(|v| Some((v, view.master(v)?))) else {
+        let Some(at) = [self.a, self.b].iter().position(lacks) else {
             return "Rule 7, a missing thread.".into();
         };
-        let v = self.terms.node(v == self.a);
+        let Terms {
+            nodes,
+            masters,
+            threads,
+            size,
+            ..
+        } = self.terms;
+        let (v, master, thread) = (&nodes[at], &masters[at], &threads[at]);
         format!(
-            "Rule 7, a missing thread: node {v} is inside {}, and thread {} alone goes in; a team of {threads} has none of \
-             that number.",
-            self.naming.framed(c),
-            view.constructs[c].filter,
+            "Rule 7, a missing thread: node {v} is inside {master}, and thread {thread} alone goes in; a team of {size} has \
+             none of that number.",
         )
     }
 }

@@ -10,7 +10,7 @@ mod locks;
 mod page;
 mod pair;
 mod phases;
-mod program_locks;
+pub mod program_locks;
 mod program_why;
 mod races;
 mod regions;

@@ -15,14 +15,14 @@ use std::collections::{BTreeMap, BTreeSet};
 
 /// What is known of a critical, the worst last.
 #[derive(Clone, Debug, PartialEq, Eq, PartialOrd, Ord)]
-enum Known {
+pub enum Known {
     CanGo { in_finished_runs: bool },
     Unsure(String),
     Needed(String),
 }
 
 impl Known {
-    fn word(&self) -> &'static str {
+    pub fn word(&self) -> &'static str {
         match self {
             Known::CanGo { .. } => "can go",
             Known::Unsure(_) => "not known",
@@ -36,23 +36,36 @@ impl Known {
             Known::Unsure(reason) | Known::Needed(reason) => reason,
         }
     }
+
+    /// In which runs a lock can go, or why it is not known that it can.
+    pub fn words(&self) -> &str {
+        match self {
+            Known::CanGo {
+                in_finished_runs: false,
+            } => "in every run",
+            Known::CanGo {
+                in_finished_runs: true,
+            } => "in runs that finish",
+            Known::Unsure(reason) | Known::Needed(reason) => reason,
+        }
+    }
 }
 
 /// Where a critical begins, and what it is called.
 #[derive(Clone, Debug, PartialEq, Eq, PartialOrd, Ord)]
-struct Critical {
+pub struct Critical {
     file: String,
     line: u32,
-    place: String,
-    kind: String,
+    pub place: String,
+    pub kind: String,
 }
 
 /// The criticals of a program.
-type Criticals = BTreeMap<Critical, Known>;
+pub type Criticals = BTreeMap<Critical, Known>;
 
 impl Critical {
     /// By its begin; the calls that lead there are no part of its place.
-    fn of(table: &Table, begin: u8) -> Critical {
+    pub fn of(table: &Table, begin: u8) -> Critical {
         let place = table.place(begin);
         let place = place.split(" via ").next().unwrap_or(place);
         let lines = Lines::in_cell(place).next();
@@ -70,17 +83,32 @@ pub fn run(
     [is_strict, is_json]: [bool; 2],
     terminal: &Terminal,
 ) -> Result<Report, Failure> {
+    let criticals = criticals(&directory)?;
+    let notes: Vec<Note> = directory.all_notes().cloned().collect();
+    let is_needed = criticals
+        .values()
+        .any(|x| !matches!(x, Known::CanGo { .. }));
+    let text = match is_json {
+        true => document(&criticals, &notes),
+        false => text(&criticals, &notes, terminal),
+    };
+    let status = if is_strict && is_needed { FOUND } else { GOOD };
+    Ok(Report::of(text).with_status(status))
+}
+
+/// Each critical of a program with what is known of it over all charts.
+pub fn criticals(directory: &Directory) -> Result<Criticals, Failure> {
     let mut criticals = Criticals::new();
     let notes: Vec<Note> = directory.all_notes().cloned().collect();
-    for held in directory.regions {
-        let several = held.notes.of(Key::SeveralTeams).next().cloned();
-        let region = tables::region(&held);
+    for held in &directory.regions {
+        let several = held.notes.of(Key::SeveralTeams).next();
+        let region = tables::region(held);
         let Some(subject) = tables::subject(held) else {
             continue;
         };
         for (own, lock) in critical::locks(&subject, Team::default())? {
             let name = words::name(&own.name);
-            let known = match (in_chart(&subject, &lock, &region), &several) {
+            let known = match (in_chart(&subject, &lock, &region), several) {
                 (needed @ Known::Needed(_), _) => needed,
                 (_, Some(note)) => Known::Unsure(format!(
                     "several teams may run {region} at a time, by the {} {}",
@@ -93,15 +121,7 @@ pub fn run(
             *worst = known.max(worst.clone());
         }
     }
-    let is_needed = criticals
-        .values()
-        .any(|x| !matches!(x, Known::CanGo { .. }));
-    let text = match is_json {
-        true => document(&criticals, &notes),
-        false => text(&criticals, &notes, terminal),
-    };
-    let status = if is_strict && is_needed { FOUND } else { GOOD };
-    Ok(Report::of(text).with_status(status))
+    Ok(criticals)
 }
 
 /// What one chart says.
@@ -148,13 +168,8 @@ fn text(criticals: &Criticals, notes: &[Note], terminal: &Terminal) -> String {
         let word = terminal.paint(colour, known.word());
         let pad = " ".repeat(11 - known.word().len());
         let runs = match known {
-            Known::CanGo {
-                in_finished_runs: false,
-            } => ", in every run",
-            Known::CanGo {
-                in_finished_runs: true,
-            } => ", in runs that finish",
-            _ => "",
+            Known::CanGo { .. } => format!(", {}", known.words()),
+            _ => String::new(),
         };
         let Critical { kind, place, .. } = critical;
         text += &format!("{word}{pad}{kind} at {place}{runs}\n");

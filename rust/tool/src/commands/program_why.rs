@@ -68,7 +68,7 @@ fn deciding(directory: Directory, asked: &Asked) -> Vec<Chart> {
         let is_answered = finding.verdict != Verdict::NoAnswer;
         is_answered.then_some(Chart {
             region: tables::region(&held),
-            subject: tables::subject(held)?,
+            subject: tables::subject(&held)?,
             pairs: pairs(finding),
         })
     };

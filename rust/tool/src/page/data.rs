@@ -1,14 +1,14 @@
 //! The data of the page: regions with what the library says of them.
 
+use super::program::{self, Locks};
 use super::reading;
 use super::source::Source;
-use super::Layers;
+use super::{Layers, Program};
 use crate::changes::Change;
 use crate::commands::replay::Told;
-use crate::critical::{self, Critical, Lock, Reason};
 use crate::json::Json;
 use crate::report::{Failure, Terminal};
-use crate::subject::{Subject, Team};
+use crate::subject::Subject;
 use crate::words;
 use bohrali::Answer;
 use region::{construct_text, word, NodeKind};
@@ -18,17 +18,18 @@ pub fn document<'a>(
     subjects: &'a [Subject],
     source: &mut Source,
     layers: Layers,
+    program: Option<&'a Program>,
 ) -> Result<Json<'a>, Failure> {
-    let mut locks = Vec::new();
-    for subject in subjects {
-        locks.extend(critical::locks(subject, Team::default())?);
-    }
     // an old and a new file are no two parts of one program
-    if layers.changes.is_none() {
-        critical::share(&mut locks, false);
+    let is_program = layers.changes.is_none();
+    let locks = Locks::of(subjects, is_program, program)?;
+    let mut told = program.map(Program::regions).into_iter().flatten();
+    let mut regions = Vec::new();
+    for subject in subjects {
+        let mut fields = program::named(told.next());
+        fields.extend(region(subject, &locks, source)?);
+        regions.push(Json::Object(fields));
     }
-    let regions: Result<Vec<Json>, Failure> =
-        subjects.iter().map(|x| region(x, &locks, source)).collect();
     let recorded = layers.recorded.as_ref();
     let answers = Answer::ALL.iter().map(|&x| words::answer(x as u8));
     Ok(Json::Object(vec![
@@ -39,7 +40,8 @@ pub fn document<'a>(
         ),
         ("recorded", Json::option(recorded, run)),
         ("races", layers.races.unwrap_or(Json::Null)),
-        ("regions", Json::List(regions?)),
+        ("program", Json::option(program, Program::document)),
+        ("regions", Json::List(regions)),
     ]))
 }
 
@@ -57,7 +59,7 @@ fn run<'a>(told: &Told) -> Json<'a> {
             "run",
             Json::List(vec![
                 Json::Number(size),
-                Json::text(reading::digits(told.legal())),
+                Json::text(reading::steps(told.legal())),
             ]),
         ),
     ])
@@ -65,18 +67,16 @@ fn run<'a>(told: &Told) -> Json<'a> {
 
 fn region<'a>(
     subject: &'a Subject,
-    locks: &[(Critical, Lock)],
+    locks: &Locks<'a>,
     source: &mut Source,
-) -> Result<Json<'a>, Failure> {
+) -> Result<Vec<(&'static str, Json<'a>)>, Failure> {
     let chart = &subject.table().chart;
     let readings: Result<Vec<Json>, Failure> = chart
         .regions()
         .map(|x| reading::document(subject, x))
         .collect();
-    let is_own = |x: &&(Critical, Lock)| std::ptr::eq(x.0.subject, subject);
-    let own = locks.iter().filter(is_own);
     let edges = chart.edges.iter();
-    Ok(Json::Object(vec![
+    Ok(vec![
         ("file", Json::text(&subject.file)),
         ("nodes", nodes(subject, source)),
         (
@@ -84,9 +84,9 @@ fn region<'a>(
             Json::list(edges, |x| Json::list([x.0, x.1], Json::number)),
         ),
         ("constructs", constructs(subject)),
-        ("locks", Json::list(own, |x| lock(&x.0, &x.1))),
+        ("locks", locks.document(subject)),
         ("readings", Json::List(readings?)),
-    ]))
+    ])
 }
 
 /// Each node by the letter of its kind, its construct, where it is, and the code there.
@@ -125,23 +125,4 @@ fn constructs(subject: &Subject) -> Json<'_> {
             ("end", Json::option(table.chart.end(number), Json::number)),
         ])
     })
-}
-
-/// A critical with what becomes of its lock, and the pair that needs it.
-fn lock<'a>(own: &Critical, lock: &Lock) -> Json<'a> {
-    let pair = match lock {
-        Lock::Needed(Reason::Pair(a, b, region)) => Some((*a, *b, region.number())),
-        _ => None,
-    };
-    let can_go = matches!(lock, Lock::CanGo { .. });
-    Json::Object(vec![
-        ("construct", Json::number(own.construct)),
-        ("can_go", Json::Bool(can_go)),
-        ("words", Json::text(own.lock_words(lock))),
-        (
-            "pair",
-            Json::option(pair, |x| Json::list([x.0, x.1], Json::number)),
-        ),
-        ("region", Json::option(pair, |x| Json::Number(x.2))),
-    ])
 }

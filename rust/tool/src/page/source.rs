@@ -5,9 +5,10 @@ use region::Lines;
 use std::collections::BTreeMap;
 use std::path::{Component, Path, PathBuf};
 
-/// The most lines that are shown of one node, and the most letters of each.
+/// The most lines that are shown of one node, and the most letters of each; what is cut off is told by a sign.
 const MOST_LINES: usize = 12;
 const MOST_LETTERS: usize = 200;
+const CUT: &str = " …";
 
 /// The files below a folder, each read once.
 pub struct Source {
@@ -36,8 +37,10 @@ impl Source {
         let file = self.files.entry(wanted.file.clone());
         let lines = file.or_insert_with(|| read(folder, &wanted.file));
         let (first, last) = (wanted.first as usize - 1, wanted.last as usize);
-        let shown = lines.get(first..last)?.iter().take(MOST_LINES);
-        Some(shown.cloned().collect::<Vec<_>>().join("\n"))
+        let lines = lines.get(first..last)?;
+        let shown = lines.iter().take(MOST_LINES).cloned();
+        let more = (lines.len() > MOST_LINES).then(|| CUT.trim_start().into());
+        Some(shown.chain(more).collect::<Vec<_>>().join("\n"))
     }
 }
 
@@ -50,6 +53,12 @@ fn read(folder: &Path, file: &str) -> Vec<String> {
     }
     let bytes = load::bytes(&folder.join(file), MOST_BYTES).unwrap_or_default();
     let text = String::from_utf8_lossy(&bytes);
-    let cut = |x: &str| x.chars().take(MOST_LETTERS).collect();
     text.lines().map(cut).collect()
+}
+
+fn cut(line: &str) -> String {
+    match line.char_indices().nth(MOST_LETTERS) {
+        Some((end, _)) => format!("{}{CUT}", &line[..end]),
+        None => line.into(),
+    }
 }

@@ -122,9 +122,16 @@ impl Browser {
         }
     }
 
+    /// Presses a key; those that a browser acts on by itself by their numbers too.
     pub fn key(&mut self, key: &str) {
-        for kind in ["keyDown", "keyUp"] {
-            let parameters = format!(r#"{{"type":"{kind}","key":"{key}","code":"{key}"}}"#);
+        let more = match key {
+            "Tab" => r#","windowsVirtualKeyCode":9"#,
+            "Enter" => r#","windowsVirtualKeyCode":13,"text":"\r""#,
+            "ArrowDown" => r#","windowsVirtualKeyCode":40"#,
+            _ => "",
+        };
+        for (kind, more) in [("keyDown", more), ("keyUp", "")] {
+            let parameters = format!(r#"{{"type":"{kind}","key":"{key}","code":"{key}"{more}}}"#);
             self.call("Input.dispatchKeyEvent", &parameters);
         }
     }

@@ -4,6 +4,7 @@
 
 pub mod browser;
 pub mod json;
+pub mod packed;
 
 use std::ffi::OsStr;
 use std::fs;
@@ -73,4 +74,24 @@ pub fn file(folder: &Path, name: &str, content: impl AsRef<[u8]>) -> String {
     let path = folder.join(name);
     fs::write(&path, content).expect("a file");
     path.to_str().expect("a path that is text").into()
+}
+
+/// The page of files, made in a folder of a test's own.
+pub fn page(test: &str, files: &[&str]) -> String {
+    let out = folder(test).join("page.html");
+    let out = out.to_str().expect("a path that is text");
+    let printed = good(&[&["page"], files, &["-o", out, "--source", "."]].concat());
+    let page = fs::read_to_string(out).expect("the page");
+    let bytes = format!("{} bytes\n", page.len());
+    assert!(printed.ends_with(&bytes), "{printed}");
+    page
+}
+
+/// The one data block of a page.
+pub fn data(page: &str) -> json::Value {
+    const OPEN: &str = r#"<script type="application/json" id="data">"#;
+    let blocks: Vec<&str> = page.split(OPEN).collect();
+    assert_eq!(blocks.len(), 2, "one data block");
+    let block = blocks[1].split("</script>").next().expect("a block");
+    json::Value::read(&format!("{block}\n"))
 }
