@@ -78,6 +78,7 @@ function onHeader() {
     if (x.dataset.node) pickNode(to), scrollTo(to, to);
     $("board").focus({ preventScroll: true });
   });
+  $("size").addEventListener("change", e => setSize(+e.target.value));
   $("size").addEventListener("click", e => { const x = e.target.closest("button"); if (x) setSize(+x.dataset.s); });
   $("zoom").addEventListener("click", e => {
     const x = e.target.closest("button");

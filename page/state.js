@@ -56,12 +56,16 @@ function choose(r, g, s) {
   showHome();
   if (G.region !== NONE) scrollTo(G.start, G.start);
 }
+const MOST_BUTTONS = 8;
 function controls() {
   const name = (region, reading) => title(region) + (reading.region === NONE ? "" : ": parallel at " + region.constructs[reading.region].begin);
   $("region").innerHTML = (isOverview() ? `<option value="all"${st.all ? " selected" : ""}>all regions</option>` : "") + DATA.regions.flatMap((region, r) => region.readings.map((reading, g) =>
     `<option value="${r},${g}"${!st.all && r === st.r && g === st.g ? " selected" : ""}>${esc(name(region, reading))}</option>`)).join("");
   $("zoom").querySelectorAll("button").forEach(x => x.setAttribute("aria-pressed", (x.dataset.w === "1") === st.wide));
-  $("size").innerHTML = G.sheets.map((x, i) => `<button aria-pressed="${i === st.s}" data-s="${i}">${esc(x.label)}</button>`).join("");
+  const had = $("size").contains(document.activeElement), size = (x, i, tag, on) => `<${tag} ${on} value="${i}">${esc(x.label)}</${tag}>`;
+  $("size").innerHTML = G.sheets.length > MOST_BUTTONS ? `<select aria-label="Threads in the team">${G.sheets.map((x, i) => size(x, i, "option", i === st.s ? "selected" : "")).join("")}</select>`
+    : G.sheets.map((x, i) => size(x, i, "button", `aria-pressed="${i === st.s}" data-s="${i}"`)).join("");
+  if (had) $("size").querySelector("select,[aria-pressed=true]").focus();
 }
 function relayout(paper) {
   const step = st.t;

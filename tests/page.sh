@@ -28,6 +28,8 @@ check() { # check NAME FILE..
 
 check playtest examples/playtest/playtest.csv
 check charts charts/*.chart
+"$bohrali" regions rust/frontend/tests/flows/O2/hand/*.flow -o "$made/tables" >/dev/null
+check program "$made/tables"
 if [ -n "${PICTURES:-}" ]; then
     picture() { browse "playtest.html#$2" --window-size=1500,900 --screenshot="$made/$1.png" && mv "$made/$1.png" "$PICTURES"; }
     picture page-overview theme=light
