@@ -74,7 +74,9 @@ impl Constructs {
         };
         for (number, directive) in graph.directives.iter().enumerate() {
             let is_here = number != graph.region && frames[number] != [None; 2];
-            let kind = if is_here && deeper[number].is_none() {
+            // A critical keeps no two threads apart in the answers, and its lock is one for all teams.
+            let is_critical = directive.kind == DirectiveKind::Critical;
+            let kind = if is_here && (deeper[number].is_none() || is_critical) {
                 chosen.kind(graph, directive)
             } else {
                 None

@@ -46,7 +46,7 @@ fn every_expected_answer_is_given() {
     }
     assert!(wrong.is_empty(), "{}", wrong.join("\n"));
     let is_stored = std::env::var_os("BOHRALI_FLOWS").is_none();
-    assert!(!is_stored || count == 156, "{count} answers were asked for");
+    assert!(!is_stored || count == 168, "{count} answers were asked for");
 }
 
 #[test]

@@ -373,13 +373,16 @@ fn programs() {
     let trace = folder.join("run.trace").display().to_string();
     let unanswered = file(&folder, "unanswered", "never h5.c:49 h5.c:50\n");
     let wrong = file(&folder, "cut.flow", "bohrali-flow 1\nunit a.c\n");
-    let [hand, calls, locks] = ["h1.c", "h5.c", "locks1.c"].map(flow);
+    let [hand, calls, locks, inner] = ["h1.c", "h5.c", "locks1.c", "locks2.c"].map(flow);
+    let others = &folder.join("others").display().to_string();
     compare(
         "programs",
         &[
             &["regions", &hand, &calls, &locks, "-o", tables],
             &["locks", tables],
             &["locks", "--strict", "--json", tables],
+            &["regions", &inner, "-o", others],
+            &["locks", others],
             &["ask", "h1.c:21", "h1.c:27", tables],
             &["ask", "hand/h1.c:21", "h1.c:21", tables],
             &["ask", "h5.c:49", "h5.c:50", tables],

@@ -9,7 +9,7 @@ use std::path::{Path, PathBuf};
 use std::sync::atomic::{AtomicUsize, Ordering};
 
 /// Programs of one unit, each by itself.
-pub const PROGRAMS: [&str; 16] = [
+pub const PROGRAMS: [&str; 17] = [
     "hand/all1.c",
     "hand/h1.c",
     "hand/h2.c",
@@ -18,6 +18,7 @@ pub const PROGRAMS: [&str; 16] = [
     "hand/h5.c",
     "hand/h6.c",
     "hand/locks1.c",
+    "hand/locks2.c",
     "narrow/n1.c",
     "narrow/n2.c",
     "narrow/n3.c",
