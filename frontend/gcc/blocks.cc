@@ -259,10 +259,12 @@ context graph::call(gimple *statement, context where)
     }
     bool in_body = where != OUTSIDE && directives[where].tail_of == OUTSIDE;
     if (in_body && starts_body(statement, directives[where].kind)) {
+        directives[where].starts.push_back(statement);
         wait(where);
         return where;
     }
     if (in_body && ends_body(statement, directives[where].kind)) {
+        directives[where].ends.push_back(statement);
         step_to_close(where);
         return tail_of(where);
     }

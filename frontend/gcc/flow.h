@@ -68,6 +68,7 @@ struct directive {
     std::string threads;  /* of a parallel: a number, or ?, or empty */
     int close = -1;       /* its node */
     point body_end = {NULL, NULL}; /* of a task, whose close is not in the body */
+    std::vector<gimple *> starts, ends; /* of a critical: the calls that take and give its lock */
 };
 
 struct node {
@@ -160,6 +161,12 @@ std::string number(tree value);
 
 /* The assembler's name of a function. */
 std::string symbol(tree declaration);
+
+/* A source line as FILE:LINE, each a word; empty where there is none. */
+std::string line_of(location_t place);
+
+/* A text as one word, which stays apart from the marks around it here and in a region table. */
+std::string word(const std::string &text);
 
 }
 

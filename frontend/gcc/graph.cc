@@ -18,6 +18,12 @@ std::string symbol(tree declaration)
     return *name == '*' ? name + 1 : name;
 }
 
+std::string line_of(location_t place)
+{
+    expanded_location at = expand_location(place);
+    return at.file ? word(at.file) + ":" + std::to_string(at.line) : "";
+}
+
 void graph::give_up(const char *why)
 {
     if (trouble.empty()) {

@@ -1,4 +1,5 @@
 /* GCC plugin: writes the control flow of each function, for each unit a file beside the object. */
+#include "dropping.h"
 #include "recording.h"
 #include "text.h"
 
@@ -7,6 +8,7 @@ int plugin_is_GPL_compatible;
 namespace {
 
 flow::text unit;
+flow::dropping locks;
 bool begun, failed;
 
 /* Whether the command links: GCC's names for what it writes then begin with the program's, as p-,
@@ -68,25 +70,21 @@ public:
     unsigned execute(function *fn) final override
     {
         begin();
+        flow::graph graph(fn);
         if (!failed) {
-            flow::graph graph(fn);
             uint64_t mark = unit.write(fn, graph);
             if (recording::is_wanted()) {
                 recording::insert(fn, graph, mark);
             }
         }
+        locks.meet(fn, graph);
         return 0;
     }
 };
 
 /* Other names of a routine: constructors that are one, and the attribute alias. */
-void write_aliases(void *, void *)
+void write_aliases()
 {
-    /* At link time the flows are there already. */
-    if (in_lto_p) {
-        return;
-    }
-    begin();
     symtab_node *node;
     FOR_EACH_SYMBOL (node) {
         if (failed || !node->alias || TREE_CODE(node->decl) != FUNCTION_DECL) {
@@ -99,8 +97,26 @@ void write_aliases(void *, void *)
     }
 }
 
+/* All functions of the unit are lowered. */
+void lowered(void *, void *)
+{
+    /* At link time the flows are there already. */
+    if (in_lto_p) {
+        return;
+    }
+    begin();
+    write_aliases();
+    locks.drop(failed ? "" : unit.seal());
+}
+
+void keep_alive(void *, void *)
+{
+    locks.keep_alive();
+}
+
 void finish(void *, void *)
 {
+    locks.mark();
     if (!begun || failed) {
         return;
     }
@@ -127,7 +143,9 @@ int plugin_init(plugin_name_args *info, plugin_gcc_version *version)
     if (recording::is_wanted()) {
         recording::register_guards(info->base_name);
     }
-    register_callback(info->base_name, PLUGIN_ALL_IPA_PASSES_START, write_aliases, NULL);
+    register_callback(info->base_name, PLUGIN_ALL_IPA_PASSES_START, lowered, NULL);
+    locks.begin();
+    register_callback(info->base_name, PLUGIN_GGC_MARKING, keep_alive, NULL);
     register_callback(info->base_name, PLUGIN_FINISH_UNIT, finish, NULL);
     return 0;
 }

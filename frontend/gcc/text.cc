@@ -1,5 +1,7 @@
 #include "text.h"
 
+#include "decisions.h"
+
 namespace flow {
 
 static const char *const directive_names[] = {"parallel", "single",  "master",   "critical", "for",
@@ -9,8 +11,7 @@ static const char *const directive_names[] = {"parallel", "single",  "master",  
 static const char *const node_names[] = {"plain", "call",  "barrier", "weak",
                                          "open",  "close", "entry",   "exit"};
 
-/* A text as one word, which stays apart from the marks around it here and in a region table. */
-static std::string word(const std::string &text)
+std::string word(const std::string &text)
 {
     std::string escaped;
     for (unsigned char byte : text) {
@@ -27,7 +28,8 @@ static std::string word(const std::string &text)
 
 bool text::begin(const std::string &path, const char *unit)
 {
-    out = fopen(path.c_str(), "w");
+    file = fopen(path.c_str(), "w");
+    out = file ? open_memstream(&bytes, &length) : NULL;
     if (!out) {
         return false;
     }
@@ -167,12 +169,24 @@ void text::alias(tree name, tree target)
             TREE_PUBLIC(name) ? " public" : "");
 }
 
+std::string text::seal()
+{
+    if (fflush(out) != 0) {
+        return "";
+    }
+    std::string sum = hash(bytes, length);
+    fprintf(out, "hash %s\n", sum.c_str());
+    return sum;
+}
+
 bool text::end()
 {
     fprintf(out, "complete %d\n", functions);
-    bool written = !ferror(out);
-    written = fclose(out) == 0 && written;
-    out = NULL;
+    bool written = fclose(out) == 0;
+    written = written && fwrite(bytes, 1, length, file) == length;
+    written = fclose(file) == 0 && written;
+    free(bytes);
+    file = out = NULL;
     return written;
 }
 

@@ -23,11 +23,15 @@ public:
      * unit's row and of these. */
     uint64_t write(function *fn, const graph &graph);
     void alias(tree name, tree target);
+    /* Says that all that decides is written; returns the hash of it, or nothing where it has none. */
+    std::string seal();
     /* Ends it with the mark that it is whole; false where not all of it could be written. */
     bool end();
 
 private:
-    FILE *out = NULL;
+    FILE *file = NULL, *out = NULL; /* what is written goes to the bytes first */
+    char *bytes = NULL;
+    size_t length = 0;
     std::map<std::string, int> files; /* their numbers */
     int functions = 0;
     uint64_t own = 0; /* the mark of the unit's row */

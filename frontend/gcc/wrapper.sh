@@ -1,5 +1,6 @@
 #!/bin/sh
-# bohrali-gcc, bohrali-g++ and bohrali-gfortran: the compiler with the plugin that writes the control flow of each unit beside its object.
+# bohrali-gcc, bohrali-g++ and bohrali-gfortran: the compiler with the plugin that writes the control flow of each unit beside its object,
+# and leaves out locks.
 # BOHRALI_GCC, BOHRALI_GXX and BOHRALI_GFORTRAN name another compiler than gcc, g++ and gfortran.
 name=${0##*/}
 case $name in
@@ -29,6 +30,38 @@ if [ -n "$record" ]; then
     export BOHRALI_RECORD=yes
 else
     unset BOHRALI_RECORD
+fi
+
+# --drop FILE: without the locks that the decisions of FILE leave out. --outside PATH: an object or a library of the link that is not
+# theirs, and is vouched for. BOHRALI_DROP and BOHRALI_OUTSIDE say the same to all commands of a build.
+left=$#
+while [ "$left" -gt 0 ]; do
+    case $1 in
+    --drop | --outside)
+        [ "$left" -gt 1 ] || { echo "$name: $1 wants a file behind it" >&2; exit 2; }
+        set -- "$1=$2" "$@"
+        set_aside=$1
+        shift 3
+        left=$((left - 2))
+        ;;
+    *)
+        set_aside=$1
+        shift
+        left=$((left - 1))
+        ;;
+    esac
+    case $set_aside in
+    --drop=*) BOHRALI_DROP=${set_aside#*=} ;;
+    --outside=*) BOHRALI_OUTSIDE=${BOHRALI_OUTSIDE:+$BOHRALI_OUTSIDE:}${set_aside#*=} ;;
+    *) set -- "$@" "$set_aside" ;;
+    esac
+done
+if [ -n "${BOHRALI_DROP:-}" ]; then
+    export BOHRALI_DROP
+    [ -z "${BOHRALI_OUTSIDE:-}" ] || export BOHRALI_OUTSIDE
+    set -- -wrapper "$here/bohrali-link" "$@"
+else
+    unset BOHRALI_DROP
 fi
 
 version=$("$compiler" -dumpversion) || exit

@@ -1,16 +1,20 @@
 //! A directory of region tables: for each region NAME.csv, NAME.txt with its notes, and NAME.map with what a
 //! recorded run has for its nodes; program.txt for the program as a whole, with the names of all tables, so that none is missed and no old one is read.
 
+use crate::hash::hash;
 use crate::map::Map;
 use crate::notes::{Key, Notes};
 use crate::problem::Problem;
+use crate::reader::MOST_BYTES as MOST_UNITS;
 use crate::regions::RegionChart;
+use crate::units::Units;
 use region::load::{self, Loaded, MOST_BYTES};
 use std::fs;
 use std::io;
 use std::path::{Path, PathBuf};
 
 const PROGRAM: &str = "program.txt";
+const UNITS: &str = "units.txt";
 
 /// A region of a directory.
 #[derive(Debug)]
@@ -70,6 +74,45 @@ impl Folder<'_> {
 fn unwritten(path: &Path, error: &io::Error) -> Problem {
     let message = format!("cannot be written: {error}");
     Problem::whole(&path.display().to_string(), message)
+}
+
+/// Writes what decisions need, behind the tables.
+pub fn write_units(path: &Path, units: &Units) -> Result<(), Problem> {
+    let text = units.write(&tables_hash(path)?);
+    Folder(path).put(UNITS, &text)
+}
+
+/// What decisions need, if the tables are as they were written.
+pub fn read_units(path: &Path) -> Result<Units, Problem> {
+    let file = path.join(UNITS);
+    let name = file.display().to_string();
+    let bytes = load::bytes(&file, MOST_UNITS).map_err(|x| Problem::whole(&name, x))?;
+    let (units, tables) = Units::read(&name, &String::from_utf8_lossy(&bytes))?;
+    if tables != tables_hash(path)? {
+        let message =
+            "the tables beside it were changed after they were written; 'bohrali regions' makes them";
+        return Err(Problem::whole(&name, message));
+    }
+    Ok(units)
+}
+
+/// The hash of all tables and notes.
+fn tables_hash(path: &Path) -> Result<String, Problem> {
+    let program = path.join(PROGRAM);
+    let mut files = vec![program.clone()];
+    for note in read_notes(&program)?.of(Key::Table) {
+        let name = safe(&program, &note.subject)?;
+        let table = note.reason.is_empty().then(|| format!("{name}.csv"));
+        files.extend(table.map(|x| path.join(x)));
+        files.push(path.join(format!("{name}.txt")));
+    }
+    let mut all = Vec::new();
+    for file in files {
+        let name = file.display().to_string();
+        all.extend(load::bytes(&file, MOST_BYTES).map_err(|x| Problem::whole(&name, x))?);
+        all.push(0);
+    }
+    Ok(hash(&all))
 }
 
 /// Takes away what an earlier run wrote; a directory of anything else is left alone.

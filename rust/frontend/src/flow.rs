@@ -214,6 +214,9 @@ pub struct Alias {
 /// What was compiled at once.
 #[derive(Debug, Default)]
 pub struct Unit {
+    pub path: String,
+    /// Of all rows that decide, as the compiler's side has it.
+    pub hash: Option<String>,
     pub functions: Vec<Function>,
     pub aliases: Vec<Alias>,
 }

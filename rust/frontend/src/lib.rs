@@ -14,6 +14,7 @@ mod constructs;
 pub mod directory;
 mod flow;
 mod graph;
+mod hash;
 mod inlining;
 mod joining;
 mod log;
@@ -30,11 +31,14 @@ mod statement;
 #[cfg(test)]
 mod testing;
 pub mod traces;
+mod units;
 mod walk;
 
 pub use ask::{ask, Asked, Finding, Verdict};
 pub use directory::{Directory, Held};
+pub use hash::hash;
 pub use notes::{Key, Note, Notes};
 pub use problem::Problem;
 pub use program::Program;
 pub use regions::RegionChart;
+pub use units::{CriticalAt, UnitFlow, Units};

@@ -3,6 +3,7 @@
 use crate::flow::{Body, Callee, FlowNode, Function, NodeKind, Unit, Word, Words};
 use crate::problem::Problem;
 use crate::reader;
+use crate::units::UnitFlow;
 use region::load;
 use std::collections::{BTreeMap, BTreeSet, HashMap};
 use std::path::Path;
@@ -22,8 +23,9 @@ pub(crate) enum Target {
 pub struct Program {
     pub(crate) words: Words,
     pub(crate) functions: Vec<Function>,
-    /// The unit of each function.
-    units: Vec<usize>,
+    /// The unit of each function, and what is known of units.
+    pub(crate) units: Vec<usize>,
+    pub(crate) sources: Vec<UnitFlow>,
     /// What each unit's own symbols stand for, and what those of all units do.
     local: Vec<HashMap<Word, usize>>,
     public: HashMap<Word, usize>,
@@ -76,6 +78,10 @@ impl Program {
         let mut aliases = Vec::new();
         for (number, unit) in units.into_iter().enumerate() {
             self.local.push(HashMap::new());
+            self.sources.push(UnitFlow {
+                hash: unit.hash,
+                path: unit.path,
+            });
             for function in unit.functions {
                 let symbol = function.symbol;
                 let is_public = function.is_public;

@@ -3,6 +3,7 @@
 
 use crate::body::Draft;
 use crate::flow::{Alias, Function, SourceLine, Unit, Word, Words};
+use crate::hash::hash;
 use crate::problem::Problem;
 
 /// The most bytes that are read of a flow.
@@ -35,7 +36,9 @@ pub(crate) fn read(path: &str, bytes: &[u8], words: &mut Words) -> Result<Unit, 
     let text = std::str::from_utf8(bytes).unwrap_or("");
     let mut reader = Reader::new(words);
     for (row, line) in text.lines().enumerate() {
-        reader.row(row, line).map_err(|message| Problem {
+        let before = line.as_ptr() as usize - text.as_ptr() as usize;
+        let read = reader.row(row, line, &bytes[..before]);
+        read.map_err(|message| Problem {
             path: path.into(),
             row: Some(row + 1),
             message,
@@ -163,7 +166,7 @@ impl<'a> Reader<'a> {
         }
     }
 
-    fn row(&mut self, row: usize, line: &str) -> Outcome<()> {
+    fn row(&mut self, row: usize, line: &str, before: &[u8]) -> Outcome<()> {
         let (first, mut cells) = Cells::of(line);
         if self.is_complete {
             return Err("a row stands behind 'complete'".into());
@@ -177,7 +180,7 @@ impl<'a> Reader<'a> {
             },
             (0, _) => Err(format!("this is no flow: '{HEADER} {VERSION}' is expected")),
             (1, "unit") => {
-                safe_word(cells.next("a path")?)?;
+                self.unit.path = safe_word(cells.next("a path")?)?.into();
                 self.mark = marked(self.mark, line);
                 cells.end()
             }
@@ -186,6 +189,7 @@ impl<'a> Reader<'a> {
             _ if self.open.is_some() => self.inside(first, cells, line),
             (_, "function") => self.function(cells, line),
             (_, "alias") => self.alias(cells),
+            (_, "hash") => self.hash(cells, before),
             (_, "complete") => self.complete(cells),
             _ => Err(format!("'{first}' is no row of a flow")),
         }
@@ -246,6 +250,19 @@ impl<'a> Reader<'a> {
             is_public,
         });
         Ok(())
+    }
+
+    /// The hash of all rows before it.
+    fn hash(&mut self, mut cells: Cells, before: &[u8]) -> Outcome<()> {
+        let found = cells.next("a hash")?;
+        if self.unit.hash.is_some() {
+            return Err("a second hash".into());
+        }
+        if found != hash(before) {
+            return Err("the flow was changed after it was written; compile the unit again".into());
+        }
+        self.unit.hash = Some(found.into());
+        cells.end()
     }
 
     fn complete(&mut self, mut cells: Cells) -> Outcome<()> {

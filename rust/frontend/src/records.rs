@@ -190,10 +190,12 @@ fn named(words: &Words, shape: &Shape, kept: &[usize]) -> (Names, Vec<u16>) {
 /// The name of a critical as a table can have it; empty if it has none. The flow's escapes become those
 /// of a word, and different names stay different.
 pub(crate) fn critical_name(words: &Words, name: Option<Word>) -> String {
-    let Some(name) = name else {
-        return String::new();
-    };
-    let text = words.text(name).replace('%', "$");
+    name.map_or(String::new(), |x| table_name(words.text(x)))
+}
+
+/// The same of a name as the flow has it.
+pub(crate) fn table_name(name: &str) -> String {
+    let text = name.replace('%', "$");
     if text.starts_with(|x: char| x.is_ascii_alphabetic() || x == '_') {
         text
     } else {

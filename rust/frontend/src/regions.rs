@@ -70,7 +70,7 @@ impl Program {
     }
 
     /// A source line as text.
-    fn line(&self, line: SourceLine) -> String {
+    pub(crate) fn line(&self, line: SourceLine) -> String {
         format!("{}:{}", self.words.text(line.file), line.line)
     }
 

@@ -40,6 +40,8 @@ fn run(arguments: &Arguments, _: &Terminal) -> Result<Report, Failure> {
     let program = Program::read(&arguments.operands).map_err(tables::failure)?;
     let (regions, notes) = program.regions();
     directory::write(Path::new(out), &regions, &notes).map_err(|x| tables::failure(vec![x]))?;
+    directory::write_units(Path::new(out), &program.units())
+        .map_err(|x| tables::failure(vec![x]))?;
     let text = format!("{}: {}\n", out.to_string_lossy(), counts(&regions));
     Ok(Report::of(text).with_notes(warnings(&regions, &notes)))
 }
