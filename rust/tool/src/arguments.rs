@@ -34,6 +34,9 @@ pub const WHY: Opt = Opt {
     value: None,
     help: "with a run that shows it, as 'bohrali why' does",
 };
+/// What the value's name of an option ends with that may be given several times.
+const REPEATED: &str = "..";
+
 pub const OUTPUT: Opt = Opt {
     name: "-o",
     value: Some("OUT"),
@@ -69,6 +72,22 @@ impl Arguments {
     }
 }
 
+impl Arguments {
+    /// An option is given once, or each value of it, separated by commas.
+    fn take(&mut self, command: &Command, option: &Opt, value: OsString) -> Result<(), Failure> {
+        let Some(before) = self.options.get_mut(option.name) else {
+            self.options.insert(option.name, value);
+            return Ok(());
+        };
+        if option.value.is_none_or(|x| !x.ends_with(REPEATED)) {
+            return Err(wrong(command, format!("{} is given twice", option.name)));
+        }
+        before.push(",");
+        before.push(value);
+        Ok(())
+    }
+}
+
 /// What was typed, or none where help is asked for.
 pub fn parse(command: &Command, words: &[OsString]) -> Result<Option<Arguments>, Failure> {
     let mut arguments = Arguments::default();
@@ -91,9 +110,7 @@ pub fn parse(command: &Command, words: &[OsString]) -> Result<Option<Arguments>,
                         wrong(command, format!("{} wants {what} behind it", option.name))
                     })?,
                 };
-                if arguments.options.insert(option.name, value).is_some() {
-                    return Err(wrong(command, format!("{} is given twice", option.name)));
-                }
+                arguments.take(command, option, value)?;
             }
             _ => arguments.operands.push(word.clone()),
         }

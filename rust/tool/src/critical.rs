@@ -152,6 +152,17 @@ pub fn locks(subject: &Subject, team: Team) -> Result<Vec<(Critical<'_>, Lock)>,
     Ok(asking.criticals.into_iter().zip(locks?).collect())
 }
 
+/// Of each critical of a flat chart the answers of all pairs that its lock is about.
+pub fn rules(subject: &Subject, locks: &[(Critical, Lock)]) -> Result<Vec<BTreeSet<u8>>, Failure> {
+    let sheet = subject.sheet(Team::default())?;
+    let answer = |(a, b): (u8, u8)| sheet[usize::from(a) * subject.nodes() + usize::from(b)];
+    let of = |own: &Critical| {
+        let same = locks.iter().map(|x| &x.0).filter(|x| x.name == own.name);
+        own.pairs(same).into_iter().map(answer).collect()
+    };
+    Ok(locks.iter().map(|x| of(&x.0)).collect())
+}
+
 /// Criticals of one name in two files share their lock. Whether teams of two regions work at the same time,
 /// because one is reached from inside the other or several host threads come to them, no file says: the locks
 /// stay, unless it is said here that they do not.

@@ -1,5 +1,6 @@
 //! `bohrali locks`: which criticals need their lock.
 
+use super::decide::{self, ASSUME, DECIDE, FINISHED};
 use super::{program_locks, Command};
 use crate::arguments::{Arguments, Opt, JSON, REGION, SIZE, WHY};
 use crate::critical::{self, Critical, Lock, Reason};
@@ -11,7 +12,7 @@ use crate::tables;
 use crate::words::{self, count};
 use witness::Why;
 
-const STRICT: Opt = Opt {
+pub const STRICT: Opt = Opt {
     name: "--strict",
     value: None,
     help: "status 1 where a lock is needed",
@@ -37,21 +38,24 @@ number in one file may be any name of another.",
         "Of a DIR each critical of the program is told once: its lock can go where every chart that has it says so
 and none of its name is in a task, in code that the charts leave out, or in a routine that is not opened.",
         tables::HELP,
+        decide::HELP,
         "The answers are proved. What is put together of them here, over the regions around two criticals and
 over several files, is tested.",
         "With --size the team of --region, the outermost if not given, has just that size; teams of all other
 regions any. In the JSON document 'pair' and 'region' are null where a lock can go, and where it is needed
 for another critical around it or in another file.",
     ],
-    options: &[STRICT, WHY, ONE_TEAM, REGION, SIZE, JSON],
+    options: &[
+        STRICT, WHY, ONE_TEAM, REGION, SIZE, JSON, DECIDE, FINISHED, ASSUME,
+    ],
     run,
 };
 
 fn run(arguments: &Arguments, terminal: &Terminal) -> Result<Report, Failure> {
     if let Some(directory) = tables::named(arguments)? {
-        let flags = [arguments.has(&STRICT), arguments.has(&JSON)];
-        return program_locks::run(directory, flags, terminal);
+        return program_locks::run(directory, arguments, terminal);
     }
+    decide::expect_none(arguments)?;
     let team = Team::named(arguments)?;
     if arguments.has(&REGION) && team.size.is_none() {
         let message =

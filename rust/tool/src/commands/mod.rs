@@ -3,6 +3,7 @@
 mod ask;
 mod check;
 mod convert;
+mod decide;
 mod diff;
 mod distances;
 mod judge;

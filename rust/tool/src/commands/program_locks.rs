@@ -3,12 +3,16 @@
 //! A critical can go when every pair with a critical of its name is a never in every chart that has it, and
 //! none of that name is out of the charts' sight: in a task, in code left out, or in a routine not opened.
 
+use super::decide;
+use super::locks::STRICT;
+use crate::arguments::{Arguments, JSON};
 use crate::critical::{self, Lock, Reason};
 use crate::json::Json;
 use crate::report::{Colour, Failure, Report, Terminal, FOUND, GOOD};
 use crate::subject::{Subject, Team};
 use crate::tables;
 use crate::words::{self, count};
+use bohrali::Lock as Told;
 use frontend::{Directory, Key, Note};
 use region::{Lines, Table};
 use std::collections::{BTreeMap, BTreeSet};
@@ -58,14 +62,37 @@ pub struct Critical {
     line: u32,
     pub place: String,
     pub kind: String,
+    /// Empty if it has none.
+    pub name: String,
+}
+
+/// What all charts that have a critical say.
+pub struct Judged {
+    pub known: Known,
+    /// What the library's call for locks says of it in each chart.
+    told: Vec<Option<Told>>,
+    /// The answers of the pairs that were asked about.
+    pub rules: BTreeSet<u8>,
+}
+
+impl Judged {
+    /// Whether its lock can go, in every run or, if these are enough, in runs that finish.
+    pub fn can_go(&self, in_finished_runs: bool) -> bool {
+        let is_enough = |x: &Option<Told>| match x {
+            Some(Told::DroppableAlways) => true,
+            Some(Told::DroppableFinished) => in_finished_runs,
+            Some(Told::Needed) | None => false,
+        };
+        matches!(self.known, Known::CanGo { .. }) && self.told.iter().all(is_enough)
+    }
 }
 
 /// The criticals of a program.
-pub type Criticals = BTreeMap<Critical, Known>;
+pub type Criticals = BTreeMap<Critical, Judged>;
 
 impl Critical {
     /// By its begin; the calls that lead there are no part of its place.
-    pub fn of(table: &Table, begin: u8) -> Critical {
+    pub fn of(table: &Table, begin: u8, name: String) -> Critical {
         let place = table.place(begin);
         let place = place.split(" via ").next().unwrap_or(place);
         let lines = Lines::in_cell(place).next();
@@ -74,24 +101,27 @@ impl Critical {
             file: lines.map_or(String::new(), |x| x.file),
             place: place.into(),
             kind: table.kind(begin),
+            name,
         }
     }
 }
 
 pub fn run(
     directory: Directory,
-    [is_strict, is_json]: [bool; 2],
+    arguments: &Arguments,
     terminal: &Terminal,
 ) -> Result<Report, Failure> {
-    let criticals = criticals(&directory)?;
     let notes: Vec<Note> = directory.all_notes().cloned().collect();
+    let criticals = criticals(&directory)?;
+    let decided = decide::run(&criticals, &notes, arguments)?;
     let is_needed = criticals
         .values()
-        .any(|x| !matches!(x, Known::CanGo { .. }));
-    let text = match is_json {
+        .any(|x| !matches!(x.known, Known::CanGo { .. }));
+    let text = match arguments.has(&JSON) {
         true => document(&criticals, &notes),
-        false => text(&criticals, &notes, terminal),
+        false => text(&criticals, &notes, terminal) + &decided,
     };
+    let is_strict = arguments.has(&STRICT);
     let status = if is_strict && is_needed { FOUND } else { GOOD };
     Ok(Report::of(text).with_status(status))
 }
@@ -106,9 +136,12 @@ pub fn criticals(directory: &Directory) -> Result<Criticals, Failure> {
         let Some(subject) = tables::subject(held) else {
             continue;
         };
-        for (own, lock) in critical::locks(&subject, Team::default())? {
+        let told = subject.locks(Team::default())?;
+        let locks = critical::locks(&subject, Team::default())?;
+        let rules = critical::rules(&subject, &locks)?;
+        for ((own, lock), rules) in locks.iter().zip(rules) {
             let name = words::name(&own.name);
-            let known = match (in_chart(&subject, &lock, &region), several) {
+            let known = match (in_chart(&subject, lock, &region), several) {
                 (needed @ Known::Needed(_), _) => needed,
                 (_, Some(note)) => Known::Unsure(format!(
                     "several teams may run {region} at a time, by the {} {}",
@@ -116,9 +149,16 @@ pub fn criticals(directory: &Directory) -> Result<Criticals, Failure> {
                 )),
                 (known, None) => out_of_sight(&notes, &name).map_or(known, Known::Unsure),
             };
-            let what = Critical::of(subject.table(), own.begin);
-            let worst = criticals.entry(what).or_insert_with(|| known.clone());
-            *worst = known.max(worst.clone());
+            let what = Critical::of(subject.table(), own.begin, name);
+            let worst = criticals.entry(what).or_insert_with(|| Judged {
+                known: known.clone(),
+                told: Vec::new(),
+                rules: BTreeSet::new(),
+            });
+            worst.known = known.max(worst.known.clone());
+            let told = told.get(usize::from(own.construct));
+            worst.told.push(told.copied().flatten());
+            worst.rules.extend(rules);
         }
     }
     Ok(criticals)
@@ -148,7 +188,7 @@ fn out_of_sight(notes: &[Note], name: &str) -> Option<String> {
 }
 
 /// Routines that may hold criticals of any name.
-fn unknown_routines(notes: &[Note]) -> BTreeSet<String> {
+pub fn unknown_routines(notes: &[Note]) -> BTreeSet<String> {
     let is_unknown = |x: &&Note| matches!(x.key, Key::UnknownRoutine | Key::NotRead);
     let name = |x: &Note| match x.subject.as_str() {
         "*" => "calls through pointers".into(),
@@ -159,7 +199,7 @@ fn unknown_routines(notes: &[Note]) -> BTreeSet<String> {
 
 fn text(criticals: &Criticals, notes: &[Note], terminal: &Terminal) -> String {
     let mut text = String::new();
-    for (critical, known) in criticals {
+    for (critical, Judged { known, .. }) in criticals {
         let colour = match known {
             Known::CanGo { .. } => Colour::Good,
             Known::Unsure(_) => Colour::Quiet,
@@ -177,7 +217,10 @@ fn text(criticals: &Criticals, notes: &[Note], terminal: &Terminal) -> String {
             text += &format!("{:11}{}\n", "", known.reason());
         }
     }
-    let number = |word: &str| criticals.values().filter(|x| x.word() == word).count();
+    let number = |word: &str| {
+        let words = criticals.values().map(|x| x.known.word());
+        words.filter(|x| *x == word).count()
+    };
     text += &format!(
         "{} can go, {} needed, {} not known\n",
         count(number("can go"), "lock"),
@@ -208,7 +251,7 @@ fn condition(notes: &[Note]) -> String {
 }
 
 fn document(criticals: &Criticals, notes: &[Note]) -> String {
-    let each = |(critical, known): (&Critical, &Known)| {
+    let each = |(critical, Judged { known, .. }): (&Critical, &Judged)| {
         Json::Object(vec![
             ("critical", Json::text(critical.kind.clone())),
             ("where", Json::text(critical.place.clone())),

@@ -1,12 +1,13 @@
 //! What is told on the page beside the regions: criticals with their locks, and the notes of a compiled program.
 
 use super::Program;
-use crate::commands::program_locks::{self, Known};
+use crate::commands::program_locks::{self, Judged, Known};
 use crate::critical::{self, Critical, Lock, Reason};
 use crate::json::Json;
 use crate::report::Failure;
 use crate::subject::{Subject, Team};
 use crate::tables;
+use crate::words;
 use frontend::{Held, Key, Notes};
 
 /// The criticals of all files.
@@ -66,8 +67,9 @@ impl<'a> Locks<'a> {
 
     /// What is known of it in the whole program.
     fn known(&self, own: &Critical) -> Option<&'a Known> {
-        let place = program_locks::Critical::of(own.subject.table(), own.begin);
-        self.program?.criticals.get(&place)
+        let name = words::name(&own.name);
+        let place = program_locks::Critical::of(own.subject.table(), own.begin, name);
+        Some(&self.program?.criticals.get(&place)?.known)
     }
 }
 
@@ -79,7 +81,8 @@ impl Program {
     }
 
     pub fn document(&self) -> Json<'_> {
-        let critical = |(own, known): (&program_locks::Critical, &Known)| {
+        let critical = |(own, judged): (&program_locks::Critical, &Judged)| {
+            let known = &judged.known;
             Json::Object(vec![
                 ("critical", Json::text(own.kind.clone())),
                 ("where", Json::text(own.place.clone())),
