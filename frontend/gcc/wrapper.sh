@@ -9,6 +9,9 @@ case $name in
 *) compiler=${BOHRALI_GCC:-gcc} ;;
 esac
 here=${0%/*}
+case ${compiler##*/} in
+bohrali-*) echo "$name: BOHRALI_GCC, BOHRALI_GXX or BOHRALI_GFORTRAN names $compiler, which is no compiler" >&2; exit 2 ;;
+esac
 
 # --record: the program can be recorded. Its objects call the recorder, and each program is linked with it; a shared object has that of
 # the program which it is loaded into.
