@@ -119,7 +119,10 @@ fn conditions(notes: &[Note]) -> Vec<Condition> {
     let mut open = vec![
         condition(
             "conforming",
-            format!("the program obeys OpenMP: each barrier is met by all threads of a team or by none{alike}"),
+            format!(
+                "the program obeys OpenMP: each barrier is met by all threads of a team or by none{alike}; no \
+                 longjmp and no signal comes into a region or out of it"
+            ),
         ),
         condition(
             "one-host-thread",
@@ -128,7 +131,7 @@ fn conditions(notes: &[Note]) -> Vec<Condition> {
         condition(
             "whole-program",
             "code without a flow that is linked or loaded has no critical of these names and runs none of the \
-             program's routines in threads of its own; no longjmp and no signal comes into a region or out of it"
+             program's routines in threads of its own"
                 .into(),
         ),
     ];
