@@ -221,14 +221,18 @@ static void *next_of(const char *name)
     return found;
 }
 
+/* `next`, the runtime's own. */
+#define FIND_NEXT(type, name, declared)                                                            \
+    static type(*_Atomic next) declared;                                                           \
+    if (!next) {                                                                                   \
+        next = (type(*) declared)next_of(#name);                                                   \
+    }
+
 #define BODY void (*body)(void *), void *data
 #define REGION_BY(type, name, declared, passed)                                                    \
     type name declared                                                                             \
     {                                                                                              \
-        static type(*_Atomic next) declared;                                                       \
-        if (!next) {                                                                               \
-            next = (type(*) declared)next_of(#name);                                               \
-        }                                                                                          \
+        FIND_NEXT(type, name, declared);                                                           \
         struct start own = {.reductions = REDUCTIONS_##type, .body = body, .data = data};          \
         start(&own);                                                                               \
         if (own.is_framed) {                                                                       \
@@ -298,10 +302,7 @@ static void claimed(struct entry **places, unsigned depths, unsigned taken)
 #define CLAIM_BY(type, name, declared, passed)                                                     \
     type name declared                                                                             \
     {                                                                                              \
-        static type(*_Atomic next) declared;                                                       \
-        if (!next) {                                                                               \
-            next = (type(*) declared)next_of(#name);                                               \
-        }                                                                                          \
+        FIND_NEXT(type, name, declared);                                                           \
         if (!bohrali_team) {                                                                       \
             return next passed;                                                                    \
         }                                                                                          \
