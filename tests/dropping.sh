@@ -44,6 +44,17 @@ compiler() {
     esac
 }
 
+# gcc knows masked from version 12 on
+major=$("$gcc" -dumpversion)
+major=${major%%.*}
+# compiles SOURCE: whether there is a compiler that does
+compiles() {
+    if ! command -v "$(compiler "$1")" >/dev/null || { [ "$major" -lt 12 ] && grep -q 'omp masked' "$1"; }; then
+        echo "dropping: $1 is left out: $(compiler "$1") is not there, or knows no masked"
+        return 1
+    fi
+}
+
 # decide NAME OPTION..: the decisions NAME.decided about the flows NAME/*.flow
 decide() {
     local name=$1
@@ -78,6 +89,11 @@ plain() {
     cmp plain.o whole.o || fail "$object is not what gcc makes of $source by itself"
 }
 
+# calls WORD OBJECT: how many calls of GOMP_critical_.._WORD there are
+calls() {
+    objdump -r "$2" | grep -c "GOMP_critical_.*$1" || true
+}
+
 dropped=0
 # both SOURCE LEVEL: builds it with all locks and without; what the program prints for teams of 1 to 16 must be alike
 both() {
@@ -91,6 +107,12 @@ both() {
     count=$(grep -c 'left out' "$name/notes" || true)
     test "$count" = "$(grep -c '^drop ' "$name.decided" || true)" || fail "$source -$level: $count locks left out: $(cat "$name/notes")"
     dropped=$((dropped + count))
+    # Without inlining each lock is one call that takes it and one that gives it back.
+    for call in start end; do
+        if [ "$level" = O0 ] && [ $(($(calls $call "$name/a.o") - $(calls $call "$name/b.o"))) != "$count" ]; then
+            fail "$source: not just $count calls GOMP_critical_.._$call are gone"
+        fi
+    done
     if ! nm "$name/a.o" | grep -q ' T main$'; then return; fi
     "$(compiler "$source")" -fopenmp "$name/a.o" -o "$name/locked"
     "$(wrapper "$source")" --drop "$name.decided" -fopenmp "$name/b.o" -o "$name/dropped"
@@ -106,17 +128,15 @@ both() {
 
 for level in O0 O2; do
     for source in programs/*.*; do
-        if ! command -v "$(compiler "$source")" >/dev/null; then
-            echo "dropping: $(compiler "$source") is not there: $source is left out"
-            continue
-        fi
+        compiles "$source" || continue
         both "$source" $level "1 2 3 4 5 7 8 11 16"
     done
 done
 own=$dropped
 for source in "$root"/rust/frontend/tests/programs/*/*.*; do
     case $source in */units/*) continue ;; esac
-    if command -v "$(compiler "$source")" >/dev/null; then both "$source" O2 "4"; fi
+    compiles "$source" || continue
+    both "$source" O2 4
 done
 echo "dropping: $dropped locks left out, $own of them of programs that print the same with and without, in teams of 1 to 16"
 
@@ -148,7 +168,7 @@ if ! echo 'int main(void) { return 0; }' | "$gcc" -fsanitize=thread -x c - -o ca
     echo "dropping: ThreadSanitizer does not run here: no races were looked for"
 else
     for source in programs/*.*; do
-        command -v "$(compiler "$source")" >/dev/null || continue
+        compiles "$source" || continue
         name=$(basename "$source").races
         flowing "$name" "$source"
         sanitized "$name" "$source"
@@ -221,6 +241,10 @@ changed other 's/^    rounds++/    _Pragma("omp critical(hands)") rounds++/' oth
 cheat
 refuses bohrali_link_with_drop "$gcc" -fopenmp two.objects/*.o -o program
 cheat
+"$wrappers/bohrali-gcc" --drop two.decided -r two.objects/*.o -o partial.o
+refuses bohrali_link_with_drop "$gcc" -fopenmp partial.o -o program
+$link partial.o
+cheat
 refuses 'is not as decided' $link two.objects/{main,hands}.o two/other.o
 cheat
 rm -f stale.a && ar rc stale.a two.objects/hands.o two/other.o
@@ -292,9 +316,10 @@ cheat
 rm -f undecided
 refuses '--assume whole-program' "$bohrali" locks later/tables --decide undecided --assume conforming,one-host-thread
 test ! -e undecided || fail "decisions were written that nobody vouches for"
-test $tried = 26 || fail "$tried ways were tried"
+test $tried = 27 || fail "$tried ways were tried"
 echo "dropping: $tried ways to have a lock left out wrongly are refused"
 
 # The example, as its user builds it.
+compiles "$root/examples/playtest/playtest.c" || exit 0
 says 'the same for 100 plays' make -C "$root/examples/playtest" BOHRALI="$bohrali" FLOW_GCC="$wrappers/bohrali-gcc" CC="$gcc" \
     BUILD="$work/playtest" PLAYS=100 TEAMS="1 2 3 8 16" drop

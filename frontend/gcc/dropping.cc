@@ -76,6 +76,11 @@ std::string dropping::match(const std::string &flow)
     return "";
 }
 
+static const char *shown(const std::string &name)
+{
+    return name.empty() ? "(unnamed)" : name.c_str();
+}
+
 static gimple *fence(bool full, gimple *instead_of)
 {
     tree barrier = builtin_decl_explicit(full ? BUILT_IN_SYNC_SYNCHRONIZE : BUILT_IN_ATOMIC_THREAD_FENCE);
@@ -91,8 +96,7 @@ bool dropping::replace(critical &met, gimple_stmt_iterator start, gimple_stmt_it
     gsi_replace(&start, fence(all.full, met.start), false);
     gsi_replace(&end, fence(all.full, met.end), false);
     met.gone = some_gone = true;
-    inform(met.at, "lock of critical %qs left out: nodes never meet, rule %s", met.name.c_str(),
-           met.decided->rules.c_str());
+    inform(met.at, "lock of critical %qs left out: nodes never meet, rule %s", shown(met.name), met.decided->rules.c_str());
     return true;
 }
 
@@ -145,8 +149,7 @@ void dropping::drop(const std::string &flow)
     }
     for (const critical &met : criticals) {
         if (met.decided && !met.gone) {
-            inform(met.at, "lock of critical %qs stays: its start and end are not in one function",
-                   met.name.c_str());
+            inform(met.at, "lock of critical %qs stays: its start and end are not in one function", shown(met.name));
         }
     }
 }

@@ -16,6 +16,7 @@
 #include "function.h"
 #include "gimple.h"
 #include "gimple-iterator.h"
+#include "gimple-ssa.h"
 #include "omp-general.h"
 #include "plugin-version.h"
 #include "stringpool.h"

@@ -193,11 +193,26 @@ int link(words command, const flow::decisions &decided, const char *path, const 
     for (std::string line; std::getline(inputs, line);) {
         if (access(line.c_str(), F_OK) != 0) {
             puts(line.c_str());
-        } else if (line != defined && seen.insert(line).second) {
+        } else if (seen.insert(line).second && line != defined) {
             checked.input(line);
         }
     }
+    if (!seen.count(defined)) {
+        checked.some_gone = true;
+        checked.problems.push_back("the linker does not say what it reads, by -t");
+    }
     return status != 0 ? status : report(checked, path, output(command));
+}
+
+/* One whose output is linked again: there it is checked. */
+bool is_partial(const words &command)
+{
+    for (const std::string &word : command) {
+        if (word == "-r" || word == "-Ur" || word == "-i" || word == "--relocatable") {
+            return true;
+        }
+    }
+    return false;
 }
 
 }
@@ -212,7 +227,7 @@ int main(int count, char **arguments)
     }
     flow::decisions decided;
     std::string why, program = command[0].substr(folder(command[0]).size());
-    bool links = program == "/collect2" || command[0] == "collect2";
+    bool links = (program == "/collect2" || command[0] == "collect2") && !is_partial(command);
     if (links && !(why = decided.read(path)).empty()) {
         fprintf(stderr, "bohrali-link: warning: the decisions of '%s' are not used: %s\n", path, why.c_str());
     }

@@ -21,7 +21,7 @@ int main(int count, char **words)
                 }
                 #pragma omp cancellation point for
             }
-            #pragma omp masked
+            #pragma omp master
             {
                 #pragma omp critical(found)
                 found = found * 31 + round;

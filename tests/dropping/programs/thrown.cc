@@ -37,7 +37,7 @@ template <class T> static void play(table<T> &at, T rounds)
     for (T round = 0; round < rounds; round++) {
         #pragma omp single
         at.seat(round);
-        #pragma omp masked
+        #pragma omp master
         [&] { at.seat(round + 7); }();
         #pragma omp barrier
     }
