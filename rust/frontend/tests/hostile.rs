@@ -45,6 +45,44 @@ fn what_is_no_flow() {
 }
 
 #[test]
+fn a_flow_has_one_hash_of_what_it_says() {
+    let rows = "bohrali-flow 1\nunit a.c\n";
+    let sum = frontend::hash(rows.as_bytes());
+    let whole = format!("{rows}hash {sum}\ncomplete 0\n");
+    let units = read(whole.as_bytes()).expect("a flow").units();
+    assert_eq!(units.units[0].hash, Some(sum.clone()));
+    let cases = [
+        (
+            whole.replace("a.c", "b.c"),
+            "row 3: the flow was changed after it was written; compile the unit again",
+        ),
+        (
+            whole.replace(&sum, "0"),
+            "row 3: the flow was changed after it was written; compile the unit again",
+        ),
+        (
+            whole.replace(&sum, ""),
+            "row 3: a hash expected, and the row ends",
+        ),
+        (
+            whole.replace("complete", &format!("hash {sum}\ncomplete")),
+            "row 4: a second hash",
+        ),
+    ];
+    for (text, message) in cases {
+        assert_eq!(told(&text), format!("a.flow, {message}"));
+    }
+    assert_eq!(
+        read(b"bohrali-flow 1\nunit a.c\ncomplete 0\n")
+            .expect("a flow")
+            .units()
+            .units[0]
+            .hash,
+        None
+    );
+}
+
+#[test]
 fn what_is_no_function() {
     let cases = [
         ("", "row 5: a function has one entry and one exit, outside all directives"),
