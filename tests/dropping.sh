@@ -94,6 +94,20 @@ calls() {
     objdump -r "$2" | grep -c "GOMP_critical_.*$1" || true
 }
 
+runs=0
+# recorded SOURCE LEVEL NAME: what the build without locks does is by the rules, which let no two threads into criticals of one name
+recorded() {
+    local source=$1 level=$2 name=$3
+    case $source in */m1.c) return ;; esac # breaks OpenMP, and is found by tests/record.sh
+    "$(wrapper "$source")" --record --drop "$name.decided" -fopenmp -w "-$level" -c "$source" -o "$name/c.o" 2>/dev/null
+    "$(wrapper "$source")" --record --drop "$name.decided" -fopenmp "$name/c.o" -o "$name/recorded"
+    OMP_WAIT_POLICY=passive OMP_MAX_ACTIVE_LEVELS=3 BOHRALI_LOG=$name/log BOHRALI_FIRST=2 BOHRALI_SHAKE=1 timeout 60 "$name/recorded" 4 >/dev/null ||
+        fail "$source -$level, recorded without locks, ends with $?"
+    "$bohrali" trace "$name/log" "$name/tables" -o "$name/traces" >"$name/said" 2>&1 || fail "the log of $source -$level: $(cat "$name/said")"
+    "$bohrali" replay "$name/traces" --strict >"$name/said" 2>&1 || fail "$source -$level: without locks a run is none by the rules: $(cat "$name/said")"
+    runs=$((runs + $(grep -c '^trace' "$name/traces/traces.txt")))
+}
+
 dropped=0
 # both SOURCE LEVEL: builds it with all locks and without; what the program prints for teams of 1 to 16 must be alike
 both() {
@@ -121,9 +135,7 @@ both() {
         "$name/dropped" "$team" >other.txt
         cmp one.txt other.txt || fail "$source -$level, a team of $team: $(cat one.txt other.txt)"
     done
-    # RECORDED names a command that records runs of the build without locks and replays them: it gets the source, the level, the decisions
-    # and the tables.
-    if [ -n "${RECORDED:-}" ]; then "$RECORDED" "$source" "$level" "$name.decided" "$name/tables"; fi
+    recorded "$source" "$level" "$name"
 }
 
 for level in O0 O2; do
@@ -139,6 +151,7 @@ for source in "$root"/rust/frontend/tests/programs/*/*.*; do
     both "$source" O2 4
 done
 echo "dropping: $dropped locks left out, $own of them of programs that print the same with and without, in teams of 1 to 16"
+echo "dropping: $runs recorded runs without them are runs by the rules"
 
 # By default only what holds in every run goes.
 grep -q '^drop ' parted.c.O2.decided && fail "a lock went that can go only in runs that finish"

@@ -73,6 +73,8 @@ for directory in "$here" "$here/../lib/bohrali"; do
     if [ -f "$plugin" ]; then
         if [ -n "$record" ] && [ -z "$shared" ]; then
             set -- "$@" "-L$directory" -lbohrali-record -lgomp -ldl -lpthread
+            # the recorder has no critical, and belongs to no program's decisions
+            export BOHRALI_OUTSIDE="${BOHRALI_OUTSIDE:+$BOHRALI_OUTSIDE:}$directory/libbohrali-record.a"
         fi
         exec "$compiler" "-fplugin=$plugin" "$@"
     fi
