@@ -1,5 +1,6 @@
 /* The page on paper, A4 across and in light colours: what the panel says, then the rows and the sheet in blocks that a page has room for. */
-const PAPER = { width: 1040, height: 600, row: 12, cell: 11, brief: 150, ratio: 3 };
+/* The ratio is a power of two: by any other Chromium prints canvases too small. */
+const PAPER = { width: 1040, height: 600, row: 12, cell: 11, brief: 150, ratio: 2 };
 let onScreen = null;
 
 function paperRow(n) {
@@ -38,8 +39,8 @@ function briefRows() {
   return box;
 }
 function painted(W, H, paint) {
-  const c = document.createElement("canvas");
-  paint(sized(c, W, H, PAPER.ratio));
+  const c = document.createElement("canvas"), g = sized(c, W, H, PAPER.ratio);
+  paint(g);
   return c;
 }
 /* Some rows with their answers for some columns. */
