@@ -1,6 +1,6 @@
 //! The charts of the benchmark, all fixed: six to be asked again and again, which are the costliest ones
-//! for each part of the work and a typical one, 64 to be asked in turn, as many of both with constructs of more
-//! sorts, two for locks, and four for long traces.
+//! for each part of the work and a typical one, 64 to be asked in turn, seven and 64 more with constructs of more
+//! sorts, two for locks, and four for long traces; and code of the sizes that are asked for.
 
 mod code;
 mod rings;
