@@ -1,7 +1,10 @@
 -- `call_sheet::sheet` meets its contract: rows 1 to 10 and 23, and where none of them applies rows 11 and 21 and the bytes.
 -- Assumes nothing.
 use mathlib.Core.Path.{refl, ap, sym, _∙_}
+use Prim.Native.Nat.{ℕ}
 use borrow.Author.Needs.{needs}
+use Rattle.chart.specs.Format.{decode}
+use Rattle.chart.specs.Reading.{regionOf}
 use Rattle.chart.specs.Checked.{countsOf, readFor}
 use Rattle.chart.specs.declared.format.Chart.{Chart}
 use Rattle.check_chart.proofs.Outcome.{passed-none, refused-some}
@@ -10,9 +13,8 @@ use Rattle.theory_answers.specs.Answer.{answerFor}
 use Rattle.theory_answers.specs.Size.{sizeRows}
 use Rattle.theory_answers.specs.Sheet.{sheet}
 use Rattle.answer_masks.specs.Surveyed.{checkedOf}
-use Rattle.output.proofs.Outputs.{refused-before}
+use Rattle.output.proofs.Outputs.{refused-before, passed-named}
 use Rattle.theory_calls.specs.Sheet.{sheetResult}
-use Rattle.call_pair.proofs.Passed.{output-passed}
 use Rattle.call_sheet.proofs.sheet.Statement.{statement}
 use Rattle.call_sheet.proofs.sheet.Tie as tie
 
@@ -55,7 +57,8 @@ returns-2 c =
     let p = e .args .region in
     let n = passed-none _ (readFor (countsOf s) p) _ (sym (k .survey .ensures .0) ∙ ap checkedOf (m .chart .given .1)) in
     let named = sym (ap (λ (chart : Chart). chart .region) (n .1)) in
-    output-passed s p _ named (n .0) (sizeRows (e .args .size)) (λ R. sheet R (answerFor R (e .args .size))) (e .args .out .now) (w .write-sheet .ensures .0) (w .write-sheet .ensures .1)
+    passed-named (regionRows s p) (sizeRows (e .args .size)) (λ (q : ℕ). let R = regionOf q (decode s) in sheet R (answerFor R (e .args .size))) (e .args .out .now) named (n .0)
+    (w .write-sheet .ensures .0) (w .write-sheet .ensures .1)
 
 pub sheet-spec : {M : Type 1} → statement M
 sheet-spec =

@@ -2,6 +2,7 @@
 -- Assumes nothing.
 use mathlib.Core.Path.{ap, sym, _∙_}
 use mathlib.Core.List.{[]}
+use Prim.Native.Nat.{ℕ}
 use borrow.Author.Needs.{needs}
 use Rattle.chart.specs.Format.{decode}
 use Rattle.chart.specs.Reading.{regionOf}
@@ -9,9 +10,8 @@ use Rattle.chart.specs.declared.format.Chart.{Chart}
 use Rattle.chart.proofs.Records.{nodes-length}
 use Rattle.theory_paths.specs.Admission.{regionRows}
 use Rattle.mark_regions.proofs.Entering.{entered-refused, entered-marked, entered-counts}
-use Rattle.output.proofs.Outputs.{refused-before}
+use Rattle.output.proofs.Outputs.{refused-before, passed-named}
 use Rattle.theory_calls.specs.Phases.{phasesResult}
-use Rattle.call_pair.proofs.Passed.{output-passed}
 use Rattle.call_phases.proofs.writing.phases.Statement.{statement}
 use Rattle.call_phases.proofs.writing.phases.Tie as tie
 
@@ -52,7 +52,8 @@ returns-2 c =
     let q = nodes-length _ _ (E .accepted .laid) in
     let same = sym (k .enter .ensures .0) ∙ m .chart .given .1 in
     let named = sym (ap (λ (chart : Chart). chart .region) (entered-counts _ _ _ same)) in
-    output-passed s p _ named (entered-marked _ _ _ same) [] phasesResult (e .args .out .now) (w .write-phases .ensures .0 _ q) (w .write-phases .ensures .1 _ q (E .has-starts) (E .has-ends))
+    passed-named (regionRows s p) [] (λ (q : ℕ). phasesResult (regionOf q (decode s))) (e .args .out .now) named (entered-marked _ _ _ same)
+    (w .write-phases .ensures .0 _ q) (w .write-phases .ensures .1 _ q (E .has-starts) (E .has-ends))
 
 pub phases-spec : {M : Type 1} → statement M
 phases-spec =
