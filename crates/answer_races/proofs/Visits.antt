@@ -14,12 +14,12 @@ use Rattle.lists.specs.Store.{at-set}
 use Rattle.lists.specs.Tab.{tab}
 use Rattle.theory_calls.specs.Access.{accessAt}
 use Rattle.theory_calls.specs.Races.{harmless}
-use Rattle.answer_races.specs.Linked.{First, Beside}
+use Rattle.answer_races.specs.Linked.{FirstFrom, Beside}
 use Rattle.answer_races.specs.Bytes.{lineRace, byLine}
 use Rattle.answer_races.specs.Walked.{Walked}
 use Rattle.answer_races.proofs.Filled.{filled-tab}
 
-module _ {P : ℕ → Type 0} {f : ℕ → ℕ} {n i m k : ℕ} {out : List ℕ} (skip : (x : ℕ) → (P (i + x) → ⊥) → f x ≡ 0) (from : i ≤ m) (w : Walked f n i m out) (F : First P n m k) where
+module _ {P : ℕ → Type 0} {f : ℕ → ℕ} {n i m k : ℕ} {out : List ℕ} (skip : (x : ℕ) → (P (i + x) → ⊥) → f x ≡ 0) (from : i ≤ m) (w : Walked f n i m out) (F : FirstFrom P n m k) where
   -- an access passed over
   past : (x : ℕ) → i + x < k → i + x < n → Dec (i + x < m) → getD out x 0 ≡ f x
   past x l h (yes p) = w .done x p h

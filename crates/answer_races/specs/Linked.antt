@@ -7,7 +7,7 @@ use lib.ListN.{getD, set}
 use Rattle.theory_calls.specs.Access.{total, accessAt}
 
 -- k is the first number from i on that P holds for; if it is not below n, there is none below n.
-pub record First (P : ℕ → Type 0) (n i k : ℕ) : Type 0 where
+pub record FirstFrom (P : ℕ → Type 0) (n i k : ℕ) : Type 0 where
   pub from : i ≤ k
   pub own : k < n → P k
   pub none : (x : ℕ) → i ≤ x → x < k → x < n → P x → ⊥
@@ -26,13 +26,13 @@ bucket list j = accessAt list j .variable % 1021
 
 -- Entry j is the first access after j of its bucket.
 pub record Chained (list under : List ℕ) : Type 0 where
-  pub after : (j : ℕ) → j < total list → First (λ x. bucket list x ≡ bucket list j) (total list) (j + 1) (getD under j 0)
+  pub after : (j : ℕ) → j < total list → FirstFrom (λ x. bucket list x ≡ bucket list j) (total list) (j + 1) (getD under j 0)
 
 -- Of accesses from i on: entry 2j is the first after j that one of its variable with this write byte may race with, and entry 2j + 1 is the second.
 pub record Linked (list : List ℕ) (write i : ℕ) (links : List ℕ) : Type 0 where
-  pub next : (j : ℕ) → i ≤ j → j < total list → First (Beside list write (accessAt list j .variable)) (total list) (j + 1) (getD links (2 * j) 0)
+  pub next : (j : ℕ) → i ≤ j → j < total list → FirstFrom (Beside list write (accessAt list j .variable)) (total list) (j + 1) (getD links (2 * j) 0)
   pub second : (j : ℕ) → i ≤ j → j < total list → getD links (2 * j) 0 < total list
-      → First (Beside list write (accessAt list j .variable)) (total list) (getD links (2 * j) 0 + 1) (getD links (2 * j + 1) 0)
+      → FirstFrom (Beside list write (accessAt list j .variable)) (total list) (getD links (2 * j) 0 + 1) (getD links (2 * j + 1) 0)
   pub small : (j : ℕ) → i ≤ j → j < total list → getD links (2 * j) 0 ≤ 1024
 
 -- The links once k is stored as the place after j, and with it the one after that.

@@ -3,7 +3,7 @@ ghost use mathlib.Core.Path.{_≡_};
 ghost use Prim.Native.Nat.{ℕ, _+_, _*_, _≤_, _<_};
 ghost use lib.ListN.{length, getD};
 ghost use Rattle.theory_calls.specs.Access.{total, accessAt};
-ghost use Rattle.answer_races.specs.Linked.{First, Same, Beside, Chained, Linked, linkedTo};
+ghost use Rattle.answer_races.specs.Linked.{FirstFrom, Same, Beside, Chained, Linked, linkedTo};
 use chart::cursor::wide;
 
 // Bytes of an access.
@@ -67,7 +67,7 @@ fn next_of(accesses: &[u8], i: usize, under: &[u16; MOST]) -> usize
     requires { ⌜ Chained (now accesses) (now under) × (length (now accesses) ≤ 4096) × (i < total (now accesses)) ⌝ }
     ensures { λ r.
         let list = now (accesses .entry) in
-        ⌜ First (Same list (accessAt list i .variable)) (total list) (i + 1) r × (r ≤ 1024) ⌝ }
+        ⌜ FirstFrom (Same list (accessAt list i .variable)) (total list) (i + 1) r × (r ≤ 1024) ⌝ }
 {
     let n = accesses.len() / RECORD;
     let variable = variable_at(accesses, i);
@@ -86,8 +86,8 @@ fn write_from(accesses: &[u8], k: usize, writes: &Links) -> usize
     requires { ⌜ length (now accesses) ≤ 4096 ⌝ }
     ensures { λ r.
         let list = now (accesses .entry) in
-        ⌜ ((i : ℕ) → i < total list → First (Same list (accessAt list i .variable)) (total list) (i + 1) k → k ≤ 1024 → Linked list 0 (i + 1) (now (writes .entry))
-        → First (Beside list 0 (accessAt list i .variable)) (total list) (i + 1) r × (r ≤ 1024)) ⌝ }
+        ⌜ ((i : ℕ) → i < total list → FirstFrom (Same list (accessAt list i .variable)) (total list) (i + 1) k → k ≤ 1024 → Linked list 0 (i + 1) (now (writes .entry))
+        → FirstFrom (Beside list 0 (accessAt list i .variable)) (total list) (i + 1) r × (r ≤ 1024)) ⌝ }
 {
     if k >= accesses.len() / RECORD {
         return MOST;

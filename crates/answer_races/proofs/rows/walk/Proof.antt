@@ -7,7 +7,7 @@ use native.Mathlib.Omega.{arith}
 use lib.ListN.{length, getD, set, length-set}
 use Rattle.lists.specs.Tab.{tab}
 use Rattle.theory_calls.specs.Access.{total, accessAt}
-use Rattle.answer_races.specs.Linked.{First, Beside}
+use Rattle.answer_races.specs.Linked.{FirstFrom, Beside}
 use Rattle.answer_races.specs.Bytes.{byLine}
 use Rattle.answer_races.specs.Walked.{Walked}
 use Rattle.answer_races.proofs.Visits.{walk-visit, walk-end, byte-here, byte-other}
@@ -53,7 +53,7 @@ loop-holds c = let e = c .before .before .before in (refl, omega arith, few e .2
 
 -- the access of this turn
 next : (t : tie.In-loop Inv-loop μ-loop) → let l = t .before in (l .loop .k < total (start l .args .accesses .now))
-    × First (Near (start l)) (total (start l .args .accesses .now)) (l .loop .j + 1) (l .loop .k)
+    × FirstFrom (Near (start l)) (total (start l .args .accesses .now)) (l .loop .j + 1) (l .loop .k)
 next t =
     let l = t .before in
     let e = start l in
@@ -103,7 +103,7 @@ visited r =
 
 -- the access after it
 later : (p : tie.After-place2 Inv-loop μ-loop) → let l = p .before .before .before in
-    First (Near (start l)) (total (start l .args .accesses .now)) (l .loop .k + 1) (p .place2 .result)
+    FirstFrom (Near (start l)) (total (start l .args .accesses .now)) (l .loop .k + 1) (p .place2 .result)
 later p =
     let t = p .before .before in
     let l = t .before in

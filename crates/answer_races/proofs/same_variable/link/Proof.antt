@@ -5,7 +5,7 @@ use Prim.Native.Nat.{ℕ, _+_, _-_, _≤_, _<_}
 use native.Mathlib.Omega.{arith}
 use lib.ListN.{length}
 use Rattle.theory_calls.specs.Access.{total, accessAt}
-use Rattle.answer_races.specs.Linked.{First, Beside, Linked}
+use Rattle.answer_races.specs.Linked.{FirstFrom, Beside, Linked}
 use Rattle.answer_races.proofs.Links.{beside-write, link-length, linked-more}
 use Rattle.answer_races.proofs.same_variable.link.Statement.{statement}
 use Rattle.answer_races.proofs.same_variable.link.Tie as tie
@@ -59,7 +59,7 @@ write-from-requires c κs = start (c .before .before .before .before .before .be
 written : (w : tie.After-write-from Inv-loop μ-loop) → let l = w .before .before .before .before .before .before .before in
     let list = start l .args .accesses .now in
     let i = l .loop .i - 1 in
-    First (Beside list 0 (accessAt list i .variable)) (total list) (i + 1) (w .write-from .result) × (w .write-from .result ≤ 1024)
+    FirstFrom (Beside list 0 (accessAt list i .variable)) (total list) (i + 1) (w .write-from .result) × (w .write-from .result ≤ 1024)
 written w =
     let n = w .before .before .before .before in
     let t = n .before .before in

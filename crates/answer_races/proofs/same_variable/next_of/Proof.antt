@@ -5,7 +5,7 @@ use Prim.Native.Nat.{_+_, _*_, _-_, _/_, _≤_, _<_}
 use native.Mathlib.Omega.{arith}
 use lib.ListN.{length, getD}
 use Rattle.theory_calls.specs.Access.{total}
-use Rattle.answer_races.specs.Linked.{First, bucket}
+use Rattle.answer_races.specs.Linked.{FirstFrom, bucket}
 use Rattle.answer_races.proofs.Chains.{Sought, sought-first, sought-more, sought-found, sought-none}
 use Rattle.answer_races.proofs.same_variable.next_of.Statement.{statement}
 use Rattle.answer_races.proofs.same_variable.next_of.Tie as tie
@@ -58,7 +58,7 @@ past t = omega arith
 linked : (c : tie.After-index2 Inv-loop μ-loop) → let l = c .before .before .before .before .before in
     let e = start l in
     let list = e .args .accesses .now in
-    First (λ x. bucket list x ≡ bucket list (l .loop .k)) (total list) (l .loop .k + 1) (getD (e .args .under .now) (l .loop .k) 0)
+    FirstFrom (λ x. bucket list x ≡ bucket list (l .loop .k)) (total list) (l .loop .k + 1) (getD (e .args .under .now) (l .loop .k) 0)
 linked c =
     let t = c .before .before .before .before in
     let l = t .before in
