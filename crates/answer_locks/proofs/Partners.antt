@@ -15,9 +15,9 @@ use Rattle.lists.specs.Mask.{Has, maskOf, mask-of}
 use Rattle.lists.specs.Bits.{has, has-below}
 use Rattle.lists.specs.Common.{common}
 use Rattle.masks.specs.declared.unions.Words.{Words}
-use Rattle.answer_sheet.specs.Gathered.{having}
-use Rattle.answer_sheet.specs.Shared.{common-of}
-use Rattle.answer_sheet.proofs.RowSets.{three-words}
+use Rattle.answer_nodes.specs.Gathered.{having}
+use Rattle.answer_nodes.specs.Shared.{common-of}
+use Rattle.answer_nodes.proofs.Joining.{three-words}
 use Rattle.answer_met.specs.Meets.{SetFrom, NodeSet, Named}
 use Rattle.answer_locks.specs.Search.{hasNamed, partner}
 

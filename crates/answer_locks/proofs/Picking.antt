@@ -11,7 +11,7 @@ use Rattle.lists.specs.Truth.{false-if, same-truth, and-true}
 use Rattle.lists.specs.Mask.{Sub, has-none, has-own, has-pow}
 use Rattle.lists.specs.Bits.{has}
 use Rattle.lists.specs.Lowest.{Lowest, without-lowest}
-use Rattle.answer_sheet.proofs.Ranks.{has-or}
+use Rattle.answer_nodes.proofs.BitTests.{has-or}
 
 pub record Picking (mask : ℕ) (test : ℕ → Bool) (rest picked : ℕ) : Type 0 where
   pub left : Sub rest mask

@@ -13,7 +13,7 @@ use Rattle.lists.specs.Truth.{truth, clash, false-if, and-both, both-and, and-f
 use Rattle.lists.specs.Range.{any, any-next}
 use Rattle.lists.specs.Mask.{has-none}
 use Rattle.lists.specs.Bits.{has}
-use Rattle.answer_sheet.proofs.Ranks.{has-or}
+use Rattle.answer_nodes.proofs.BitTests.{has-or}
 use Rattle.answer_pairs.specs.Rules.{profileAt}
 use Rattle.answer_pairs.specs.declared.rules.Profile.{Profile}
 use Rattle.masks.specs.declared.unions.Words.{Words}

@@ -10,8 +10,8 @@ use lib.ListN.{getD}
 use Rattle.lists.specs.Bits.{has}
 use Rattle.answer_constructs.specs.Marks.{startsIn, endsIn, heldIn}
 use Rattle.answer_pairs.specs.declared.rules.Profile.{Profile}
-use Rattle.answer_sheet.specs.Sheet.{SharedFrom}
-use Rattle.answer_sheet.proofs.Ranks.{has-and}
+use Rattle.answer_nodes.specs.NodeSets.{SharedFrom}
+use Rattle.answer_nodes.proofs.BitTests.{has-and}
 use Rattle.answer_met.specs.Meets.{unbarred, meets, SetFrom}
 
 module _ (closed : List ℕ) (marks : List (List ℕ)) (own : Profile) (first : ℕ) where

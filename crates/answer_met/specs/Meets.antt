@@ -9,7 +9,7 @@ use lib.ListN.{getD}
 use Rattle.lists.specs.Bits.{has}
 use Rattle.lists.specs.Common.{common}
 use Rattle.masks.specs.declared.unions.Words.{Words}
-use Rattle.answer_sheet.specs.Gathered.{Gathered}
+use Rattle.answer_nodes.specs.Gathered.{Gathered}
 use Rattle.answer_constructs.specs.Marks.{startsIn, endsIn, heldIn}
 use Rattle.answer_pairs.specs.declared.rules.Profile.{Profile}
 

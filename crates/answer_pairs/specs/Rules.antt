@@ -2,14 +2,15 @@
 -- hold, and for a known size rule 7 is a master that one of them holds and the team lacks. So the answer is read off the masks.
 -- Assumes nothing.
 use mathlib.Core.Path.{_≡_, refl, sym, _∙_, subst}
-use mathlib.Core.Logic.{inl, inr, _↔_}
-use mathlib.Core.Bool.{Bool, true, false, _||_, not, cond}
-use mathlib.Core.List.{List}
-use Prim.Native.Nat.{ℕ, _<_}
+use mathlib.Core.Logic.{_⊎_, inl, inr, _↔_}
+use mathlib.Core.Bool.{Bool, true, false, _&&_, _||_, not, cond}
+use mathlib.Core.List.{List, [], _∷_}
+use Prim.Native.Nat.{ℕ, zero, suc, _+_, _<_}
 use native.Mathlib.Omega.{arith}
 use lib.Bits.{bitAnd, bitOr, and-zero-r}
 use lib.ListN.{length, getD}
-use Rattle.lists.specs.Truth.{same-truth, or-cases, or-left, or-right}
+use Rattle.lists.specs.Range.{any, first, any-same, any-none, first-passes, first-is, first-least}
+use Rattle.lists.specs.Truth.{truth, same-truth, or-cases, or-left, or-right}
 use Rattle.lists.specs.Means.{not-of}
 use Rattle.lists.specs.Mask.{Mask, mask-carry, mask-of, mask-either}
 use Rattle.lists.specs.Common.{mask-both, common, common-test}
@@ -24,27 +25,88 @@ use Rattle.theory_answers.specs.Unexcluded.{Common}
 use Rattle.theory_answers.specs.AnswerLaws.{do-below, no-common-of, masters-of, single-of, ordereds-of, section-of}
 use Rattle.theory_paths.specs.Phases.{Direction, forward, backward, Boundary, barriers, barrierAt, marked, marks}
 use Rattle.theory_paths.specs.PhasesLaws.{Marked, marked-means, barrier-number}
-use Rattle.answer_constructs.specs.Marks.{Holds, Held, OfKind, Lacked, Sized, startsIn, endsIn, heldIn, Marks}
+use Rattle.answer_constructs.specs.Marks.{Holds, Held, OfKind, Kinds, Lacked, Sized, startsIn, endsIn, heldIn, Marks}
 use Rattle.answer_constructs.specs.declared.chains.Sets.{Sets}
 use Rattle.answer_pairs.specs.declared.rules.Profile.{Profile}
+
+-- The kind of construct that the k-th rule from rule 2 on asks for.
+abbrev pub ruleKind : ℕ → Kind
+ruleKind zero = master
+ruleKind (suc zero) = single
+ruleKind (suc (suc zero)) = loop
+ruleKind (suc (suc (suc k))) = section
+
+-- The constructs of these kinds, in the order of the rules.
+abbrev pub kindsOf : Sets → List ℕ
+kindsOf sets = sets .masters ∷ sets .singles ∷ sets .dos ∷ sets .sections ∷ []
+
+pub of-rule : {R : Region} {sets : Sets} → Kinds R sets → (k : ℕ) → k < 4 → OfKind R (ruleKind k) (getD (kindsOf sets) k 0)
+of-rule K zero l = K .masters
+of-rule K (suc zero) l = K .singles
+of-rule K (suc (suc zero)) l = K .dos
+of-rule K (suc (suc (suc zero))) l = K .sections
+of-rule K (suc (suc (suc (suc k)))) l = absurd (omega arith)
 
 -- The masks of node x.
 unfoldable pub profileAt : List (List ℕ) → ℕ → Profile
 profileAt marks x = record { starts = getD (startsIn marks) x 0; ends = getD (endsIn marks) x 0; held = getD (heldIn marks) x 0 }
 
--- The answer for all teams by the masks of the two nodes, the rules in their order.
+-- The number of the first of n rules that applies, of those from rule 2 on; 0 where none does.
+unfoldable pub numbered : ℕ → (ℕ → Bool) → ℕ
+numbered n rule = cond (any n rule) (first n rule + 2) 0
+
+pub numbered-same : (n : ℕ) (f g : ℕ → Bool) → ((k : ℕ) → k < n → f k ≡ g k) → numbered n f ≡ numbered n g
+unfolding numbered
+numbered-same n f g h = rw (any-same n f g h) (go (truth (any n g)))
+  where
+    go : (any n g ≡ true) ⊎ (any n g ≡ false) → cond (any n g) (first n f + 2) 0 ≡ cond (any n g) (first n g + 2) 0
+    go (inl t) =
+        let (l, p) = first-passes n g t in
+        rw (first-is n f (first n g) l (h (first n g) l ∙ p) (any-none (first n g) f (λ k m. h k (omega arith) ∙ first-least n g k m)))
+    go (inr e) = rw e
+
+-- The first rule for all teams, by whether the nodes have a common phase and by the rules from rule 2 on.
+unfoldable pub byRules : Bool → (ℕ → Bool) → ℕ
+byRules phase rule = cond (not phase) 1 (numbered 4 rule)
+
+-- Ahead of it, of a known size: the team has one thread, or it lacks one that either node needs.
+unfoldable pub bySize : Bool → Bool → ℕ → ℕ
+bySize alone lacks ruled = cond alone 6 (cond lacks 7 ruled)
+
+-- The k-th rule from rule 2 on, by what the two nodes hold: a construct of its kind in common.
+abbrev pub ruleBy : Sets → ℕ → ℕ → ℕ → Bool
+ruleBy sets m n k = common (bitAnd m n) (getD (kindsOf sets) k 0)
+
+-- The answer for all teams by the masks of the two nodes.
 unfoldable pub ruledBy : Sets → Profile → Profile → ℕ
-ruledBy sets x y =
-    cond (not (common (x .starts) (y .starts)) || not (common (x .ends) (y .ends))) 1
-    (cond (common (bitAnd (x .held) (y .held)) (sets .masters)) 2
-    (cond (common (bitAnd (x .held) (y .held)) (sets .singles)) 3
-    (cond (common (bitAnd (x .held) (y .held)) (sets .dos)) 4
-    (cond (common (bitAnd (x .held) (y .held)) (sets .sections)) 5
-    0))))
+ruledBy sets x y = byRules (common (x .starts) (y .starts) && common (x .ends) (y .ends)) (ruleBy sets (x .held) (y .held))
 
 -- The answer for the teams that the sets are of.
 unfoldable pub answerBy : Sets → Profile → Profile → ℕ
-answerBy sets x y = cond (sets .alone) 6 (cond (common (bitOr (x .held) (y .held)) (sets .missing)) 7 (ruledBy sets x y))
+answerBy sets x y = bySize (sets .alone) (common (bitOr (x .held) (y .held)) (sets .missing)) (ruledBy sets x y)
+
+-- Four tests in a row.
+abbrev inRow : Bool → Bool → Bool → Bool → ℕ → Bool
+inRow a b c d zero = a
+inRow a b c d (suc zero) = b
+inRow a b c d (suc (suc zero)) = c
+inRow a b c d (suc (suc (suc k))) = d
+
+-- The rules from rule 2 on, in their order.
+abbrev pub ruleOf : Region → ℕ → ℕ → ℕ → Bool
+ruleOf R a b = inRow (bothInMasters R a b) (bothInSingle R a b) (bothInOrdereds R a b) (bothInSection R a b)
+
+answer-ruled : (R : Region) (a b : ℕ) → answer R a b ≡ byRules (not (noCommonPhase R a b)) (ruleOf R a b)
+unfolding answer byRules numbered any first
+answer-ruled R a b = go (noCommonPhase R a b) (bothInMasters R a b) (bothInSingle R a b) (bothInOrdereds R a b) (bothInSection R a b)
+  where
+    go : (p m k d c : Bool) → cond p 1 (cond m 2 (cond k 3 (cond d 4 (cond c 5 0)))) ≡ byRules (not p) (inRow m k d c)
+    go true m k d c = refl
+    go false true k d c = refl
+    go false false true d c = refl
+    go false false false true c = refl
+    go false false false false true = refl
+    go false false false false false = refl
 
 module _ {R : Region} (W : WellFormed R) where
   mask-marks : (d : Direction) (x : ℕ) → Mask (Marked d R x) (length (barriers R)) (marks d R x)
@@ -68,9 +130,14 @@ module _ {R : Region} (W : WellFormed R) where
         let m = not-of (common-marks d) in
         same-truth _ _ (λ h. m .1 (n .0 h)) (λ h. n .1 (m .0 h))
 
-    phase-by : noCommonPhase R a b ≡ (not (common (marks forward R a) (marks forward R b)) || not (common (marks backward R a) (marks backward R b)))
+    phase-by : not (noCommonPhase R a b) ≡ (common (marks forward R a) (marks forward R b) && common (marks backward R a) (marks backward R b))
     unfolding noCommonPhase
-    phase-by = rw (apart-by forward, apart-by backward)
+    phase-by = rw (apart-by forward, apart-by backward) (go (common (marks forward R a) (marks forward R b)) (common (marks backward R a) (marks backward R b)))
+      where
+        go : (x y : Bool) → not (not x || not y) ≡ (x && y)
+        go true true = refl
+        go true false = refl
+        go false y = refl
 
   module _ (a b : ℕ) {m n s : ℕ} (v : Held R a m) (w : Held R b n) where
     -- a construct of this kind that both hold
@@ -81,26 +148,34 @@ module _ {R : Region} (W : WellFormed R) where
       λ (d, (l, (x, (y, q)))). t .1 (d, (l, ((subst (Holds R a d) (sym q) x, subst (Holds R b d) (sym q) y), q))),
     )
 
-    pub masters-by : OfKind R master s → bothInMasters R a b ≡ common (bitAnd m n) s
+    masters-by : OfKind R master s → bothInMasters R a b ≡ common (bitAnd m n) s
     masters-by z = let t = both-hold master z in same-truth _ _
         (λ h. let (c, (d, ((x, y), e))) = masters-of W a b .0 h in t .1 (c, (W .inside-below (x .1), ((c, (x, refl)), ((d, (y, sym e)), x .0)))))
         (λ h. let (k, (l, (x, (y, q)))) = t .0 h in masters-of W a b .1 (x .0, (y .0, ((x .1 .0, y .1 .0), x .1 .1 ∙ sym (y .1 .1)))))
 
-    pub single-by : OfKind R single s → bothInSingle R a b ≡ common (bitAnd m n) s
+    single-by : OfKind R single s → bothInSingle R a b ≡ common (bitAnd m n) s
     single-by z = let t = both-hold single z in same-truth _ _
         (λ h. let (c, ((x, y), f)) = single-of W a b .0 h in t .1 (c, (W .inside-below (x .1), ((x .1, f), ((y .1, f), x .0)))))
         (λ h. let (c, (l, (x, (y, q)))) = t .0 h in single-of W a b .1 (c, (((q, x .0), (q, y .0)), x .1)))
 
-    pub ordereds-by : OfKind R loop s → bothInOrdereds R a b ≡ common (bitAnd m n) s
+    ordereds-by : OfKind R loop s → bothInOrdereds R a b ≡ common (bitAnd m n) s
     ordereds-by z = let t = both-hold loop z in same-truth _ _
         (λ h. let (d, ((x, y), f)) = ordereds-of W a b .0 h in
         t .1 (d, (do-below W x, ((x, f), ((y, f), subst (λ (e : ℕ). R .kind e ≡ loop) (x .of-do) (W .ordered-loop (x .within) (x .is-ordered)))))))
         (λ h. let (d, (l, (x, (y, q)))) = t .0 h in ordereds-of W a b .1 (d, ((x .0, y .0), x .1)))
 
-    pub section-by : OfKind R section s → bothInSection R a b ≡ common (bitAnd m n) s
+    section-by : OfKind R section s → bothInSection R a b ≡ common (bitAnd m n) s
     section-by z = let t = both-hold section z in same-truth _ _
         (λ h. let (d, ((x, y), f)) = section-of W a b .0 h in t .1 (d, (section-below W x, ((x, f), ((y, f), x .is-section)))))
         (λ h. let (d, (l, (x, (y, q)))) = t .0 h in section-of W a b .1 (d, ((x .0, y .0), x .1)))
+
+  -- each rule
+  pub rule-by : (a b : ℕ) {m n : ℕ} {sets : Sets} → Held R a m → Held R b n → Kinds R sets → (k : ℕ) → k < 4 → ruleOf R a b k ≡ ruleBy sets m n k
+  rule-by a b v w K zero l = masters-by a b v w (of-rule K 0 l)
+  rule-by a b v w K (suc zero) l = single-by a b v w (of-rule K 1 l)
+  rule-by a b v w K (suc (suc zero)) l = ordereds-by a b v w (of-rule K 2 l)
+  rule-by a b v w K (suc (suc (suc zero))) l = section-by a b v w (of-rule K 3 l)
+  rule-by a b v w K (suc (suc (suc (suc k)))) l = absurd (omega arith)
 
   -- a master that one of them holds, for a thread that a team of this size lacks
   module _ (size a b : ℕ) {m n s : ℕ} (v : Held R a m) (w : Held R b n) (z : Mask (Lacked R size) (R .constructs) s) where
@@ -124,26 +199,22 @@ module _ {R : Region} (W : WellFormed R) where
 -- The answer, read off the masks of two nodes: for all teams, and for those of a size.
 pub ruled-by : {R : Region} {marks : List (List ℕ)} {sets : Sets} → Marks R marks sets → (a b : ℕ) → a < R .nodes → b < R .nodes
     → answer R a b ≡ ruledBy sets (profileAt marks a) (profileAt marks b)
-unfolding profileAt ruledBy answer
-ruled-by M a b la lb =
+unfolding profileAt ruledBy byRules
+ruled-by {R} {marks} {sets} M a b la lb =
     let W = M .well-formed in
-    let v = M .has-held a la in
-    let w = M .has-held b lb in
-    rw (
+    let rules = numbered-same 4 (ruleOf R a b) (ruleBy sets (getD (heldIn marks) a 0) (getD (heldIn marks) b 0)) (rule-by W a b (M .has-held a la) (M .has-held b lb) (M .kinds)) in
+    answer-ruled R a b ∙ rw (
+      phase-by W a b,
+      rules,
       M .has-starts a (omega arith),
       M .has-starts b (omega arith),
       M .has-ends a (omega arith),
       M .has-ends b (omega arith),
-      ← phase-by W a b,
-      ← masters-by W a b v w (M .kinds .masters),
-      ← single-by W a b v w (M .kinds .singles),
-      ← ordereds-by W a b v w (M .kinds .dos),
-      ← section-by W a b v w (M .kinds .sections),
     )
 
 pub sized-by : (sets : Sets) (x y : Profile) {alone lacks : Bool} → sets .alone ≡ alone → common (bitOr (x .held) (y .held)) (sets .missing) ≡ lacks
     → answerBy sets x y ≡ cond alone 6 (cond lacks 7 (ruledBy sets x y))
-unfolding answerBy
+unfolding answerBy bySize
 sized-by sets x y p q = cc
 
 -- where no thread is lacking

@@ -6,7 +6,7 @@ ghost use Rattle.chart.specs.Region.{Region};
 ghost use Rattle.theory_answers.specs.Answer.{answerFor};
 ghost use Rattle.theory_answers.specs.declared.Size.{Size};
 ghost use Rattle.answer_constructs.specs.Marks.{Sized, Marks};
-ghost use Rattle.answer_pairs.specs.Rules.{profileAt, ruledBy, answerBy};
+ghost use Rattle.answer_pairs.specs.Rules.{kindsOf, profileAt, ruledBy, answerBy};
 use answer_constructs::chains::Sets;
 use answer_constructs::marks::ENDS;
 use answer_constructs::marks::HELD;
@@ -46,7 +46,17 @@ pub fn same(x: Profile, y: Profile) -> bool
     x.held == y.held
 }
 
-// The rules for all teams in their order; past the first, a rule asks for a construct of its kind that both hold.
+// The rules from rule 2 on, each of which asks for a construct of its kind that both nodes hold.
+pub const RULES: usize = 4;
+
+// The constructs of these kinds, in the order of the rules.
+pub fn kinds_of(sets: Sets) -> [u64; RULES]
+    ensures { λ r. ⌜ r ≡ kindsOf sets ⌝ }
+{
+    [sets.masters, sets.singles, sets.dos, sets.sections]
+}
+
+// The rules for all teams in their order; from rule 2 on, each asks for a construct of its kind that both hold.
 fn ruled_by(sets: Sets, x: Profile, y: Profile) -> u8
     ensures { λ r. ⌜ r ≡ ruledBy sets x y ⌝ }
 {
@@ -57,17 +67,13 @@ fn ruled_by(sets: Sets, x: Profile, y: Profile) -> u8
         return Answer::NO_COMMON_PHASE;
     }
     let both = x.held & y.held;
-    if common(both, sets.masters) {
-        return Answer::MASTER;
-    }
-    if common(both, sets.singles) {
-        return Answer::SINGLE;
-    }
-    if common(both, sets.dos) {
-        return Answer::ORDERED;
-    }
-    if common(both, sets.sections) {
-        return Answer::SECTION;
+    let kinds = kinds_of(sets);
+    let mut k = 0;
+    while k < RULES {
+        if common(both, kinds[k]) {
+            return Answer::MASTER + k as u8;
+        }
+        k += 1;
     }
     Answer::CONCURRENT
 }

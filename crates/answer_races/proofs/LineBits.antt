@@ -11,9 +11,9 @@ use Rattle.lists.specs.Bits.{has}
 use Rattle.lists.specs.Common.{common}
 use Rattle.masks.specs.Unions.{Joined}
 use Rattle.masks.specs.declared.unions.Words.{Words}
-use Rattle.answer_sheet.specs.Shared.{shared}
-use Rattle.answer_sheet.proofs.Ranks.{bit-is}
-use Rattle.answer_sheet.proofs.RowSets.{three-words}
+use Rattle.answer_nodes.specs.Shared.{shared}
+use Rattle.answer_nodes.proofs.BitTests.{bit-is}
+use Rattle.answer_nodes.proofs.Joining.{three-words}
 use Rattle.answer_pairs.specs.declared.rules.Profile.{Profile}
 use Rattle.answer_met.specs.Meets.{meets, SetFrom, NodeSet, Named}
 use Rattle.answer_races.specs.Bytes.{lineRace}

@@ -1,4 +1,3 @@
-pub mod Runs
 pub mod Spreads
 pub mod Ranks
 pub mod RowSets

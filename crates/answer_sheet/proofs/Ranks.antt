@@ -3,72 +3,17 @@
 use mathlib.Core.Path.{_≡_, refl, ap, sym, _∙_}
 use mathlib.Core.Logic.{inl, inr}
 use mathlib.Core.Bool.{Bool, true, false, _&&_, _||_, not, cond}
-use Prim.Native.Nat.{ℕ, _+_, _*_, _-_, _/_, _%_, _^_, _<_}
+use Prim.Native.Nat.{ℕ, zero, suc, _+_, _*_, _-_, _/_, _%_, _^_, _<_}
 use native.Mathlib.Omega.{arith}
-use native.Mathlib.Nat.{div-eq-of-lt}
-use lib.Bits.{bitAnd, bitOr, bitXor, differ, xor-step, xor-shr}
+use native.Mathlib.Numerals.{add-one}
+use lib.Bits.{bitOr}
 use lib.Dec.{eqb}
-use lib.Pow.{pow-pos}
-use borrow.Author.Tests.{eqb-true, eq-eqb, eqb-false}
-use Rattle.lists.specs.Truth.{truth, same-truth, and-both, both-and, or-cases as or-either, or-left as either-left, or-right as either-right}
-use Rattle.lists.specs.Mask.{maskOf, mask-of, or-cases, or-left, or-right}
+use Rattle.lists.specs.Range.{any, first, any-next}
+use Rattle.lists.specs.Truth.{bad, truth, and-both}
+use Rattle.lists.specs.Mask.{maskOf, mask-of}
 use Rattle.lists.specs.Bits.{has}
-use Rattle.lists.specs.Common.{and-both as common-both, both-and as both-common}
-use Rattle.answer_sheet.specs.Sheet.{byRules}
-
-pub has-and : (a b j : ℕ) → has (bitAnd a b) j ≡ (has a j && has b j)
-has-and a b j = same-truth _ _ (λ h. let (p, q) = common-both a b j (eqb-true _ 1 h) in both-and _ _ (eq-eqb _ 1 p) (eq-eqb _ 1 q))
-    (λ h. let (p, q) = and-both _ _ h in eq-eqb _ 1 (both-common a b j (eqb-true _ 1 p) (eqb-true _ 1 q)))
-
-pub has-or : (a b j : ℕ) → has (bitOr a b) j ≡ (has a j || has b j)
-has-or a b j = same-truth _ _
-    (λ h. elim (or-cases a b j (eqb-true _ 1 h)) [ inl p ↦ either-left (has a j) (has b j) (eq-eqb _ 1 p) | inr p ↦ either-right (has a j) (has b j) (eq-eqb _ 1 p) ])
-    (λ h. elim (or-either (has a j) (has b j) h) [ inl p ↦ eq-eqb _ 1 (or-left a b j (eqb-true _ 1 p)) | inr p ↦ eq-eqb _ 1 (or-right a b j (eqb-true _ 1 p)) ])
-
--- a bit as a number
-pub bit-is : (m j : ℕ) → m / 2 ^ j % 2 ≡ cond (has m j) 1 0
-bit-is m j = elim (truth (has m j)) [ inl h ↦ rw h (eqb-true _ 1 h) | inr h ↦ rw h (let d = eqb-false _ 1 h in low d) ]
-  where
-    low : (m / 2 ^ j % 2 ≡ 1 → ⊥) → m / 2 ^ j % 2 ≡ 0
-    low d = omega arith
-
-xor : Bool → Bool → Bool
-xor true b = not b
-xor false b = b
-
-has-xor : (a b j : ℕ) → has (bitXor a b) j ≡ xor (has a j) (has b j)
-unfolding xor
-has-xor a b j =
-    let step : bitXor a b / 2 ^ j % 2 ≡ differ (a / 2 ^ j % 2) (b / 2 ^ j % 2) % 2 = rw (xor-shr a b j) (omega (arith, xor-step (a / 2 ^ j) (b / 2 ^ j))) in
-    ap (λ (n : ℕ). eqb n 1) (step ∙ ap (λ (n : ℕ). differ n (b / 2 ^ j % 2) % 2) (bit-is a j) ∙ ap (λ (n : ℕ). differ (cond (has a j) 1 0) n % 2) (bit-is b j))
-    ∙ go (has a j) (has b j)
-  where
-    go : (x y : Bool) → eqb (differ (cond x 1 0) (cond y 1 0) % 2) 1 ≡ xor x y
-    go true true = refl
-    go true false = refl
-    go false true = refl
-    go false false = refl
-
--- the members of a set that are not in another
-pub has-without : (a b j : ℕ) → has (bitXor a (bitAnd a b)) j ≡ (has a j && not (has b j))
-unfolding xor
-has-without a b j = has-xor a (bitAnd a b) j ∙ ap (xor (has a j)) (has-and a b j) ∙ go (has a j) (has b j)
-  where
-    go : (x y : Bool) → xor x (x && y) ≡ (x && not y)
-    go true y = refl
-    go false y = refl
-
--- the number whose bits the three sets have
-ranked : (t m k d c : Bool) → let two = t && m in let rest = xor t two in let three = rest && k in let left = xor rest three in let four = left && d in
-    let five = xor left four && c in
-    (1 - cond t 1 0) + cond (three || five) 1 0 + 2 * cond (two || three) 1 0 + 4 * cond (four || five) 1 0 ≡ byRules t m k d c
-unfolding xor byRules
-ranked false m k d c = refl
-ranked true true k d c = refl
-ranked true false true d c = refl
-ranked true false false true c = refl
-ranked true false false false true = refl
-ranked true false false false false = refl
+use Rattle.answer_nodes.proofs.BitTests.{has-or, bit-is, none-has}
+use Rattle.answer_pairs.specs.Rules.{numbered, byRules}
 
 abbrev sum : ℕ → ℕ → ℕ → ℕ → ℕ
 sum b o t f = (1 - b) + o + 2 * t + 4 * f
@@ -76,42 +21,93 @@ sum b o t f = (1 - b) + o + 2 * t + 4 * f
 abbrev number : Bool → ℕ
 number b = cond b 1 0
 
-pub planes-rank : (both masters singles dos sections j : ℕ) → let two = bitAnd both masters in let rest = bitXor both two in let three = bitAnd rest singles in
-    let left = bitXor rest three in let four = bitAnd left dos in let five = bitAnd (bitXor left four) sections in
-    sum (both / 2 ^ j % 2) (bitOr three five / 2 ^ j % 2) (bitOr two three / 2 ^ j % 2) (bitOr four five / 2 ^ j % 2)
-    ≡ byRules (has both j) (has masters j) (has singles j) (has dos j) (has sections j)
-planes-rank both masters singles dos sections j =
-    let two = bitAnd both masters in
-    let rest = bitXor both two in
-    let three = bitAnd rest singles in
-    let left = bitXor rest three in
-    let four = bitAnd left dos in
-    let five = bitAnd (bitXor left four) sections in
-    let t = has both j in
-    let two-is = has-and both masters j in
-    let rest-is = has-xor both two j ∙ ap (λ (x : Bool). xor t x) two-is in
-    let three-is = has-and rest singles j ∙ ap (λ (x : Bool). x && has singles j) rest-is in
-    let left-is = has-xor rest three j ∙ either xor rest-is three-is in
-    let four-is = has-and left dos j ∙ ap (λ (x : Bool). x && has dos j) left-is in
-    let five-is = has-and (bitXor left four) sections j ∙ ap (λ (x : Bool). x && has sections j) (has-xor left four j ∙ either xor left-is four-is) in
-    let odd-is = bit-is (bitOr three five) j ∙ ap number (has-or three five j ∙ either _||_ three-is five-is) in
-    let twos-is = bit-is (bitOr two three) j ∙ ap number (has-or two three j ∙ either _||_ two-is three-is) in
-    let fours-is = bit-is (bitOr four five) j ∙ ap number (has-or four five j ∙ either _||_ four-is five-is) in
-    all-four (bit-is both j) odd-is twos-is fours-is ∙ ranked t (has masters j) (has singles j) (has dos j) (has sections j)
+-- a digit of a number, in the set that has it
+module _ (nodes j : ℕ) where
+  part-has : (d : ℕ) → has (cond (eqb d 0) 0 nodes) j ≡ (not (eqb d 0) && has nodes j)
+  part-has d = go (eqb d 0)
+    where
+      go : (e : Bool) → has (cond e 0 nodes) j ≡ (not e && has nodes j)
+      go true = rw (none-has j)
+      go false = refl
+
+  part-bit : (x d : ℕ) → bitOr x (cond (eqb d 0) 0 nodes) / 2 ^ j % 2 ≡ number (has x j || (not (eqb d 0) && has nodes j))
+  part-bit x d = bit-is _ j ∙ ap number (has-or x (cond (eqb d 0) 0 nodes) j ∙ ap (λ (b : Bool). has x j || b) (part-has d))
+
+  part-off : has nodes j ≡ false → (x d : ℕ) → bitOr x (cond (eqb d 0) 0 nodes) / 2 ^ j % 2 ≡ x / 2 ^ j % 2
+  part-off h x d = part-bit x d ∙ rw h (go (has x j) (eqb d 0)) ∙ sym (bit-is x j)
+    where
+      go : (b e : Bool) → number (b || (not e && false)) ≡ number b
+      go true e = refl
+      go false true = refl
+      go false false = refl
+
+  part-on : has nodes j ≡ true → (x d : ℕ) → x / 2 ^ j % 2 ≡ 0 → d < 2 → bitOr x (cond (eqb d 0) 0 nodes) / 2 ^ j % 2 ≡ d
+  part-on h x d z l = part-bit x d ∙ rw (h, z) (go d l)
+    where
+      go : (d : ℕ) → d < 2 → number (not (eqb d 0) && true) ≡ d
+      go zero l = refl
+      go (suc zero) l = refl
+      go (suc (suc d)) l = absurd (omega arith)
+
+  -- the nodes of a set, which had no number, get one
+  pub given-digit : (b o t f n : ℕ) → n < 8 → (has nodes j ≡ true → sum (b / 2 ^ j % 2) (o / 2 ^ j % 2) (t / 2 ^ j % 2) (f / 2 ^ j % 2) ≡ 0)
+      → sum (b / 2 ^ j % 2) (bitOr o (cond (eqb (n % 2) 0) 0 nodes) / 2 ^ j % 2) (bitOr t (cond (eqb (n / 2 % 2) 0) 0 nodes) / 2 ^ j % 2)
+      (bitOr f (cond (eqb (n / 4) 0) 0 nodes) / 2 ^ j % 2)
+      ≡ cond (has nodes j) n (sum (b / 2 ^ j % 2) (o / 2 ^ j % 2) (t / 2 ^ j % 2) (f / 2 ^ j % 2))
+  given-digit b o t f n l blank = elim (truth (has nodes j)) [
+    | inl h ↦ (
+        let z = blank h in
+        let odd = part-on h o (n % 2) (omega arith) (omega arith) in
+        let twos = part-on h t (n / 2 % 2) (omega arith) (omega arith) in
+        let fours = part-on h f (n / 4) (omega arith) (omega arith) in
+        rw (odd, twos, fours, h) (omega arith))
+    | inr h ↦ rw (part-off h o (n % 2), part-off h t (n / 2 % 2), part-off h f (n / 4), h)
+  ]
+
+-- the numbers before any rule from rule 2 on
+pub none-given : (both j : ℕ) → sum (both / 2 ^ j % 2) (0 / 2 ^ j % 2) (0 / 2 ^ j % 2) (0 / 2 ^ j % 2) ≡ cond (not (has both j)) 1 0
+none-given both j = rw (none-has j) (ap (λ (b : ℕ). sum b 0 0 0) (bit-is both j) ∙ go (has both j))
   where
-    either : (f : Bool → Bool → Bool) {a b x y : Bool} → a ≡ x → b ≡ y → f a b ≡ f x y
-    either f p q = cc
+    go : (x : Bool) → sum (number x) 0 0 0 ≡ cond (not x) 1 0
+    go true = refl
+    go false = refl
 
-    all-four : {b o t f b₁ o₁ t₁ f₁ : ℕ} → b ≡ b₁ → o ≡ o₁ → t ≡ t₁ → f ≡ f₁ → sum b o t f ≡ sum b₁ o₁ t₁ f₁
-    all-four p q r s = cc
+-- the turn of the loop over the rules, for one node: whether it is left, and its number
+module _ (both : Bool) (rule : ℕ → Bool) (k : ℕ) where
+  abbrev pub Ruled : Bool → ℕ → Type 0
+  Ruled left n = (left ≡ (both && not (any k rule))) × (n ≡ cond (not both) 1 (numbered k rule))
 
--- the empty set has no bit
-pub none-has : (j : ℕ) → 0 / 2 ^ j ≡ 0
-none-has j = div-eq-of-lt (pow-pos j)
+  pub blank-left : {left : Bool} {n : ℕ} → Ruled left n → (left && rule k) ≡ true → n ≡ 0
+  unfolding numbered
+  blank-left (p, q) h = q ∙ go both (any k rule) (sym p ∙ and-both _ _ h .0)
+    where
+      go : (b a : Bool) → (b && not a) ≡ true → cond (not b) 1 (cond a (first k rule + 2) 0) ≡ 0
+      go true true h = absurd (bad (cc))
+      go true false h = refl
+      go false a h = absurd (bad (cc))
+
+  pub next-left : {left : Bool} {n : ℕ} → Ruled left n → (left && not (rule k)) ≡ (both && not (any (k + 1) rule))
+  next-left (p, q) = rw (p, any-next k rule) (go both (any k rule) (rule k))
+    where
+      go : (b a r : Bool) → ((b && not a) && not r) ≡ (b && not (a || r))
+      go true true r = refl
+      go true false r = refl
+      go false a r = refl
+
+  pub next-number : {left : Bool} {n : ℕ} → Ruled left n → cond (left && rule k) (k + 2) n ≡ cond (not both) 1 (numbered (k + 1) rule)
+  unfolding numbered any first
+  next-number (p, q) = rw (p, q, add-one k) (go both (any k rule) (rule k))
+    where
+      go : (b a r : Bool) → cond ((b && not a) && r) (k + 2) (cond (not b) 1 (cond a (first k rule + 2) 0))
+          ≡ cond (not b) 1 (cond (a || r) (cond a (first k rule) (cond r k (suc k)) + 2) 0)
+      go true true r = refl
+      go true false true = refl
+      go true false false = refl
+      go false a r = refl
 
 -- the number by the first rule alone
-pub phase-digit : (both j : ℕ) → 1 - both / 2 ^ j % 2 ≡ byRules (has both j) false false false false
-unfolding byRules
+pub phase-digit : (both j : ℕ) → 1 - both / 2 ^ j % 2 ≡ byRules (has both j) (λ k. false)
+unfolding byRules numbered any
 phase-digit both j = ap (λ (b : ℕ). 1 - b) (bit-is both j) ∙ go (has both j)
   where
     go : (x : Bool) → 1 - cond x 1 0 ≡ cond (not x) 1 0

@@ -1,5 +1,4 @@
 // The sheet, row by row.
 pub mod eights;
 pub mod rows;
-pub mod sets;
 pub mod sheet;

@@ -13,19 +13,20 @@ ghost use Rattle.mark_tables.specs.Tables.{Accepted, Closed};
 ghost use Rattle.answer_constructs.specs.Marks.{Marks};
 use crate::eights::BYTES;
 use crate::eights::WORDS;
+use crate::eights::fill_fence;
 use crate::eights::fill_spread;
-use crate::rows::NodeSets;
-use crate::rows::SETS;
-use crate::rows::gather_all;
 use crate::rows::keep_row;
 use crate::rows::work_row;
 use answer_constructs::chains::Sets;
 use answer_constructs::marks::MaskTable;
 use answer_constructs::sizes::sets_for;
+use answer_nodes::SETS;
+use answer_nodes::gather_all;
 use answer_pairs::rules::Profile;
 use answer_pairs::rules::profile_of;
 use chart::format::Chart;
 use mark_tables::closed::load_closed;
+use masks::unions::BITS;
 use theory_answers::Answer;
 use theory_answers::Size;
 
@@ -86,8 +87,10 @@ pub fn fill_sheet(
     let sets = sets_for(s, chart, size, kinds);
     let mut closed = [0u8; Chart::NODES];
     load_closed(s, chart, &mut closed);
-    let mut nodes = [[0u64; WORDS]; SETS];
+    let mut nodes = [[0u64; BITS]; SETS];
     gather_all(marks, &closed, &mut nodes);
+    let mut fence = [0u64; WORDS];
+    fill_fence(&closed, &mut fence);
     let mut spread = [0u64; BYTES];
     fill_spread(&mut spread);
     let mut last = [0u8; Chart::NODES];
@@ -96,7 +99,7 @@ pub fn fill_sheet(
         ends: 0,
         held: 0,
     };
-    work_row(kept, sets, &nodes, &spread, &mut last);
+    work_row(kept, sets, &nodes, &fence, &spread, &mut last);
     let n = chart.nodes;
     let mut a = 0;
     while a < n {
@@ -106,6 +109,7 @@ pub fn fill_sheet(
             kept,
             sets,
             &nodes,
+            &fence,
             &spread,
             &mut last,
         );

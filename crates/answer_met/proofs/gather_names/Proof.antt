@@ -5,8 +5,8 @@ use mathlib.Core.List.{[]}
 use Prim.Native.Nat.{ℕ, _*_, _-_, _≤_, _<_}
 use native.Mathlib.Omega.{arith}
 use lib.ListN.{length, getD, length-set}
-use Rattle.answer_sheet.specs.Gathered.{Gathered}
-use Rattle.answer_sheet.proofs.RowSets.{stored-row}
+use Rattle.answer_nodes.specs.Gathered.{Gathered}
+use Rattle.answer_nodes.proofs.Joining.{stored-row}
 use Rattle.answer_met.proofs.gather_names.Statement.{statement}
 use Rattle.answer_met.proofs.gather_names.Tie as tie
 

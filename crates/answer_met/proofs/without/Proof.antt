@@ -1,6 +1,6 @@
 -- `answer_met::without` meets its contract.
 -- Assumes nothing.
-use Rattle.answer_sheet.proofs.Ranks.{has-without}
+use Rattle.answer_nodes.proofs.BitTests.{has-without}
 use Rattle.answer_met.proofs.without.Statement.{statement}
 use Rattle.answer_met.proofs.without.Tie as tie
 

@@ -4,12 +4,12 @@ use mathlib.Core.Path.{_≡_, sym, _∙_}
 use mathlib.Core.Bool.{false}
 use lib.Bits.{bitOr}
 use borrow.Author.Needs.{needs}
-use Rattle.answer_pairs.specs.Rules.{answerBy, sized-by, lacks-none}
+use Rattle.answer_pairs.specs.Rules.{bySize, answerBy, sized-by, lacks-none}
 use Rattle.answer_pairs.proofs.rules.answer_by.Statement.{statement}
 use Rattle.answer_pairs.proofs.rules.answer_by.Tie as tie
 
 returns : tie.Need-returns
-unfolding answerBy
+unfolding answerBy bySize
 returns c = rw (c .if1 .taken)
 
 ruled-by-requires : tie.Need-ruled-by-requires

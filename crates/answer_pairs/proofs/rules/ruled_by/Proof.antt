@@ -1,110 +1,124 @@
--- `answer_pairs::rules::ruled_by` meets its contract. At each return, what the tests before it have shown decides the answer.
+-- `answer_pairs::rules::ruled_by` meets its contract. The loop's invariant: no rule passed applies.
 -- Assumes nothing.
-use mathlib.Core.Path.{_≡_, sym, _∙_}
+use mathlib.Core.Path.{_≡_, refl, sym, _∙_, subst}
 use mathlib.Core.Bool.{true, false}
+use mathlib.Core.List.{List}
+use Prim.Native.Nat.{ℕ, _-_, _≤_, _<_}
+use native.Mathlib.Omega.{arith}
 use lib.Bits.{bitAnd}
+use lib.ListN.{getD}
 use borrow.Author.Needs.{needs}
 use borrow.Author.Tests.{not-true, not-false}
+use Rattle.lists.specs.Range.{any, at-any, any-more, first-is}
 use Rattle.lists.specs.Common.{common}
-use Rattle.answer_pairs.specs.Rules.{ruledBy}
+use Rattle.answer_pairs.specs.Rules.{numbered, byRules, ruleBy, ruledBy}
 use Rattle.answer_pairs.proofs.rules.ruled_by.Statement.{statement}
 use Rattle.answer_pairs.proofs.rules.ruled_by.Tie as tie
 
--- what each test has shown where the next one is made
-starts-shared : (c : tie.Else1) → let e = c .before .before in common (e .args .x .starts) (e .args .y .starts) ≡ true
+abbrev Inv-loop : tie.InvT-loop
+Inv-loop both kinds k₀ k = (k ≤ 4) × (any k (λ j. common both (getD kinds j 0)) ≡ false)
+
+abbrev μ-loop : tie.MeasureT-loop
+μ-loop both kinds k₀ k = 4 - k
+
+-- what the tests have shown where the next one is made
+starts-shared : (c : tie.Else1 Inv-loop μ-loop) → let e = c .before .before in common (e .args .x .starts) (e .args .y .starts) ≡ true
 starts-shared c = sym (c .before .common .ensures) ∙ not-false _ (c .if1 .left)
 
-ends-shared : (c : tie.Else2) → let e = c .before .before .before .before in common (e .args .x .ends) (e .args .y .ends) ≡ true
+ends-shared : (c : tie.Else2 Inv-loop μ-loop) → let e = c .before .before .before .before in common (e .args .x .ends) (e .args .y .ends) ≡ true
 ends-shared c = sym (c .before .common2 .ensures) ∙ not-false _ (c .if2 .left)
 
-no-master : (c : tie.Else3) → let e = c .before .before .before .before .before .before .before .before in common (bitAnd (e .args .x .held) (e .args .y .held)) (e .args .sets .masters) ≡ false
-no-master c = sym (c .before .common3 .ensures) ∙ c .if3 .left
-
-no-single : (c : tie.Else4) → let e = c .before .before .before .before .before .before .before .before .before .before in common (bitAnd (e .args .x .held) (e .args .y .held)) (e .args .sets .singles) ≡ false
-no-single c = sym (c .before .common4 .ensures) ∙ c .if4 .left
-
-no-do : (c : tie.Else5) → let e = c .before .before .before .before .before .before .before .before .before .before .before .before in common (bitAnd (e .args .x .held) (e .args .y .held)) (e .args .sets .dos) ≡ false
-no-do c = sym (c .before .common5 .ensures) ∙ c .if5 .left
-
-common-requires : tie.Need-common-requires
+common-requires : tie.Need-common-requires Inv-loop μ-loop
 common-requires c κs = search needs
 
-returns : tie.Need-returns
-unfolding ruledBy
+returns : tie.Need-returns Inv-loop μ-loop
+unfolding ruledBy byRules
 returns c = rw (sym (c .before .common .ensures) ∙ not-true _ (c .if1 .taken))
 
-common-requires-2 : tie.Need-common-requires-2
+common-requires-2 : tie.Need-common-requires-2 Inv-loop μ-loop
 common-requires-2 c κs = search needs
 
-returns-2 : tie.Need-returns-2
-unfolding ruledBy
+returns-2 : tie.Need-returns-2 Inv-loop μ-loop
+unfolding ruledBy byRules
 returns-2 c = rw (starts-shared (c .before .before), sym (c .before .common2 .ensures) ∙ not-true _ (c .if2 .taken))
 
-common-requires-3 : tie.Need-common-requires-3
+kinds-of-requires : tie.Need-kinds-of-requires Inv-loop μ-loop
+kinds-of-requires c κs = tt
+
+loop-holds : tie.Need-loop-holds Inv-loop μ-loop
+unfolding any
+loop-holds c = (omega arith, refl)
+
+mul-common : tie.Need-mul-common Inv-loop μ-loop
+mul-common c = omega arith
+
+array-read-common : tie.Need-array-read-common Inv-loop μ-loop
+array-read-common c = omega arith
+
+common-requires-3 : tie.Need-common-requires-3 Inv-loop μ-loop
 common-requires-3 c κs = search needs
 
-returns-3 : tie.Need-returns-3
-unfolding ruledBy
+cast-result : tie.Need-cast-result Inv-loop μ-loop
+cast-result c = omega arith
+
+add-result : tie.Need-add-result Inv-loop μ-loop
+add-result c = omega arith
+
+returns-3 : tie.Need-returns-3 Inv-loop μ-loop
+unfolding ruledBy byRules numbered
 returns-3 c =
-    let e = c .before .before .before .before in
-    rw (starts-shared (e .before .before), ends-shared e, sym (c .before .common3 .ensures) ∙ c .if3 .taken)
+    let l = c .before .before .before in
+    let e = l .before .before .before .before in
+    let a = e .before .before .before .before .args in
+    let f = ruleBy (a .sets) (a .x .held) (a .y .held) in
+    let k = l .loop .k in
+    let below : k < 4 = omega arith in
+    let is = l .before .kinds-of .ensures in
+    let p : f k ≡ true = subst (λ (t : List ℕ). common (bitAnd (a .x .held) (a .y .held)) (getD t k 0) ≡ true) is (sym (c .before .common3 .ensures) ∙ c .if3 .taken) in
+    let none = subst (λ (t : List ℕ). any k (λ j. common (bitAnd (a .x .held) (a .y .held)) (getD t j 0)) ≡ false) is (l .loop .inv .1) in
+    rw (starts-shared (e .before .before), ends-shared e, at-any 4 f k below p, first-is 4 f k below p none) (omega arith)
 
-common-requires-4 : tie.Need-common-requires-4
-common-requires-4 c κs = search needs
+add-k : tie.Need-add-k Inv-loop μ-loop
+add-k c = omega arith
 
-returns-4 : tie.Need-returns-4
-unfolding ruledBy
+loop-less : tie.Need-loop-less Inv-loop μ-loop
+loop-less c = omega arith
+
+loop-again : tie.Need-loop-again Inv-loop μ-loop
+loop-again c =
+    let l = c .before .before .before in
+    (omega arith, any-more (l .loop .k) _ (l .loop .inv .1) (sym (c .before .common3 .ensures) ∙ c .if3 .left))
+
+returns-4 : tie.Need-returns-4 Inv-loop μ-loop
+unfolding ruledBy byRules numbered
 returns-4 c =
-    let m = c .before .before in
-    let e = m .before .before .before .before in
-    rw (starts-shared (e .before .before), ends-shared e, no-master m, sym (c .before .common4 .ensures) ∙ c .if4 .taken)
-
-common-requires-5 : tie.Need-common-requires-5
-common-requires-5 c κs = search needs
-
-returns-5 : tie.Need-returns-5
-unfolding ruledBy
-returns-5 c =
-    let u = c .before .before in
-    let m = u .before .before in
-    let e = m .before .before .before .before in
-    rw (starts-shared (e .before .before), ends-shared e, no-master m, no-single u, sym (c .before .common5 .ensures) ∙ c .if5 .taken)
-
-common-requires-6 : tie.Need-common-requires-6
-common-requires-6 c κs = search needs
-
-returns-6 : tie.Need-returns-6
-unfolding ruledBy
-returns-6 c =
-    let d = c .before .before in
-    let u = d .before .before in
-    let m = u .before .before in
-    let e = m .before .before .before .before in
-    rw (starts-shared (e .before .before), ends-shared e, no-master m, no-single u, no-do d, sym (c .before .common6 .ensures) ∙ c .if6 .taken)
-
-returns-7 : tie.Need-returns-7
-unfolding ruledBy
-returns-7 c =
-    let d = c .before .before in
-    let u = d .before .before in
-    let m = u .before .before in
-    let e = m .before .before .before .before in
-    rw (starts-shared (e .before .before), ends-shared e, no-master m, no-single u, no-do d, sym (c .before .common6 .ensures) ∙ c .if6 .left)
+    let l = c .before in
+    let e = l .before .before .before .before in
+    let a = e .before .before .before .before .args in
+    let q : l .loop .k ≡ 4 = omega arith in
+    let none : any 4 (ruleBy (a .sets) (a .x .held) (a .y .held)) ≡ false =
+    subst (λ (t : List ℕ). any 4 (λ j. common (bitAnd (a .x .held) (a .y .held)) (getD t j 0)) ≡ false) (l .before .kinds-of .ensures) (rw q at (l .loop .inv .1)) in
+    rw (starts-shared (e .before .before), ends-shared e, none)
 
 pub ruled-by-spec : {M : Type 1} → statement M
 ruled-by-spec =
     tie.close
     (tie.spec
+    Inv-loop
+    μ-loop
     common-requires
     returns
     common-requires-2
     returns-2
+    kinds-of-requires
+    loop-holds
+    mul-common
+    array-read-common
     common-requires-3
+    cast-result
+    add-result
     returns-3
-    common-requires-4
-    returns-4
-    common-requires-5
-    returns-5
-    common-requires-6
-    returns-6
-    returns-7)
+    add-k
+    loop-less
+    loop-again
+    returns-4)

@@ -7,7 +7,7 @@ use native.Mathlib.Omega.{arith}
 use lib.ListN.{length, getD, length-set}
 use Rattle.answer_pairs.specs.Rules.{profileAt}
 use Rattle.answer_pairs.specs.declared.rules.Profile.{Profile}
-use Rattle.answer_sheet.proofs.RowSets.{stored-row}
+use Rattle.answer_nodes.proofs.Joining.{stored-row}
 use Rattle.answer_met.specs.Meets.{meets, NodeSet}
 use Rattle.answer_races.specs.Lines.{LineOf}
 use Rattle.answer_races.proofs.lines.fill_lines.Statement.{statement}

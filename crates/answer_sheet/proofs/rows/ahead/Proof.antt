@@ -1,7 +1,7 @@
 -- `answer_sheet::rows::ahead` meets its contract.
 -- Assumes nothing.
 use Rattle.answer_sheet.specs.Eights.{digit}
-use Rattle.answer_sheet.specs.Sheet.{bySize}
+use Rattle.answer_pairs.specs.Rules.{bySize}
 use Rattle.answer_sheet.proofs.Ranks.{alone-digit, lacks-digit, ahead-digit}
 use Rattle.answer_sheet.proofs.rows.ahead.Statement.{statement}
 use Rattle.answer_sheet.proofs.rows.ahead.Tie as tie

@@ -4,8 +4,9 @@ use mathlib.Core.Path.{_≡_, _∙_}
 use Prim.Native.Nat.{_+_, _*_}
 use native.Mathlib.Omega.{arith}
 use lib.ListN.{getD}
+use Rattle.answer_nodes.proofs.Joining.{three-words}
 use Rattle.answer_sheet.specs.Sheet.{rowOf}
-use Rattle.answer_sheet.proofs.RowSets.{phase-word, three-words}
+use Rattle.answer_sheet.proofs.RowSets.{phase-word}
 use Rattle.answer_sheet.proofs.rows.work_phase_row.Statement.{statement}
 use Rattle.answer_sheet.proofs.rows.work_phase_row.Tie as tie
 

@@ -20,12 +20,12 @@ use Rattle.answer_sheet.proofs.sheet.fill_sheet.Statement.{statement}
 use Rattle.answer_sheet.proofs.sheet.fill_sheet.Tie as tie
 
 abbrev Inv-loop : tie.InvT-loop
-Inv-loop s marks out₀ sets closed nodes spread last₀ kept₀ n a₀ out last kept a =
+Inv-loop s marks out₀ sets closed nodes fence spread last₀ kept₀ n a₀ out last kept a =
     (a ≤ n) × (length last ≡ 192) × ((j : ℕ) → j < 192 → getD last j 0 ≡ rowOf closed sets marks kept j)
     × ((R : Region) (size : Size) → R .nodes ≡ n → Marks R marks sets → Sized R size sets → Closed R closed → out ≡ after (entry R (answerFor R size)) (R .nodes) a out₀)
 
 abbrev μ-loop : tie.MeasureT-loop
-μ-loop s marks out₀ sets closed nodes spread last₀ kept₀ n a₀ out last kept a = n - a
+μ-loop s marks out₀ sets closed nodes fence spread last₀ kept₀ n a₀ out last kept a = n - a
 
 sets-for-requires : tie.Need-sets-for-requires Inv-loop μ-loop
 sets-for-requires c κs = c .before .before .pre .0
@@ -36,15 +36,22 @@ load-closed-requires c κs = c .before .before .before .before .pre .0
 gather-all-requires : tie.Need-gather-all-requires Inv-loop μ-loop
 gather-all-requires c κs = refl
 
+fill-fence-requires : tie.Need-fill-fence-requires Inv-loop μ-loop
+fill-fence-requires c κs = tt
+
 fill-spread-requires : tie.Need-fill-spread-requires Inv-loop μ-loop
 fill-spread-requires c κs = tt
 
 work-row-requires : tie.Need-work-row-requires Inv-loop μ-loop
-work-row-requires c κs = (c .before .before .before .fill-spread .ensures, refl)
+work-row-requires c κs = (c .before .before .before .before .fill-spread .ensures, refl)
 
 -- where the sets were gathered, and where the function was called
 abbrev gathered : tie.After-work-row Inv-loop μ-loop → tie.After-gather-all Inv-loop μ-loop
-gathered w = w .before .before .before .before .before .before
+gathered w = w .before .before .before .before .before .before .before .before .before .before
+
+-- and where the covers were filled
+abbrev fenced : tie.After-work-row Inv-loop μ-loop → tie.After-fill-fence Inv-loop μ-loop
+fenced w = w .before .before .before .before .before .before .before
 
 abbrev sized : tie.After-load-closed Inv-loop μ-loop → tie.After-sets-for Inv-loop μ-loop
 sized c = c .before .before
@@ -56,7 +63,7 @@ loop-holds : tie.Need-loop-holds Inv-loop μ-loop
 loop-holds c = (
   omega arith,
   c .work-row .ensures .0,
-  c .work-row .ensures .1 _ _ (gathered c .gather-all .ensures),
+  c .work-row .ensures .1 _ _ (gathered c .gather-all .ensures) (fenced c .fill-fence .ensures),
   λ R size q M Z C. after-none (entry R (answerFor R size)) (R .nodes) (start c .args .out .now),
 )
 
@@ -102,7 +109,7 @@ room c =
 
 -- the turn of the loop in which row a is filled
 abbrev turn : tie.After-last3 Inv-loop μ-loop → tie.In-loop Inv-loop μ-loop
-turn c = c .before .before .before .before .before .before .before
+turn c = c .before .before .before .before .before .before .before .before
 
 profile-of-requires : tie.Need-profile-of-requires Inv-loop μ-loop
 profile-of-requires c κs = few c
@@ -112,8 +119,8 @@ array-read-keep-row c = few (c .before)
 
 keep-row-requires : tie.Need-keep-row-requires Inv-loop μ-loop
 keep-row-requires c κs =
-    let l = c .before .before .before .before .before in
-    (l .before .before .before .before .before .fill-spread .ensures, l .loop .inv .1)
+    let l = c .before .before .before .before .before .before in
+    (l .before .before .before .before .before .before .fill-spread .ensures, l .loop .inv .1)
 
 mul-fill-row : tie.Need-mul-fill-row Inv-loop μ-loop
 mul-fill-row c = let i = turn c in omega (arith, most i, ends i)
@@ -152,12 +159,12 @@ unfolding row
 loop-again c =
     let f = c .before .before in
     let y = f .before .before .before .before in
-    let p = y .before .before .before .before in
+    let p = y .before .before .before .before .before in
     let i = p .before in
     let l = i .before in
     let e = start (l .before) in
     let (below, wide, kept, done) = l .loop .inv in
-    let next = y .keep-row .ensures .2 _ _ (gathered (l .before) .gather-all .ensures) kept in (
+    let next = y .keep-row .ensures .2 _ _ (gathered (l .before) .gather-all .ensures) (fenced (l .before) .fill-fence .ensures) kept in (
       omega arith,
       y .keep-row .ensures .0,
       next,
@@ -191,6 +198,7 @@ fill-sheet-spec =
     sets-for-requires
     load-closed-requires
     gather-all-requires
+    fill-fence-requires
     fill-spread-requires
     work-row-requires
     loop-holds

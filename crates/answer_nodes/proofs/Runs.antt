@@ -12,8 +12,8 @@ use borrow.Author.Tests.{ne-eqb}
 use Rattle.lists.specs.Mask.{mask-carry, mask-unique, mask-either, has-none}
 use Rattle.lists.specs.Bits.{has}
 use Rattle.lists.specs.Store.{zeros}
-use Rattle.answer_sheet.specs.Gathered.{pending}
-use Rattle.answer_sheet.specs.Shared.{own-mask}
+use Rattle.answer_nodes.specs.Gathered.{pending}
+use Rattle.answer_nodes.specs.Shared.{own-mask}
 
 pub none-pending : (b : ℕ) → pending (replicate 64 0) 0 0 b ≡ 0
 none-pending b = rw (ne-eqb (0 / 2 ^ b % 2) 1 (has-none b)) (zeros 64 b)

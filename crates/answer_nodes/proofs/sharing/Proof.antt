@@ -1,9 +1,9 @@
--- `answer_sheet::rows::sharing` meets its contract.
+-- `answer_nodes::sharing` meets its contract.
 -- Assumes nothing.
 use native.Mathlib.Omega.{arith}
-use Rattle.answer_sheet.proofs.RowSets.{sharing-by}
-use Rattle.answer_sheet.proofs.rows.sharing.Statement.{statement}
-use Rattle.answer_sheet.proofs.rows.sharing.Tie as tie
+use Rattle.answer_nodes.proofs.Joining.{sharing-by}
+use Rattle.answer_nodes.proofs.sharing.Statement.{statement}
+use Rattle.answer_nodes.proofs.sharing.Tie as tie
 
 mul-k : tie.Need-mul-k
 mul-k c = omega arith

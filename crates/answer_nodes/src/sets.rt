@@ -6,7 +6,7 @@ ghost use lib.Bits.{bitOr};
 ghost use lib.Dec.{eqb};
 ghost use lib.ListN.{length};
 ghost use Rattle.lists.specs.Bits.{has};
-ghost use Rattle.answer_sheet.specs.Gathered.{pending, Gathered};
+ghost use Rattle.answer_nodes.specs.Gathered.{pending, Gathered};
 use chart::format::Chart;
 use masks::bits::bit;
 use masks::unions::BITS;

@@ -1,4 +1,4 @@
--- `answer_sheet::sets::gather` meets its contract. The loop's invariant: once the run is added, the sets have the nodes passed.
+-- `answer_nodes::sets::gather` meets its contract. The loop's invariant: once the run is added, the sets have the nodes passed.
 -- Assumes nothing.
 use mathlib.Core.Path.{_≡_, refl, ap, sym, _∙_}
 use Prim.Native.Nat.{ℕ, _-_, _≤_, _<_}
@@ -6,10 +6,10 @@ use native.Mathlib.Omega.{arith}
 use lib.ListN.{length}
 use Rattle.lists.specs.Mask.{maskOf}
 use Rattle.lists.specs.Bits.{mask-next}
-use Rattle.answer_sheet.specs.Gathered.{having, pending}
-use Rattle.answer_sheet.proofs.Runs.{none-pending}
-use Rattle.answer_sheet.proofs.sets.gather.Statement.{statement}
-use Rattle.answer_sheet.proofs.sets.gather.Tie as tie
+use Rattle.answer_nodes.specs.Gathered.{having, pending}
+use Rattle.answer_nodes.proofs.Runs.{none-pending}
+use Rattle.answer_nodes.proofs.sets.gather.Statement.{statement}
+use Rattle.answer_nodes.proofs.sets.gather.Tie as tie
 
 abbrev Inv-loop : tie.InvT-loop
 Inv-loop masks closed first sets₀ run₀ j₀ sets run j =

@@ -1,20 +1,18 @@
--- `answer_sheet::rows::gather_all` meets its contract. The loop's invariant: the sets passed are there.
+-- `answer_nodes::gather_all` meets its contract. The loop's invariant: the sets passed are there.
 -- Assumes nothing.
 use mathlib.Core.Path.{_≡_, _∙_}
 use mathlib.Core.List.{[]}
 use Prim.Native.Nat.{ℕ, _*_, _-_, _/_, _%_, _≤_, _<_}
 use native.Mathlib.Omega.{arith}
 use lib.ListN.{length, getD, length-set}
-use lib.Seq.{getD-set-same, getD-set-other}
-use borrow.Author.Needs.{needs}
-use Rattle.answer_sheet.specs.Gathered.{Gathered}
-use Rattle.answer_sheet.proofs.RowSets.{stored-row}
-use Rattle.answer_sheet.proofs.rows.gather_all.Statement.{statement}
-use Rattle.answer_sheet.proofs.rows.gather_all.Tie as tie
+use Rattle.answer_nodes.specs.Gathered.{Gathered}
+use Rattle.answer_nodes.proofs.Joining.{stored-row}
+use Rattle.answer_nodes.proofs.gather_all.Statement.{statement}
+use Rattle.answer_nodes.proofs.gather_all.Tie as tie
 
 abbrev Inv-loop : tie.InvT-loop
 Inv-loop marks closed nodes₀ k₀ nodes k =
-    (k ≤ 9) × (length nodes ≡ 10) × ((j : ℕ) → j < k → Gathered closed (getD marks (j / 3) []) (64 * (j % 3)) (getD nodes j []))
+    (k ≤ 9) × (length nodes ≡ 9) × ((j : ℕ) → j < k → Gathered closed (getD marks (j / 3) []) (64 * (j % 3)) (getD nodes j []))
 
 abbrev μ-loop : tie.MeasureT-loop
 μ-loop marks closed nodes₀ k₀ nodes k = 9 - k
@@ -55,18 +53,8 @@ loop-again c =
       stored-row (λ j row. Gathered (e .closed .now) (getD (e .marks .now) (j / 3) []) (64 * (j % 3)) row) (l .loop .nodes) (l .loop .k) _ (omega (arith, l .loop .inv .1)) (c .gather .ensures) (l .loop .inv .2),
     )
 
-index-1-fill-fence : tie.Need-index-1-fill-fence Inv-loop μ-loop
-index-1-fill-fence c = omega arith
-
-fill-fence-requires : tie.Need-fill-fence-requires Inv-loop μ-loop
-fill-fence-requires c κs = search needs
-
 returns : tie.Need-returns Inv-loop μ-loop
-returns c =
-    let l = c .before .before .before in record {
-      sets = λ k h. rw (getD-set-other (l .loop .nodes) 9 k _ [] (λ q. omega arith)) (l .loop .inv .2 k (omega arith));
-      fence = rw (getD-set-same (l .loop .nodes) 9 _ [] (omega (arith, l .loop .inv .1))) (c .fill-fence .ensures);
-    }
+returns c = let l = c .before in record { sets = λ k h. l .loop .inv .2 k (omega arith) }
 
 pub gather-all-spec : {M : Type 1} → statement M
-gather-all-spec = tie.close (tie.spec Inv-loop μ-loop loop-holds mul-gather index-1-gather mul-gather-2 mul-gather-3 index-1-gather-2 gather-requires add-k loop-less loop-again index-1-fill-fence fill-fence-requires returns)
+gather-all-spec = tie.close (tie.spec Inv-loop μ-loop loop-holds mul-gather index-1-gather mul-gather-2 mul-gather-3 index-1-gather-2 gather-requires add-k loop-less loop-again returns)

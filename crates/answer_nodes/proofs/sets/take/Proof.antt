@@ -1,11 +1,11 @@
--- `answer_sheet::sets::take` meets its contract.
+-- `answer_nodes::sets::take` meets its contract.
 -- Assumes nothing.
 use Prim.Native.Nat.{_^_}
 use borrow.Author.Needs.{needs}
 use borrow.Author.Tests.{eq-eqb, ne-eqb}
-use Rattle.answer_sheet.proofs.Runs.{joins, starts}
-use Rattle.answer_sheet.proofs.sets.take.Statement.{statement}
-use Rattle.answer_sheet.proofs.sets.take.Tie as tie
+use Rattle.answer_nodes.proofs.Runs.{joins, starts}
+use Rattle.answer_nodes.proofs.sets.take.Statement.{statement}
+use Rattle.answer_nodes.proofs.sets.take.Tie as tie
 
 returns : tie.Need-returns
 returns c = (c .before .pre .0, λ b l. rw (ne-eqb _ 0 (c .if1 .taken)))

@@ -15,7 +15,7 @@ use Rattle.lists.specs.Mask.{Has, Mask, mask-of}
 use Rattle.lists.specs.Bits.{has, has-of, has-below}
 use Rattle.lists.specs.Common.{common, common-test}
 use Rattle.masks.specs.Unions.{Joined}
-use Rattle.answer_sheet.specs.Gathered.{having, Gathered}
+use Rattle.answer_nodes.specs.Gathered.{having, Gathered}
 
 pow-more : (n : ℕ) → n < 2 ^ n
 pow-more zero = omega arith
