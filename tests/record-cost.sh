@@ -1,7 +1,7 @@
 #!/usr/bin/env bash
 # record-cost.sh [TURNS]: what the recorder costs examples/playtest, as ratios of processor time and of elapsed time to the program without it, medians
 # of so many turns of all three in one run. The program runs 100 times its rounds in teams that wait passively. Off: built with --record and BOHRALI_LOG
-# not set. On: every entry is written, of all instances of its regions, without delays.
+# not set. On: all instances of its regions are recorded, without delays.
 set -euo pipefail
 cd "$(dirname "$0")/.."
 make --silent -C frontend/gcc

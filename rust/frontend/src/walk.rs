@@ -38,6 +38,8 @@ pub(crate) struct Walks<'a> {
     nodes: HashMap<Marked, Vec<u8>>,
     /// By node, whether a thread may come through it without an entry.
     passed: Vec<bool>,
+    /// By node, whether no entry means it.
+    mute: Vec<bool>,
     ways: BTreeMap<u8, Ways>,
 }
 
@@ -69,6 +71,7 @@ impl<'a> Walks<'a> {
             next: steps(chart),
             nodes,
             passed: map.nodes.iter().map(|x| x.is_passed).collect(),
+            mute: map.nodes.iter().map(|x| x.entries.is_empty()).collect(),
             ways: BTreeMap::new(),
             chart,
         }
@@ -136,10 +139,13 @@ impl<'a> Walks<'a> {
 
     fn why_filled(&self, node: u8) -> Filled {
         use ConstructKind::{Do, Sections};
+        let is_mute = self.mute.get(usize::from(node)).copied();
         match self.framed(node) {
             Some((NodeKind::End, Do | Sections)) => Filled::NoTurn,
             Some((NodeKind::End, _)) => Filled::End,
-            _ => Filled::Mute,
+            _ if is_mute == Some(true) => Filled::Mute,
+            // of a deeper region
+            _ => Filled::End,
         }
     }
 
