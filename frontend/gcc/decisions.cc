@@ -1,21 +1,24 @@
 #include "decisions.h"
 
 #include <cerrno>
-#include <cstdint>
 #include <cstdio>
 #include <cstring>
 #include <sstream>
 
 namespace flow {
 
+uint64_t hash_on(uint64_t from, const char *bytes, size_t length)
+{
+    for (size_t i = 0; i < length; i++) {
+        from = (from ^ (unsigned char)bytes[i]) * 0x100000001b3;
+    }
+    return from;
+}
+
 std::string hash(const char *bytes, size_t length)
 {
-    uint64_t sum = 0xcbf29ce484222325;
-    for (size_t i = 0; i < length; i++) {
-        sum = (sum ^ (unsigned char)bytes[i]) * 0x100000001b3;
-    }
     char digits[17];
-    snprintf(digits, sizeof digits, "%016llx", (unsigned long long)sum);
+    snprintf(digits, sizeof digits, "%016llx", (unsigned long long)hash_on(no_bytes, bytes, length));
     return digits;
 }
 

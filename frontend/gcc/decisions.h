@@ -3,13 +3,16 @@
 #ifndef BOHRALI_DECISIONS_H
 #define BOHRALI_DECISIONS_H
 
+#include <cstdint>
 #include <set>
 #include <string>
 #include <vector>
 
 namespace flow {
 
-/* FNV-1a of 64 bits, in 16 hexadecimal digits. */
+/* FNV-1a of 64 bits: of no bytes, with some bytes more, and as 16 hexadecimal digits. */
+const uint64_t no_bytes = 0xcbf29ce484222325;
+uint64_t hash_on(uint64_t from, const char *bytes, size_t length);
 std::string hash(const char *bytes, size_t length);
 
 /* The bytes of a file; false where it cannot be read, and errno says why. */

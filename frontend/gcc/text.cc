@@ -35,17 +35,8 @@ bool text::begin(const std::string &path, const char *unit)
     }
     std::string row = "unit " + word(unit) + "\n";
     fprintf(out, "bohrali-flow 1\n%s", row.c_str());
-    own = mark(row, 14695981039346656037u);
+    own = hash_on(no_bytes, row.data(), row.size());
     return true;
-}
-
-/* FNV-1a, of 64 bits. */
-uint64_t text::mark(const std::string &bytes, uint64_t from)
-{
-    for (unsigned char byte : bytes) {
-        from = (from ^ byte) * 1099511628211u;
-    }
-    return from;
 }
 
 /* A source line as FILE:LINE; the file is numbered where it is met first. */
@@ -97,7 +88,7 @@ uint64_t text::write(function *fn, const graph &graph)
     }
     rows += "end\n";
     fputs(rows.c_str(), out);
-    return mark(rows, own);
+    return hash_on(own, rows.data(), rows.size());
 }
 
 std::string text::directive_rows(const graph &graph, const std::vector<int> &named,

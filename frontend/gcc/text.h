@@ -40,7 +40,6 @@ private:
     std::string directive_rows(const graph &graph, const std::vector<int> &named,
                                const expanded_location &fallback);
     std::string node_rows(const graph &graph, const std::vector<int> &named);
-    static uint64_t mark(const std::string &bytes, uint64_t from);
 };
 
 }

@@ -78,8 +78,7 @@ fn unwritten(path: &Path, error: &io::Error) -> Problem {
 
 /// Writes what decisions need, behind the tables.
 pub fn write_units(path: &Path, units: &Units) -> Result<(), Problem> {
-    let text = units.write(&tables_hash(path)?);
-    Folder(path).put(UNITS, &text)
+    Folder(path).put(UNITS, &units.write(&tables_hash(path)?))
 }
 
 /// What decisions need, if the tables are as they were written.

@@ -1,8 +1,17 @@
-//! FNV-1a of 64 bits, in 16 hexadecimal digits: tells bytes that have changed, as frontend/gcc does.
+//! FNV-1a of 64 bits: tells bytes that have changed, as frontend/gcc does.
 
-pub fn hash(bytes: &[u8]) -> String {
+/// That of no bytes.
+pub(crate) const NO_BYTES: u64 = 0xcbf2_9ce4_8422_2325;
+
+/// With some bytes more.
+pub(crate) fn hash_on(from: u64, bytes: &[u8]) -> u64 {
     let step = |sum: u64, &byte: &u8| (sum ^ u64::from(byte)).wrapping_mul(0x0100_0000_01b3);
-    format!("{:016x}", bytes.iter().fold(0xcbf2_9ce4_8422_2325, step))
+    bytes.iter().fold(from, step)
+}
+
+/// In 16 hexadecimal digits.
+pub fn hash(bytes: &[u8]) -> String {
+    format!("{:016x}", hash_on(NO_BYTES, bytes))
 }
 
 #[cfg(test)]

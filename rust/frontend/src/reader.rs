@@ -3,7 +3,7 @@
 
 use crate::body::Draft;
 use crate::flow::{Alias, Function, SourceLine, Unit, Word, Words};
-use crate::hash::hash;
+use crate::hash::{hash, hash_on, NO_BYTES};
 use crate::problem::Problem;
 
 /// The most bytes that are read of a flow.
@@ -12,14 +12,9 @@ pub(crate) const MOST_BYTES: u64 = 1 << 28;
 const HEADER: &str = "bohrali-flow";
 const VERSION: &str = "1";
 
-const FIRST_MARK: u64 = 0xcbf2_9ce4_8422_2325;
-
-/// A mark with one row more: FNV-1a, of 64 bits.
+/// A mark with one row more.
 fn marked(mark: u64, row: &str) -> u64 {
-    let bytes = row.bytes().chain([b'\n']);
-    bytes.fold(mark, |mark, x| {
-        (mark ^ u64::from(x)).wrapping_mul(0x100_0000_01b3)
-    })
+    hash_on(hash_on(mark, row.as_bytes()), b"\n")
 }
 
 /// Why a row is not taken.
@@ -160,7 +155,7 @@ impl<'a> Reader<'a> {
             words,
             unit: Unit::default(),
             files: Vec::new(),
-            mark: FIRST_MARK,
+            mark: NO_BYTES,
             open: None,
             is_complete: false,
         }
