@@ -1,7 +1,8 @@
 //! Few certified runs that show many pairs: a run made for one pair shows others on its way.
 
 use crate::certify::Run;
-use crate::run::steps;
+use crate::rules::State;
+use crate::run::{follow, Mover};
 use crate::view::View;
 use crate::{threads, Error, Witness, Witnesses};
 use bohrali::Size;
@@ -47,8 +48,7 @@ impl<'a> Cover<'a> {
     fn add(&mut self, run: Run, size: Option<Size>, pairs: &[(usize, usize)]) -> Result<(), Error> {
         let view = self.view;
         let (team, trace) = (run.threads, run.bytes());
-        let met: BTreeSet<(usize, usize)> = met(view, &run).collect();
-        for (a, b) in met {
+        for (a, b) in met(view, &run) {
             let wanted = threads(view, size, a, b) == team && pairs.binary_search(&(a, b)).is_ok();
             if !wanted || self.shown.contains(&(team, a, b)) {
                 continue;
@@ -64,13 +64,17 @@ impl<'a> Cover<'a> {
 }
 
 /// The pairs at which two threads of a run stand together, the lower node first.
-fn met(view: &View, run: &Run) -> impl Iterator<Item = (usize, usize)> {
-    let steps = steps(view, run.threads, &run.trace).unwrap_or_default();
-    steps.into_iter().flat_map(|step| {
-        let at = step.state.at;
-        let each = 0..at.len();
-        let pairs = each.flat_map(move |x| (0..x).map(move |y| (x, y)));
-        let ordered = pairs.map(|(x, y)| (at[x].min(at[y]), at[x].max(at[y])));
-        ordered.collect::<Vec<_>>()
-    })
+fn met(view: &View, run: &Run) -> BTreeSet<(usize, usize)> {
+    let mut met = BTreeSet::new();
+    let mut meet = |at: &[usize], thread: usize| {
+        let others = (0..at.len()).filter(|&x| x != thread).map(|x| at[x]);
+        met.extend(others.map(|x| (x.min(at[thread]), x.max(at[thread]))));
+    };
+    let look = |mover: Mover, _: usize, state: &State| match mover {
+        Mover::Thread(thread) => meet(&state.at, thread),
+        Mover::Released { .. } => (0..run.threads).for_each(|x| meet(&state.at, x)),
+    };
+    // a certified run has no entry that is forbidden
+    let legal = follow(view, run.threads, &run.trace, look);
+    legal.map_or(BTreeSet::new(), |()| met)
 }

@@ -9,6 +9,8 @@ use crate::run::{Draft, Entry, MOST_THREADS};
 use crate::view::{bits, View};
 use crate::walk::Walk;
 use bohrali::layout::ConstructKind;
+use std::collections::BTreeMap;
+use std::rc::Rc;
 
 /// A thread and the node that it is to come to.
 type Goal = (usize, usize);
@@ -34,11 +36,19 @@ pub fn chosen(view: &View, a: usize, b: usize) -> (Vec<[usize; 2]>, usize) {
     (pairs, least)
 }
 
+/// By a barrier's place among the barriers: the fewest steps of a thread alone from there to a node, and from the
+/// node to there.
+struct Reach {
+    to: Vec<Option<u32>>,
+    on: Vec<Option<u32>>,
+}
+
 /// Builds runs over one region, of teams of one size.
 pub struct Planner<'a> {
     view: &'a View<'a>,
     threads: usize,
     marches: Marches<'a>,
+    reaches: BTreeMap<Goal, Rc<Reach>>,
 }
 
 impl<'a> Planner<'a> {
@@ -48,6 +58,7 @@ impl<'a> Planner<'a> {
             view,
             threads,
             marches: Marches::new(view, threads),
+            reaches: BTreeMap::new(),
         })
     }
 
@@ -98,29 +109,40 @@ impl<'a> Planner<'a> {
         Some(parts.concat())
     }
 
-    /// The common starts and common ends, those with the shortest run, about, first.
-    fn bounds(&self, goals: [Goal; 2]) -> Vec<Bounds> {
-        let view = self.view;
-        let fresh = State::fresh(self.threads, view.start);
-        let to = goals.map(|(thread, goal)| {
-            let walk = plain_walk(view, &fresh, thread, view.start);
-            let into = view.held[goal];
-            Walk { into, ..walk }.distances_to(goal)
-        });
-        let on = goals.map(|(thread, from)| {
-            let mut state = fresh.clone();
-            state.at[thread] = from;
-            plain_walk(view, &state, thread, from).distances()
-        });
-        let both = |steps: &[Vec<Option<u32>>; 2], place: usize| {
-            let barrier = view.barriers[place];
-            Some(steps[0][barrier]? + steps[1][barrier]?)
+    /// What lies about a thread's node, worked out once: many pairs have it.
+    fn reach(&mut self, goal: Goal) -> Rc<Reach> {
+        let (view, threads) = (self.view, self.threads);
+        let worked_out = || {
+            let (thread, node) = goal;
+            let mut state = State::fresh(threads, view.start);
+            let walk = plain_walk(view, &state, thread, view.start);
+            let into = view.held[node];
+            let to = Walk { into, ..walk }.distances_to(node);
+            state.at[thread] = node;
+            let on = plain_walk(view, &state, thread, node).distances();
+            let at_barriers =
+                |steps: Vec<Option<u32>>| view.barriers.iter().map(|&x| steps[x]).collect();
+            Rc::new(Reach {
+                to: at_barriers(to),
+                on: at_barriers(on),
+            })
         };
+        self.reaches.entry(goal).or_insert_with(worked_out).clone()
+    }
+
+    /// The common starts and common ends, those with the shortest run, about, first.
+    fn bounds(&mut self, goals: [Goal; 2]) -> Vec<Bounds> {
+        let view = self.view;
+        let [one, other] = goals.map(|goal| self.reach(goal));
         let places = 0..view.barriers.len();
-        let starts = places
-            .clone()
-            .filter_map(|s| Some((s, self.marches.before(s)? + both(&to, s)?)));
-        let ends = places.filter_map(|e| Some((e, self.marches.behind(e)? + both(&on, e)?)));
+        let starts = places.clone().filter_map(|s| {
+            let there = one.to[s]? + other.to[s]?;
+            Some((s, self.marches.before(s)? + there))
+        });
+        let ends = places.filter_map(|e| {
+            let on = one.on[e]? + other.on[e]?;
+            Some((e, self.marches.behind(e)? + on))
+        });
         let ends: Vec<_> = ends.collect();
         let pairs =
             starts.flat_map(|(s, there)| ends.iter().map(move |&(e, on)| (s, e, there + on)));

@@ -37,11 +37,18 @@ impl Draft {
 
     /// The run of a trace, if it finishes and has two threads at the two nodes.
     pub fn of(view: &View, threads: usize, trace: Vec<Entry>, a: usize, b: usize) -> Option<Draft> {
-        let steps = steps(view, threads, &trace).ok()?;
-        let met = steps.iter().find(|x| x.state.together(a, b).is_some())?;
-        let (met_after, at) = (met.entries, met.state.together(a, b)?);
-        let finished = steps.last()?.state.all_at(view.finish);
-        let keeps_locks = lock_broken(view, threads, &steps).is_none();
+        let (mut met, mut finished, mut keeps_locks) = (None, false, true);
+        let mut before = vec![view.start; threads];
+        let look = |mover: Mover, entries: usize, state: &State| {
+            met = met.or_else(|| state.together(a, b).map(|at| (entries, at)));
+            finished = state.all_at(view.finish);
+            if let Mover::Thread(thread) = mover {
+                keeps_locks &= !breaks_lock(view, state, thread, before[thread]);
+            }
+            before.clone_from(&state.at);
+        };
+        follow(view, threads, &trace, look).ok()?;
+        let (met_after, at) = met?;
         finished.then_some(Draft {
             threads,
             trace,
@@ -69,12 +76,30 @@ pub struct Step {
     pub state: State,
 }
 
-/// The steps of a trace, or the index of the first entry that is forbidden. Entries of a release that is not
-/// whole are no step.
+/// The steps of a trace, or the index of the first entry that is forbidden.
 pub fn steps(view: &View, threads: usize, trace: &[Entry]) -> Result<Vec<Step>, usize> {
+    let mut steps = Vec::new();
+    follow(view, threads, trace, |mover, entries, state| {
+        let state = state.clone();
+        steps.push(Step {
+            mover,
+            entries,
+            state,
+        });
+    })?;
+    Ok(steps)
+}
+
+/// Looks at each step of a trace: who steps, the entries up to there, and the state that it leaves. Entries of a
+/// release that is not whole are no step. Else the index of the first entry that is forbidden.
+pub fn follow(
+    view: &View,
+    threads: usize,
+    trace: &[Entry],
+    mut look: impl FnMut(Mover, usize, &State),
+) -> Result<(), usize> {
     let mut state = State::fresh(threads, view.start);
     let mut chosen = Vec::new();
-    let mut steps = Vec::new();
     for (index, entry) in trace.iter().enumerate() {
         let (thread, to) = (usize::from(entry.thread), usize::from(entry.node));
         let mover = match state.gathered(view) {
@@ -96,13 +121,20 @@ pub fn steps(view: &View, threads: usize, trace: &[Entry]) -> Result<Vec<Step>, 
             }
             None => return Err(index),
         };
-        steps.push(Step {
-            mover,
-            entries: index + 1,
-            state: state.clone(),
-        });
+        look(mover, index + 1, &state);
     }
-    Ok(steps)
+    Ok(())
+}
+
+/// Whether a thread that steps from a node goes into a critical while another is inside one of that name, before
+/// the step or behind it: the others stand still.
+fn breaks_lock(view: &View, state: &State, thread: usize, from: usize) -> bool {
+    match view.role[from] {
+        Role::Begin(c) if view.kind(c) == ConstructKind::Critical => {
+            !state.is_unlocked(view, thread, view.constructs[c].name)
+        }
+        _ => false,
+    }
 }
 
 /// The first step by which a thread goes into a critical while another is inside one of that name.
@@ -111,12 +143,7 @@ pub fn lock_broken(view: &View, threads: usize, steps: &[Step]) -> Option<usize>
     let before = std::iter::once(&first).chain(steps.iter().map(|x| &x.state));
     let breaks = |(step, before): (&Step, &State)| match step.mover {
         Mover::Released { .. } => false,
-        Mover::Thread(thread) => match view.role[before.at[thread]] {
-            Role::Begin(c) if view.kind(c) == ConstructKind::Critical => {
-                !before.is_unlocked(view, thread, view.constructs[c].name)
-            }
-            _ => false,
-        },
+        Mover::Thread(thread) => breaks_lock(view, before, thread, before.at[thread]),
     };
     steps.iter().zip(before).position(breaks)
 }

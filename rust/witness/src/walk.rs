@@ -80,7 +80,9 @@ impl Walk<'_> {
         let mut heap = BinaryHeap::from([Reverse((0, self.from))]);
         let mut first = true;
         while let Some(Reverse((far, v))) = heap.pop() {
-            if !first && goal == Some(v) {
+            // a hop takes a step or more: no path that is still to be found is shorter
+            let is_near = |goal: usize| found.steps[goal].is_some_and(|steps| steps <= far + 1);
+            if !first && goal.is_some_and(is_near) {
                 break;
             }
             let old = found.steps[v].is_some_and(|steps| steps < far);
@@ -104,10 +106,11 @@ impl Walk<'_> {
     /// Fewest steps from each node to the goal, walks beginning anywhere outside constructs.
     pub fn distances_to(&self, goal: usize) -> Vec<Option<u32>> {
         let nodes = self.view.nodes();
-        let mut back = vec![Vec::new(); nodes];
+        let mut back = Vec::new();
         for v in 0..nodes {
-            self.hops(v, |hop| back[hop.to].push((v, hop.steps)));
+            self.hops(v, |hop| back.push((hop.to, v, hop.steps)));
         }
+        back.sort_unstable();
         let mut steps = vec![None; nodes];
         let mut heap = BinaryHeap::from([Reverse((0, goal))]);
         while let Some(Reverse((far, v))) = heap.pop() {
@@ -115,7 +118,8 @@ impl Walk<'_> {
             if old || v != goal && self.view.role[v] == Role::Barrier {
                 continue;
             }
-            for &(w, more) in &back[v] {
+            let first = back.partition_point(|x| x.0 < v);
+            for &(_, w, more) in back[first..].iter().take_while(|x| x.0 == v) {
                 if steps[w].is_none_or(|old| far + more < old) {
                     steps[w] = Some(far + more);
                     heap.push(Reverse((far + more, w)));
