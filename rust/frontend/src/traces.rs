@@ -291,17 +291,17 @@ fn note_log(log: &Log, notes: &mut Notes) {
 fn merged(walks: &Walks, mut steps: Vec<VecDeque<Step>>) -> (Vec<Entry>, usize) {
     let mut at = vec![0; steps.len()];
     let mut entries: Vec<Entry> = Vec::new();
-    let mut opening = 0..0;
+    let mut release = 0..0;
     while entries.len() < MOST_ENTRIES {
         let gathered = at.iter().all(|&x| x == at[0]) && walks.is_barrier(at[0]);
-        if opening.is_empty() && gathered && at[0] != walks.finish() {
+        if release.is_empty() && gathered && at[0] != walks.finish() {
             if steps.iter().any(VecDeque::is_empty) {
                 break;
             }
-            opening = 0..steps.len();
+            release = 0..steps.len();
         }
         let first = (0..steps.len()).filter_map(|x| Some((steps[x].front()?.place, x)));
-        let Some(thread) = opening.next().or_else(|| first.min().map(|x| x.1)) else {
+        let Some(thread) = release.next().or_else(|| first.min().map(|x| x.1)) else {
             break;
         };
         let Some(step) = steps[thread].pop_front() else {
