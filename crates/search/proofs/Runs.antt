@@ -1,5 +1,4 @@
--- What a sweep does: it keeps bounds, values change one way, the weight falls unless it is quiet, a quiet one changes nothing, and one
--- that runs ahead leaves all its edges closed.
+-- What a sweep does: it keeps bounds, values change one way, a quiet one changes nothing, and one that runs ahead leaves all its edges closed.
 -- Assumes nothing.
 use mathlib.Core.Path.{_≡_, refl, _∙_}
 use mathlib.Core.Logic.{_⊎_, ⊎-elim}
@@ -9,26 +8,23 @@ use Prim.Native.Nat.{ℕ, zero, suc, _+_, _-_, _≤_, _<_}
 use native.Mathlib.Omega.{arith}
 use native.Mathlib.Decide.{ℕ-discrete}
 use borrow.Author.Count.{below-more}
-use lib.Bits.{bitOr, bitXor, or-lt, or-comm, or-zero-l, or-self, xor-self, xor-add-and, and-le-l, and-le-r}
+use lib.Bits.{bitOr, bitXor, or-lt, or-comm, or-self, xor-add-and, and-le-l, and-le-r}
 use lib.ListN.{length, getD, set, length-set}
 use lib.Seq.{getD-set-same, getD-set-other}
 use Rattle.lists.specs.Mask.{Sub, or-left, or-right, or-more}
 use Rattle.lists.specs.Store.{at-set}
-use Rattle.search.specs.Sweep.{Between, place, Step, Run, none, more, Carried, start, then, Closed, Ahead, weight, gap, Kind}
+use Rattle.search.specs.Sweep.{Between, place, Step, Run, none, more, Carried, start, then, Closed, Ahead, Kind}
 use Rattle.search.specs.LevelLaws.{nearer, Follows}
 
--- nothing is new in two sweeps exactly when nothing is in either
+-- nothing is new in two sweeps only when nothing is in either
 pub or-none : (a b : ℕ) → bitOr a b ≡ 0 → (a ≡ 0) × (b ≡ 0)
 or-none a b e = (omega (arith, or-more a b), omega (arith, or-more b a, or-comm a b))
-
-pub none-or : (a b : ℕ) → a ≡ 0 → b ≡ 0 → bitOr a b ≡ 0
-none-or a b e f = rw (e, f) (or-zero-l 0)
 
 pub xor-same : (a b : ℕ) → bitXor a b ≡ 0 → a ≡ b
 xor-same a b e = omega (arith, xor-add-and a b, and-le-l a b, and-le-r a b)
 
 -- masks and levels
-pub masks-kind : Kind bitOr Sub Sub gap (λ m. m < 18446744073709551616)
+pub masks-kind : Kind bitOr Sub Sub (λ m. m < 18446744073709551616)
 masks-kind = record {
   same = λ a b h. h;
   over = λ a b c f g i h. g i (f i h);
@@ -37,10 +33,9 @@ masks-kind = record {
   near = λ a v. or-right a v;
   keep = λ v a b f g i h. g i (f i h);
   bound = λ a v. or-lt 64 a v;
-  falls = λ a v l m n. omega (arith, or-more a v);
 }
 
-pub levels-kind : Kind nearer (λ a b. b ≤ a) Follows (λ d. d) (λ d. d ≤ 254)
+pub levels-kind : Kind nearer (λ a b. b ≤ a) Follows (λ d. d ≤ 254)
 levels-kind = record {
   same = λ a. omega arith;
   over = λ a b c f g. omega arith;
@@ -49,7 +44,6 @@ levels-kind = record {
   near = λ a v. omega arith;
   keep = λ v a b f g. omega arith;
   bound = λ a v l m. omega arith;
-  falls = λ a v l m n. omega arith;
 }
 
 -- places
@@ -70,53 +64,29 @@ module _ (a b : ℕ) where
   turn true i l h = omega arith
   turn false i l h = refl
 
--- the weight after a store
-weight-le : (g : ℕ → ℕ) (l : List ℕ) (i v : ℕ) → i < length l → g v ≤ g (getD l i 0) → weight g (set l i v) ≤ weight g l
-unfolding weight
-weight-le g [] i v h e = absurd (omega arith)
-weight-le g (x ∷ l) zero v h e = omega arith
-weight-le g (x ∷ l) (suc i) v h e = omega (arith, weight-le g l i v (omega arith) e)
-
-pub weight-lt : (g : ℕ → ℕ) (l : List ℕ) (i v : ℕ) → i < length l → g v < g (getD l i 0) → weight g (set l i v) < weight g l
-unfolding weight
-weight-lt g [] i v h e = absurd (omega arith)
-weight-lt g (x ∷ l) zero v h e = omega arith
-weight-lt g (x ∷ l) (suc i) v h e = omega (arith, weight-lt g l i v (omega arith) e)
-
 -- What some steps did that told `new`.
-pub record Swept (R : ℕ → ℕ → Type 0) (g : ℕ → ℕ) (B : ℕ → Type 0) (s t : List ℕ) (new : ℕ) : Type 0 where
+pub record Swept (R : ℕ → ℕ → Type 0) (B : ℕ → Type 0) (s t : List ℕ) (new : ℕ) : Type 0 where
   pub long : length t ≡ 192
   pub bound : (y : ℕ) → B (getD t y 0)
   pub grows : (y : ℕ) → R (getD s y 0) (getD t y 0)
-  pub less : weight g t ≤ weight g s
-  pub loud : (new ≡ 0 → ⊥) → weight g t < weight g s
   pub quiet : new ≡ 0 → (y : ℕ) → getD t y 0 ≡ getD s y 0
 
-module _ {f : ℕ → ℕ → ℕ} {R C : ℕ → ℕ → Type 0} {g : ℕ → ℕ} {B : ℕ → Type 0} (K : Kind f R C g B) where
-  swept-none : {s : List ℕ} → length s ≡ 192 → ((y : ℕ) → B (getD s y 0)) → Swept R g B s s 0
+module _ {f : ℕ → ℕ → ℕ} {R C : ℕ → ℕ → Type 0} {B : ℕ → Type 0} (K : Kind f R C B) where
+  swept-none : {s : List ℕ} → length s ≡ 192 → ((y : ℕ) → B (getD s y 0)) → Swept R B s s 0
   swept-none {s} l b = record {
     long = l;
     bound = b;
     grows = λ y. K .same (getD s y 0);
-    less = omega arith;
-    loud = λ n. absurd (n refl);
     quiet = λ _ y. refl;
   }
 
-  pub swept-both : {s t u : List ℕ} {m n : ℕ} → Swept R g B s t m → Swept R g B t u n → Swept R g B s u (bitOr m n)
+  pub swept-both : {s t u : List ℕ} {m n : ℕ} → Swept R B s t m → Swept R B t u n → Swept R B s u (bitOr m n)
   swept-both {s} {t} {u} {m} {n} p q = record {
     long = q .long;
     bound = q .bound;
     grows = λ y. K .over (getD s y 0) (getD t y 0) (getD u y 0) (p .grows y) (q .grows y);
-    less = omega (arith, p .less, q .less);
-    loud = λ h. some (ℕ-discrete m 0) (ℕ-discrete n 0) h;
     quiet = λ e y. let (i, j) = or-none m n e in q .quiet j y ∙ p .quiet i y;
   }
-    where
-      some : Dec (m ≡ 0) → Dec (n ≡ 0) → (bitOr m n ≡ 0 → ⊥) → weight g u < weight g s
-      some (no i) d h = omega (arith, p .loud i, q .less)
-      some (yes i) (no j) h = omega (arith, p .less, q .loud j)
-      some (yes i) (yes j) h = absurd (h (none-or m n i j))
 
   module _ {x y : ℕ} {s t : List ℕ} {new : ℕ} (xn : x < 192) (yn : y < 192) (long : length s ≡ 192) (bound : (z : ℕ) → B (getD s z 0))
       (w : Step f x y s t new) where
@@ -126,19 +96,11 @@ module _ {f : ℕ → ℕ → ℕ} {R C : ℕ → ℕ → Type 0} {g : ℕ → �
     ys : y < length s
     ys = omega arith
 
-    lower : Dec (new ≡ 0) → weight g (set s y v) ≤ weight g s
-    lower (yes e) = weight-le g s y v ys (rw (w .quiet e) (omega arith))
-    lower (no e) =
-        let h = weight-lt g s y v ys (K .falls (getD s y 0) (getD s x 0) (bound y) (bound x) (w .loud e)) in
-        omega arith
-
-    step-swept : Swept R g B s t new
+    step-swept : Swept R B s t new
     step-swept = rw (w .is) (record {
       long = simp length-set long;
       bound = λ z. at-set B s y v z ys (λ _. K .bound (getD s y 0) (getD s x 0) (bound y) (bound x)) (λ _. bound z);
       grows = λ z. at-set (λ m. R (getD s z 0) m) s y v z ys (λ e. rw e (K .up (getD s y 0) (getD s x 0))) (λ _. K .same (getD s z 0));
-      less = lower (ℕ-discrete new 0);
-      loud = λ e. weight-lt g s y v ys (K .falls (getD s y 0) (getD s x 0) (bound y) (bound x) (w .loud e));
       quiet = λ e z. at-set (λ m. m ≡ getD s z 0) s y v z ys (λ r. rw r (w .quiet e)) (λ _. refl);
     })
 
@@ -157,7 +119,7 @@ module _ {f : ℕ → ℕ → ℕ} {R C : ℕ → ℕ → Type 0} {g : ℕ → �
 
   module _ (keys values : List ℕ) (a b : ℕ) (back : Bool) (kn : (j : ℕ) → getD keys j 0 < 192) (vn : (j : ℕ) → getD values j 0 < 192) where
     pub run-swept : {s t : List ℕ} {j new : ℕ} → length s ≡ 192 → ((y : ℕ) → B (getD s y 0))
-        → Run f keys values a b back s j t new → Swept R g B s t new
+        → Run f keys values a b back s j t new → Swept R B s t new
     run-swept l h none = swept-none l h
     run-swept l h (more {j = j} r w) =
         let i = run-swept l h r in
@@ -192,7 +154,7 @@ module _ {f : ℕ → ℕ → ℕ} {R C : ℕ → ℕ → Type 0} {g : ℕ → �
         (λ o. now (ℕ-discrete (From j) (To j)))
         i p o
       where
-        q : Swept R g B s t n
+        q : Swept R B s t n
         q = run-swept l h r
 
         old : (i : ℕ) → Dec (From i ≡ To i) → Dec (From j ≡ To j) → (From i ≡ To j → (From i ≡ To i) ⊎ (From j ≡ To j))
@@ -220,7 +182,7 @@ module _ {f : ℕ → ℕ → ℕ} {R C : ℕ → ℕ → Type 0} {g : ℕ → �
         rw (q, e .key, e .value) at c
 
   -- what is closed stays so in a quiet sweep
-  pub quiet-closed : {L : ℕ → ℕ → Type 0} {s t : List ℕ} {new : ℕ} → Swept R g B s t new → new ≡ 0 → Closed C L s → Closed C L t
+  pub quiet-closed : {L : ℕ → ℕ → Type 0} {s t : List ℕ} {new : ℕ} → Swept R B s t new → new ≡ 0 → Closed C L s → Closed C L t
   quiet-closed w e c x y l = rw (w .quiet e x, w .quiet e y) (c x y l)
 
 pub carried-on : {f : ℕ → ℕ → ℕ} {L : ℕ → ℕ → Type 0} {s t u : List ℕ} → Carried f L s t → Carried f L t u → Carried f L s u
@@ -228,9 +190,6 @@ carried-on c start = c
 carried-on c (then x y d l) = then x y (carried-on c d) l
 
 -- for the code
-pub same-xor : (a b : ℕ) → a ≡ b → bitXor a b ≡ 0
-same-xor a b e = rw e (xor-self b)
-
 pub place-true : (a b j : ℕ) (back : Bool) → back ≡ true → a + (b - 1 - j) ≡ place a b back j
 unfolding place
 place-true a b j back e = rw e refl
@@ -251,7 +210,7 @@ module _ {f : ℕ → ℕ → ℕ} {keys values : List ℕ} {a b : ℕ} {back : 
 -- the value of x may come from elsewhere
 pub step-by : (f : ℕ → ℕ → ℕ) (x y : ℕ) (s : List ℕ) (r : ℕ) → r ≡ getD s x 0
     → Step f x y s (set s y (f (getD s y 0) r)) (bitXor (f (getD s y 0) r) (getD s y 0))
-step-by f x y s r e = rw e (record { is = refl; quiet = λ z. xor-same _ _ z; loud = λ n z. n (same-xor _ _ z) })
+step-by f x y s r e = rw e (record { is = refl; quiet = λ z. xor-same _ _ z })
 
 -- one turn more, its place told otherwise
 pub more-at : {f : ℕ → ℕ → ℕ} {keys values : List ℕ} {a b : ℕ} {back : Bool} {s t u : List ℕ} {j new d : ℕ} (p : ℕ) → p ≡ place a b back j

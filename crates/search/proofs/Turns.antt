@@ -4,11 +4,10 @@ use mathlib.Core.Path.{_≡_}
 use mathlib.Core.Logic.{inl, inr, ⊎-elim}
 use mathlib.Core.Bool.{Bool}
 use mathlib.Core.List.{List}
-use Prim.Native.Nat.{ℕ, _+_, _<_}
+use Prim.Native.Nat.{ℕ}
 use native.Mathlib.Omega.{arith}
 use lib.ListN.{length, getD}
-use Rattle.search.specs.Sweep.{Between, Lies, Run, Carried, start, Closed, Lists, weight, flag, Kind}
-use Rattle.search.specs.SweepLaws.{flag-le, flag-some, flag-none}
+use Rattle.search.specs.Sweep.{Between, Lies, Run, Carried, start, Closed, Lists, Kind}
 use Rattle.search.proofs.Runs.{run-swept, run-carried, run-closed, quiet-closed, carried-on}
 
 -- The values t came from s along edges of the lists.
@@ -23,7 +22,7 @@ pub record Closing (f : ℕ → ℕ → ℕ) (C : ℕ → ℕ → Type 0) (B : �
   pub falling : Closed C (Between keys values low 1024) t
   pub rising : new ≡ 0 → Closed C (Between keys values 0 ups) t
 
-module _ {f : ℕ → ℕ → ℕ} {R C : ℕ → ℕ → Type 0} {g : ℕ → ℕ} {B : ℕ → Type 0} (K : Kind f R C g B)
+module _ {f : ℕ → ℕ → ℕ} {R C : ℕ → ℕ → Type 0} {B : ℕ → Type 0} (K : Kind f R C B)
     {keys values : List ℕ} {ups low : ℕ} {back : Bool} (L : Lists keys values ups low back) where
   rise : {s t u : List ℕ} {n : ℕ} → Half f B keys values ups low s t → Run f keys values 0 ups back t ups u n
       → Half f B keys values ups low s u × Closed C (Between keys values 0 ups) u
@@ -57,24 +56,16 @@ module _ {f : ℕ → ℕ → ℕ} {R C : ℕ → ℕ → Type 0} {g : ℕ → �
   opened l b r q = let (h, c) = rise (record { long = l; bound = b; carried = start }) r in fall h c q
 
   -- a turn whose first sweep is quiet
-  pub still : {s t u : List ℕ} {m n : ℕ} → Closing f C B keys values ups low s t m → (m ≡ 0 → ⊥) → n ≡ 0 → Run f keys values 0 ups back t ups u n
-      → Closing f C B keys values ups low s u n × (weight g u + flag n < weight g t + flag m)
-  still {m = m} {n = n} i o e r =
-      let w = run-swept K keys values 0 ups back (L .key) (L .value) (i .half .long) (i .half .bound) r in
-      let (h, c) = rise (i .half) r in (
-        record { half = h; falling = quiet-closed K w e (i .falling); rising = λ _. c },
-        omega (arith, w .less, flag-some m o, flag-none n e),
-      )
-
-  -- a turn whose first sweep is not
-  pub again : {s t u v : List ℕ} {m n k : ℕ} → Closing f C B keys values ups low s t m → (m ≡ 0 → ⊥) → (n ≡ 0 → ⊥)
-      → Run f keys values 0 ups back t ups u n → Run f keys values low 1024 back u 1024 v k
-      → Closing f C B keys values ups low s v k × (weight g v + flag k < weight g t + flag m)
-  again {m = m} {n = n} {k = k} i o e r q =
+  pub still : {s t u : List ℕ} {m n : ℕ} → Closing f C B keys values ups low s t m → n ≡ 0 → Run f keys values 0 ups back t ups u n → Closing f C B keys values ups low s u n
+  still i e r =
       let w = run-swept K keys values 0 ups back (L .key) (L .value) (i .half .long) (i .half .bound) r in
       let (h, c) = rise (i .half) r in
-      let z = run-swept K keys values low 1024 back (L .key) (L .value) (h .long) (h .bound) q in
-      (fall h c q, omega (arith, w .loud e, z .less, flag-some m o, flag-le k))
+      record { half = h; falling = quiet-closed K w e (i .falling); rising = λ _. c }
+
+  -- a turn of two sweeps
+  pub again : {s t u v : List ℕ} {m n k : ℕ} → Closing f C B keys values ups low s t m → Run f keys values 0 ups back t ups u n
+      → Run f keys values low 1024 back u 1024 v k → Closing f C B keys values ups low s v k
+  again i r q = let (h, c) = rise (i .half) r in fall h c q
 
 pub closing-closed : {f : ℕ → ℕ → ℕ} {C : ℕ → ℕ → Type 0} {B : ℕ → Type 0} {keys values : List ℕ} {ups low : ℕ} {s t : List ℕ} {new : ℕ}
     → Closing f C B keys values ups low s t new → new ≡ 0 → Closed C (Lies keys values ups low) t

@@ -14,7 +14,13 @@ use Rattle.lists.specs.Mask.{Sub, or-left, or-right, or-more}
 use Rattle.lists.specs.Store.{at-set, stored, zeros, filled, filled-set, filled-lt, filled-unset, filled-le}
 use Rattle.search.specs.Sweep.{Between, Lies, Carried, start, then, Closed, weight, gap}
 use Rattle.search.specs.Waiting.{Upto, Linked, Fits, Full, Visited, same, kept, fresh, Walk, none, more, entry, Waits, Waiting}
-use Rattle.search.proofs.Runs.{weight-lt}
+
+-- the weight after a store
+weight-lt : (g : ℕ → ℕ) (l : List ℕ) (i v : ℕ) → i < length l → g v < g (getD l i 0) → weight g (set l i v) < weight g l
+unfolding weight
+weight-lt g [] i v h e = absurd (omega arith)
+weight-lt g (x ∷ l) zero v h e = omega arith
+weight-lt g (x ∷ l) (suc i) v h e = omega (arith, weight-lt g l i v (omega arith) e)
 
 -- what is not 0 stands in a list
 within : (l : List ℕ) (i : ℕ) → (getD l i 0 ≡ 0 → ⊥) → i < length l

@@ -11,8 +11,16 @@ use chart::format::Chart;
 // Fewer edges than these are few.
 pub const FEW: usize = 200;
 
-// So many turns along both lists, beyond the first, before sweeps give way to what takes a bounded number of steps.
-pub const TURNS: usize = 4;
+// So many edges are passed, beyond the first two sweeps, before sweeps give way to what takes a bounded number of steps.
+pub const STEPS: usize = 4096;
+
+// What a turn along both lists takes of these, never nothing.
+pub fn steps_of(ups: usize, low: usize) -> usize
+    requires { ⌜ (ups ≤ 1024) × (low ≤ 1024) ⌝ }
+    ensures { λ r. ⌜ 0 < r ⌝ }
+{
+    ups + (Chart::EDGES - low) + 1
+}
 
 // The place of turn j: from a up, or from b down.
 pub fn place_of(a: usize, b: usize, j: usize, back: bool) -> usize
@@ -85,13 +93,14 @@ pub fn close(
 {
     let mut new = sweep(keys, values, 0, ups, back, masks);
     new = sweep(keys, values, low, Chart::EDGES, back, masks);
-    let mut turns = 0;
+    let turn = steps_of(ups, low);
+    let mut left = STEPS;
     while new != 0 {
-        if turns == TURNS {
+        if left < turn {
             drain(keys, values, ups, low, masks);
             return;
         }
-        turns += 1;
+        left -= turn;
         new = sweep(keys, values, 0, ups, back, masks);
         if new != 0 {
             new = sweep(keys, values, low, Chart::EDGES, back, masks);

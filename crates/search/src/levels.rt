@@ -6,8 +6,9 @@ ghost use lib.ListN.{getD, length};
 ghost use Rattle.search.specs.Sweep.{Lies, Run, Carried, Closed, Lists};
 ghost use Rattle.search.specs.LevelLaws.{nearer, Follows};
 use crate::close::FEW;
-use crate::close::TURNS;
+use crate::close::STEPS;
 use crate::close::place_of;
+use crate::close::steps_of;
 use chart::format::Chart;
 
 // The fewest edges to a node from a source, while they are swept.
@@ -77,7 +78,7 @@ fn ascend(
     new
 }
 
-// Along the rising edges and the falling ones by turns, until nothing is new; whether a few turns were enough.
+// Along the rising edges and the falling ones by turns, until nothing is new; whether `STEPS` were enough.
 pub fn measure(
     keys: &[u8; Chart::EDGES],
     values: &[u8; Chart::EDGES],
@@ -93,12 +94,13 @@ pub fn measure(
 {
     let mut new = ascend(keys, values, 0, ups, back, levels);
     new = ascend(keys, values, low, Chart::EDGES, back, levels);
-    let mut turns = 0;
+    let turn = steps_of(ups, low);
+    let mut left = STEPS;
     while new != 0 {
-        if turns == TURNS {
+        if left < turn {
             return false;
         }
-        turns += 1;
+        left -= turn;
         new = ascend(keys, values, 0, ups, back, levels);
         if new != 0 {
             new = ascend(keys, values, low, Chart::EDGES, back, levels);

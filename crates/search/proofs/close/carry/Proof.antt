@@ -3,7 +3,7 @@ use mathlib.Core.Path.{refl, sym, ap, _∙_}
 use Prim.Native.Nat.{ℕ}
 use lib.ListN.{set}
 use lib.Seq.{set-getD}
-use Rattle.search.proofs.Runs.{xor-same, same-xor}
+use Rattle.search.proofs.Runs.{xor-same}
 use borrow.Author.Needs.{needs}
 use Rattle.search.proofs.close.carry.Statement.{statement}
 use Rattle.search.proofs.close.carry.Tie as tie
@@ -29,7 +29,6 @@ returns c =
     record {
       is = sym (ap (λ (v : ℕ). set masks (e .args .y) v) same ∙ set-getD masks (e .args .y) 0);
       quiet = λ _. same;
-      loud = λ n. absurd (n refl);
     }
 
 mul-masks : tie.Need-mul-masks
@@ -39,7 +38,7 @@ element-write-masks : tie.Need-element-write-masks
 element-write-masks c = search needs
 
 returns-2 : tie.Need-returns-2
-returns-2 c = record { is = refl; quiet = λ e. xor-same _ _ e; loud = λ n e. n (same-xor _ _ e) }
+returns-2 c = record { is = refl; quiet = λ e. xor-same _ _ e }
 
 pub carry-spec : {M : Type 1} → statement M
 carry-spec =

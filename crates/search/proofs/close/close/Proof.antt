@@ -10,11 +10,11 @@ use Rattle.search.proofs.close.close.Statement.{statement}
 use Rattle.search.proofs.close.close.Tie as tie
 
 abbrev Inv-loop : tie.InvT-loop
-Inv-loop keys values ups low back masks₀ new₀ turns₀ masks new turns =
-    (turns ≤ 4) × Closing bitOr Sub (λ m. m < 18446744073709551616) keys values ups low masks₀ masks new
+Inv-loop keys values ups low back masks₀ new₀ turn left₀ masks new left =
+    Closing bitOr Sub (λ m. m < 18446744073709551616) keys values ups low masks₀ masks new
 
 abbrev μ-loop : tie.MeasureT-loop
-μ-loop keys values ups low back masks₀ new₀ turns₀ masks new turns = 4 - turns
+μ-loop keys values ups low back masks₀ new₀ turn left₀ masks new left = left
 
 sweep-requires : tie.Need-sweep-requires Inv-loop μ-loop
 sweep-requires c κs =
@@ -36,37 +36,37 @@ first-two c =
     let ((L, long), fits) = start .pre in
     opened masks-kind L long fits (c .before .before .sweep .ensures) (c .sweep2 .ensures)
 
+steps-of-requires : tie.Need-steps-of-requires Inv-loop μ-loop
+steps-of-requires c κs = let L = c .before .before .before .before .pre .0 .0 in (L .ups-most, L .low-most)
+
 loop-holds : tie.Need-loop-holds Inv-loop μ-loop
-loop-holds c = (omega arith, rebase (first-two c))
+loop-holds c = rebase (first-two (c .before))
 
 drain-requires : tie.Need-drain-requires Inv-loop μ-loop
 drain-requires c κs =
     let at-loop = c .before .before .before in
-    let L = at-loop .before .before .before .before .before .pre .0 .0 in
-    let h = at-loop .loop .inv .1 .half in
+    let L = at-loop .before .before .before .before .before .before .pre .0 .0 in
+    let h = at-loop .loop .inv .half in
     ((L .apart, L .low-most, h .long), ((L .key, L .value), h .bound))
 
 returns : tie.Need-returns Inv-loop μ-loop
 returns c =
     let at-loop = c .before .before .before .before in
-    let h = at-loop .loop .inv .1 .half in
-    (carried-on (first-two (at-loop .before) .half .carried) (carried-on (h .carried) (c .drain .ensures .0)), c .drain .ensures .1)
-
-add-turns : tie.Need-add-turns Inv-loop μ-loop
-add-turns c = omega arith
+    let h = at-loop .loop .inv .half in
+    (carried-on (first-two (at-loop .before .before) .half .carried) (carried-on (h .carried) (c .drain .ensures .0)), c .drain .ensures .1)
 
 sweep-requires-3 : tie.Need-sweep-requires-3 Inv-loop μ-loop
 sweep-requires-3 c κs =
     let at-loop = c .before .before .before in
-    let L = at-loop .before .before .before .before .before .pre .0 .0 in
-    ((omega arith, L .ups-most, at-loop .loop .inv .1 .half .long), (L .key, L .value))
+    let L = at-loop .before .before .before .before .before .before .pre .0 .0 in
+    ((omega arith, L .ups-most, at-loop .loop .inv .half .long), (L .key, L .value))
 
 sweep-requires-4 : tie.Need-sweep-requires-4 Inv-loop μ-loop
 sweep-requires-4 c κs =
     let at = c .before .before in
     let at-loop = at .before .before .before .before in
-    let L = at-loop .before .before .before .before .before .pre .0 .0 in
-    ((L .low-most, omega arith, run-long (at-loop .loop .inv .1 .half .long) (at .sweep3 .ensures)), (L .key, L .value))
+    let L = at-loop .before .before .before .before .before .before .pre .0 .0 in
+    ((L .low-most, omega arith, run-long (at-loop .loop .inv .half .long) (at .sweep3 .ensures)), (L .key, L .value))
 
 loop-less : tie.Need-loop-less Inv-loop μ-loop
 loop-less c = omega arith
@@ -75,8 +75,8 @@ loop-again : tie.Need-loop-again Inv-loop μ-loop
 loop-again c =
     let at = c .before .before .before in
     let at-loop = at .before .before .before .before in
-    let L = at-loop .before .before .before .before .before .pre .0 .0 in
-    (omega arith, again masks-kind L (at-loop .loop .inv .1) (λ e. omega arith) (λ e. omega arith) (at .sweep3 .ensures) (c .sweep4 .ensures) .0)
+    let L = at-loop .before .before .before .before .before .before .pre .0 .0 in
+    again masks-kind L (at-loop .loop .inv) (at .sweep3 .ensures) (c .sweep4 .ensures)
 
 loop-less-2 : tie.Need-loop-less-2 Inv-loop μ-loop
 loop-less-2 c = omega arith
@@ -85,14 +85,14 @@ loop-again-2 : tie.Need-loop-again-2 Inv-loop μ-loop
 loop-again-2 c =
     let at = c .before in
     let at-loop = at .before .before .before .before in
-    let L = at-loop .before .before .before .before .before .pre .0 .0 in
-    (omega arith, still masks-kind L (at-loop .loop .inv .1) (λ e. omega arith) (omega arith) (at .sweep3 .ensures) .0)
+    let L = at-loop .before .before .before .before .before .before .pre .0 .0 in
+    still masks-kind L (at-loop .loop .inv) (omega arith) (at .sweep3 .ensures)
 
 returns-2 : tie.Need-returns-2 Inv-loop μ-loop
 returns-2 c =
     let at-loop = c .before in
-    let i = at-loop .loop .inv .1 in
-    (carried-on (first-two (at-loop .before) .half .carried) (i .half .carried), closing-closed i (omega arith))
+    let i = at-loop .loop .inv in
+    (carried-on (first-two (at-loop .before .before) .half .carried) (i .half .carried), closing-closed i (omega arith))
 
 pub close-spec : {M : Type 1} → statement M
 close-spec =
@@ -102,10 +102,10 @@ close-spec =
     μ-loop
     sweep-requires
     sweep-requires-2
+    steps-of-requires
     loop-holds
     drain-requires
     returns
-    add-turns
     sweep-requires-3
     sweep-requires-4
     loop-less

@@ -11,11 +11,11 @@ use Rattle.search.proofs.levels.measure.Statement.{statement}
 use Rattle.search.proofs.levels.measure.Tie as tie
 
 abbrev Inv-loop : tie.InvT-loop
-Inv-loop keys values ups low back levels₀ new₀ turns₀ levels new turns =
-    (turns ≤ 4) × Closing nearer Follows (λ d. d ≤ 254) keys values ups low levels₀ levels new
+Inv-loop keys values ups low back levels₀ new₀ turn left₀ levels new left =
+    Closing nearer Follows (λ d. d ≤ 254) keys values ups low levels₀ levels new
 
 abbrev μ-loop : tie.MeasureT-loop
-μ-loop keys values ups low back levels₀ new₀ turns₀ levels new turns = 4 - turns
+μ-loop keys values ups low back levels₀ new₀ turn left₀ levels new left = left
 
 ascend-requires : tie.Need-ascend-requires Inv-loop μ-loop
 ascend-requires c κs =
@@ -37,29 +37,29 @@ first-two c =
     let ((L, long), fits) = start .pre in
     opened levels-kind L long fits (c .before .before .ascend .ensures) (c .ascend2 .ensures)
 
+steps-of-requires : tie.Need-steps-of-requires Inv-loop μ-loop
+steps-of-requires c κs = let L = c .before .before .before .before .pre .0 .0 in (L .ups-most, L .low-most)
+
 loop-holds : tie.Need-loop-holds Inv-loop μ-loop
-loop-holds c = (omega arith, rebase (first-two c))
+loop-holds c = rebase (first-two (c .before))
 
 returns : tie.Need-returns Inv-loop μ-loop
 returns c =
     let at-loop = c .before .before in
-    (carried-on (first-two (at-loop .before) .half .carried) (at-loop .loop .inv .1 .half .carried), λ h. absurd (clash h refl))
-
-add-turns : tie.Need-add-turns Inv-loop μ-loop
-add-turns c = omega arith
+    (carried-on (first-two (at-loop .before .before) .half .carried) (at-loop .loop .inv .half .carried), λ h. absurd (clash h refl))
 
 ascend-requires-3 : tie.Need-ascend-requires-3 Inv-loop μ-loop
 ascend-requires-3 c κs =
     let at-loop = c .before .before .before in
-    let L = at-loop .before .before .before .before .before .pre .0 .0 in
-    ((omega arith, L .ups-most, at-loop .loop .inv .1 .half .long), (L .key, (L .value, at-loop .loop .inv .1 .half .bound)))
+    let L = at-loop .before .before .before .before .before .before .pre .0 .0 in
+    ((omega arith, L .ups-most, at-loop .loop .inv .half .long), (L .key, (L .value, at-loop .loop .inv .half .bound)))
 
 ascend-requires-4 : tie.Need-ascend-requires-4 Inv-loop μ-loop
 ascend-requires-4 c κs =
     let at = c .before .before in
     let at-loop = at .before .before .before .before in
-    let L = at-loop .before .before .before .before .before .pre .0 .0 in
-    ((L .low-most, omega arith, run-long (at-loop .loop .inv .1 .half .long) (at .ascend3 .ensures)), (L .key, (L .value, run-swept levels-kind _ _ _ _ _ (L .key) (L .value) (at-loop .loop .inv .1 .half .long) (at-loop .loop .inv .1 .half .bound) (at .ascend3 .ensures) .bound)))
+    let L = at-loop .before .before .before .before .before .before .pre .0 .0 in
+    ((L .low-most, omega arith, run-long (at-loop .loop .inv .half .long) (at .ascend3 .ensures)), (L .key, (L .value, run-swept levels-kind _ _ _ _ _ (L .key) (L .value) (at-loop .loop .inv .half .long) (at-loop .loop .inv .half .bound) (at .ascend3 .ensures) .bound)))
 
 loop-less : tie.Need-loop-less Inv-loop μ-loop
 loop-less c = omega arith
@@ -68,8 +68,8 @@ loop-again : tie.Need-loop-again Inv-loop μ-loop
 loop-again c =
     let at = c .before .before .before in
     let at-loop = at .before .before .before .before in
-    let L = at-loop .before .before .before .before .before .pre .0 .0 in
-    (omega arith, again levels-kind L (at-loop .loop .inv .1) (λ e. omega arith) (λ e. omega arith) (at .ascend3 .ensures) (c .ascend4 .ensures) .0)
+    let L = at-loop .before .before .before .before .before .before .pre .0 .0 in
+    again levels-kind L (at-loop .loop .inv) (at .ascend3 .ensures) (c .ascend4 .ensures)
 
 loop-less-2 : tie.Need-loop-less-2 Inv-loop μ-loop
 loop-less-2 c = omega arith
@@ -78,14 +78,14 @@ loop-again-2 : tie.Need-loop-again-2 Inv-loop μ-loop
 loop-again-2 c =
     let at = c .before in
     let at-loop = at .before .before .before .before in
-    let L = at-loop .before .before .before .before .before .pre .0 .0 in
-    (omega arith, still levels-kind L (at-loop .loop .inv .1) (λ e. omega arith) (omega arith) (at .ascend3 .ensures) .0)
+    let L = at-loop .before .before .before .before .before .before .pre .0 .0 in
+    still levels-kind L (at-loop .loop .inv) (omega arith) (at .ascend3 .ensures)
 
 returns-2 : tie.Need-returns-2 Inv-loop μ-loop
 returns-2 c =
     let at-loop = c .before in
-    let i = at-loop .loop .inv .1 in
-    (carried-on (first-two (at-loop .before) .half .carried) (i .half .carried), λ _. closing-closed i (omega arith))
+    let i = at-loop .loop .inv in
+    (carried-on (first-two (at-loop .before .before) .half .carried) (i .half .carried), λ _. closing-closed i (omega arith))
 
 pub measure-spec : {M : Type 1} → statement M
 measure-spec =
@@ -95,9 +95,9 @@ measure-spec =
     μ-loop
     ascend-requires
     ascend-requires-2
+    steps-of-requires
     loop-holds
     returns
-    add-turns
     ascend-requires-3
     ascend-requires-4
     loop-less
