@@ -22,8 +22,7 @@ use chart::format::Chart;
 use chart::format::Checked;
 use chart::format::Refusal;
 use check_chart::check::check;
-use mark::boundaries::fill_ends;
-use mark::boundaries::fill_starts;
+use mark::boundaries::fill;
 use mark::returns::returns;
 use mark_regions::inner::bad_region;
 use mark_regions::outermost::Entered;
@@ -59,14 +58,19 @@ fn survey_region(
     let mut nodes = [0u8; Chart::BARRIERS];
     let mut levels = [0u8; Chart::NODES];
     let extent = load_tables(s, chart, &mut edges, &mut places, &mut stops, &mut nodes);
+    let mut ends = [0u64; Chart::NODES];
     let starts = &mut marks[STARTS];
-    let unreached = fill_starts(&edges, &places, &stops, &nodes, extent, starts, &mut levels);
-    if refuses(chart, unreached) {
-        return Surveyed::Refused(Refusal::PATHS);
-    }
-    let ends = &mut marks[ENDS];
-    let stuck = fill_ends(&edges, &nodes, extent, ends);
-    if refuses(chart, stuck) {
+    let lost = fill(
+        &edges,
+        &places,
+        &nodes,
+        extent,
+        starts,
+        &mut ends,
+        &mut levels,
+    );
+    marks[ENDS] = ends;
+    if refuses(chart, lost) {
         return Surveyed::Refused(Refusal::PATHS);
     }
     let parts = extent.parts;

@@ -345,18 +345,6 @@ masks-reach w = record {
   none = λ b x l o p. some-bit (w x o) .1 (b, (l, p));
 }
 
-pub levels-reach : {E : ℕ → ℕ → Type 0} {P : ℕ → Type 0} {sources levels : List ℕ} {total : ℕ} → Leveled E P P sources total levels → Reaches E P sources total levels
-levels-reach w = record {
-  some = λ x o n. let r = w .path x o (omega arith) in (r .source, r .below, r .path);
-  none = λ b x l o p z. omega (arith, w .least b x l o p .0);
-}
-
--- the turn of a loop that looks for a node that was missed
-pub missing-more : (stops values : List ℕ) (x : ℕ) {found r m : Bool} → found ≡ missing stops values x
-    → m ≡ (eqb (getD stops x 0) 0 && eqb (getD values x 0) 0) → r ≡ (found || m) → r ≡ missing stops values (x + 1)
-unfolding any
-missing-more stops values x p q e = e ∙ rw (p, q, add-one x)
-
 -- start is a barrier
 pub some-barrier : (R : Region) → WellFormed R → 0 < length (barriers R)
 some-barrier R W = let (b, l, e) = barrier-number R W (R .start) (W .start-barrier) in omega arith

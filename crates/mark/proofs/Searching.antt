@@ -2,7 +2,7 @@
 -- Assumes nothing.
 use mathlib.Core.Path.{_≡_, refl, ap, sym, _∙_, subst}
 use mathlib.Core.Logic.{_⊎_, inl, inr}
-use mathlib.Core.Bool.{Bool, true, false, not, cond}
+use mathlib.Core.Bool.{Bool, true, false, _||_, not, cond}
 use mathlib.Core.List.{List}
 use Prim.Native.Nat.{ℕ, _≤_, _<_}
 use native.Mathlib.Omega.{arith}
@@ -41,9 +41,9 @@ use Rattle.mark_tables.proofs.Columns.{places-first}
 use Rattle.search.specs.Parts.{row}
 use Rattle.search.specs.Search.{Ready, Standing, Spread, Cleared}
 use Rattle.search.specs.declared.edges.Parts.{Parts}
-use Rattle.mark.specs.Joined.{missing, Reaches}
+use Rattle.mark.specs.Joined.{lost, lostBarrier, missing, Reaches}
 use Rattle.mark.proofs.Blanks.{missing-counted}
-use Rattle.mark.proofs.JoiningLaws.{masks-reach}
+use Rattle.mark.proofs.JoiningLaws.{masks-reach, parts-lost}
 
 module _ {R : Region} (W : WellFormed R) where
   -- past no barrier
@@ -143,6 +143,12 @@ module _ {R : Region} {stops : List ℕ} (S : Stops R stops) where
     -- masks tell of the nodes that are no barriers whether a path leads there
     pub cleared-reach : {sources : List ℕ} {total : ℕ} {masks : List ℕ} → Cleared E stops sources total masks → Reaches (Along d R) (Open R) sources total masks
     cleared-reach {sources} {total} {masks} w = masks-reach (λ x o. along-mask sources total x (getD masks x 0) (w .clear x (clear-node x o)))
+
+    -- with the barriers that are apart from a source, the blank masks tell whether a node is
+    pub lost-told : (W : WellFormed R) {nodes : List ℕ} {total : ℕ} (B : Barriers R nodes total) (source : ℕ) → source < total → {masks : List ℕ}
+        → Cleared E stops nodes total masks
+        → (lostBarrier d R source || not (eqb (count (R .nodes) (λ x. eqb (getD masks x 0) 0)) total)) ≡ lost d R (barrierAt R source)
+    lost-told W B source l w = rw (blanks B w) (parts-lost W d _ B source l (cleared-reach w) S)
 
     -- barriers keep no mask
     pub all-masks : WellFormed R → {nodes : List ℕ} {total : ℕ} {masks : List ℕ} → Barriers R nodes total → Cleared E stops nodes total masks

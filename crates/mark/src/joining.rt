@@ -1,8 +1,8 @@
 // Row 10 of the refusals: every node is reached from start and reaches finish, along edges. The masks of a search past no barrier tell
-// it: first which barriers are joined to start (to finish), then whether some barrier leads to each other node, which levels tell as well.
+// it: first which barriers are joined to start (to finish), then whether some barrier leads to each other node.
 // Of the barriers the masks forward tell both: taken the other way round they say from where finish is reached.
 ghost use mathlib.Core.Path.{_≡_};
-ghost use mathlib.Core.Bool.{true, false, _&&_, not, cond};
+ghost use mathlib.Core.Bool.{true, false, not, cond};
 ghost use Prim.Native.Nat.{ℕ, _-_, _^_, _≤_, _<_};
 ghost use lib.Bits.{bitAnd, bitOr};
 ghost use lib.Dec.{eqb};
@@ -10,11 +10,10 @@ ghost use lib.ListN.{getD};
 ghost use Rattle.lists.specs.Range.{count};
 ghost use Rattle.lists.specs.Bits.{has as Bits·has};
 ghost use Rattle.theory_paths.specs.Phases.{Direction, forward, backward};
-ghost use Rattle.mark.specs.Joined.{Told, JoinedTo, Passed, lostBarrier, missing, FoundAlong};
+ghost use Rattle.mark.specs.Joined.{Told, JoinedTo, Passed, lostBarrier, FoundAlong};
 use chart::cursor::wide;
 use chart::format::Chart;
 use masks::bits::bit;
-use masks::bits::either;
 use masks::bits::has;
 use masks::bits::ones;
 
@@ -139,30 +138,6 @@ pub fn any_stuck(masks: &[u64; Chart::NODES], nodes: &[u8; Chart::BARRIERS], tot
     ones(joined(masks, nodes, total, total - 1, true)) < total
 }
 
-// Whether no stop stands on a node, and nothing was found there.
-fn missed(stop: u8, none: bool) -> bool
-    ensures { λ r. ⌜ r ≡ (eqb stop 0 && none) ⌝ }
-{
-    if stop == 0 {
-        return none;
-    }
-    false
-}
-
-// Whether one of the first n nodes was missed, by their levels. No turn leaves the loop, so that several are taken at once.
-pub fn any_unleveled(stops: &[u8; Chart::NODES], levels: &[u8; Chart::NODES], n: usize) -> bool
-    requires { ⌜ n ≤ 192 ⌝ }
-    ensures { λ r. ⌜ r ≡ missing (now (stops .entry)) (now (levels .entry)) n ⌝ }
-{
-    let mut found = false;
-    let mut x = 0;
-    while x < n {
-        found = either(found, missed(stops[x], levels[x] == 0));
-        x += 1;
-    }
-    found
-}
-
 // 1 for a mask without a bit.
 fn blank(mask: u64) -> usize
     ensures { λ r. ⌜ r ≡ cond (eqb mask 0) 1 0 ⌝ }
@@ -173,8 +148,8 @@ fn blank(mask: u64) -> usize
     0
 }
 
-// The same by their masks, which are eight times the bytes: those of the barriers are blank, and no other is if there are as many blank ones.
-// So the stops are not read.
+// Whether one of the first n nodes that is no barrier has a blank mask: those of the barriers are blank, and no other is if there are as many blank
+// ones. No turn leaves the loop, so that several are taken at once.
 pub fn any_missed(masks: &[u64; Chart::NODES], n: usize, barriers: usize) -> bool
     requires { ⌜ n ≤ 192 ⌝ }
     ensures { λ r. ⌜ r ≡ not (eqb (count n (λ x. eqb (getD (now (masks .entry)) x 0) 0)) barriers) ⌝ }

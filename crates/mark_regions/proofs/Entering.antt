@@ -1,14 +1,13 @@
--- The entrance: what the two searches say about row 10, and an answer read backwards.
+-- The entrance: what the marking says about row 10, and an answer read backwards.
 -- Assumes nothing.
 use mathlib.Core.Path.{_≡_, refl, ap, sym, _∙_}
-use mathlib.Core.Logic.{⊎-elim}
-use mathlib.Core.Bool.{Bool, true, false, _||_}
+use mathlib.Core.Bool.{true, false}
 use mathlib.Core.List.{List}
 use mathlib.Core.Option.{Option, none, some}
-use Prim.Native.Nat.{ℕ, _-_, _≤_, _<_}
+use Prim.Native.Nat.{ℕ, _≤_, _<_}
 use native.Mathlib.Omega.{arith}
 use lib.ListN.{length, getD}
-use Rattle.lists.specs.Truth.{bad, or-cases, or-left, or-right, or-neither, neither-or}
+use Rattle.lists.specs.Truth.{bad}
 use Rattle.chart.specs.Format.{outside, decode}
 use Rattle.chart.specs.Region.{Region}
 use Rattle.chart.specs.Reading.{region, regionOf}
@@ -20,13 +19,13 @@ use Rattle.chart.specs.declared.format.Checked.the-variants.{Passed}
 use Rattle.chart.proofs.RegionFacts.{start-outer, finish-outer}
 use Rattle.check_chart.proofs.Outcome.{passed-none}
 use Rattle.theory_paths.specs.Admission.{badPaths, admitRows}
-use Rattle.theory_paths.specs.Phases.{forward, backward, barriers, barrierAt}
+use Rattle.theory_paths.specs.Phases.{barriers}
 use Rattle.mark_tables.specs.Tables.{Accepted, Barriers}
 use Rattle.mark_tables.proofs.Accepted.{accepted, well-formed}
 use Rattle.mark_tables.proofs.Loading.{barriers-most, barriers-below}
 use Rattle.mark_tables.proofs.Rows.{refused-paths, admits}
-use Rattle.mark.specs.Joined.{lost, lostBarrier, lostIn}
-use Rattle.mark.proofs.JoiningLaws.{some-barrier, barrier-lost, both-ways}
+use Rattle.mark.specs.Joined.{lostIn}
+use Rattle.mark.proofs.JoiningLaws.{some-barrier, both-ways}
 use Rattle.mark_regions.specs.Entered.{entered, admitted}
 use Rattle.mark_regions.specs.declared.outermost.Entered.the-variants.{Marked, Refused}
 
@@ -92,32 +91,11 @@ module _ (s : List ℕ) (chart : Chart) (h : checked s ≡ Passed chart) where
       sym (ap badPaths outermost)
       ∙ both-ways R (well-formed s chart A) (start-outer (decode s) (chart .region) read-whole) (finish-outer (decode s) (chart .region) read-whole)
 
-  module _ {nodes : List ℕ} {total : ℕ} (N : Barriers (reading s chart) nodes total) where
-    abbrev ahead : Bool
-    ahead = lost forward (reading s chart) (barrierAt (reading s chart) 0)
+  pub cut-off : lostIn (reading s chart) ≡ true → firstOf (admitRows s) ≡ some 10
+  cut-off f = refused-paths s chart h (bad-paths ∙ f)
 
-    abbrev apart : Bool
-    apart = lostBarrier backward (reading s chart) (total - 1)
-
-    back : lost backward R (barrierAt R (total - 1)) ≡ true → firstOf (admitRows s) ≡ some 10
-    back b = refused-paths s chart h (bad-paths ∙ or-right ahead _ (rw (N .count) at b))
-
-    -- a barrier that does not reach the last one is a node that does not
-    last : apart ≡ true → lost backward R (barrierAt R (total - 1)) ≡ true
-    last = let some = not-none A N in barrier-lost (well-formed s chart A) backward nodes N (total - 1) (omega arith)
-
-    pub unreached : (ahead || apart) ≡ true → firstOf (admitRows s) ≡ some 10
-    unreached f = ⊎-elim (λ a. refused-paths s chart h (bad-paths ∙ or-left ahead _ a)) (λ b. back (last b)) (or-cases ahead apart f)
-
-    -- with what the search backward says of the nodes that are no barriers
-    module _ {r : Bool} (e : (apart || r) ≡ lost backward (reading s chart) (barrierAt (reading s chart) (total - 1))) where
-      pub stuck : r ≡ true → firstOf (admitRows s) ≡ some 10
-      stuck t = back (sym e ∙ or-right apart r t)
-
-      pub connects : (ahead || apart) ≡ false → r ≡ false → firstOf (admitRows s) ≡ none
-      connects f t =
-          let (a, b) = or-neither ahead apart f in
-          admits s chart h (bad-paths ∙ neither-or ahead _ a (rw (N .count) at (sym e ∙ neither-or apart r b t)))
+  pub connects : lostIn (reading s chart) ≡ false → firstOf (admitRows s) ≡ none
+  connects f = admits s chart h (bad-paths ∙ f)
 
   -- the answer of the entrance
 

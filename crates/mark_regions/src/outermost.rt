@@ -15,8 +15,7 @@ use chart::format::Chart;
 use chart::format::Checked;
 use chart::format::Refusal;
 use check_chart::check::check;
-use mark::boundaries::fill_ends;
-use mark::boundaries::fill_starts;
+use mark::boundaries::fill;
 use mark_tables::tables::load_tables;
 use search::edges::Parts;
 use search::sources::Sources;
@@ -55,12 +54,8 @@ pub fn enter_region(
     let mut stops = [0u8; Chart::NODES];
     let mut nodes = [0u8; Chart::BARRIERS];
     let extent = load_tables(s, chart, &mut edges, &mut places, &mut stops, &mut nodes);
-    let unreached = fill_starts(&edges, &places, &stops, &nodes, extent, starts, levels);
-    if refuses(chart, unreached) {
-        return Entered::Refused(Refusal::PATHS);
-    }
-    let stuck = fill_ends(&edges, &nodes, extent, ends);
-    if refuses(chart, stuck) {
+    let lost = fill(&edges, &places, &nodes, extent, starts, ends, levels);
+    if refuses(chart, lost) {
         return Entered::Refused(Refusal::PATHS);
     }
     Entered::Marked(chart, extent.barriers)

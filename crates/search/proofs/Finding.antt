@@ -190,15 +190,21 @@ module _ {edges : List (List ℕ)} {e : ℕ} {stops : List ℕ} {parts : Parts} 
       → Spread (Listed (row edges 0) (row edges 1) e) stops sources total t
   spread-ahead w = spread (parted-inner (T .plain) (T .to)) (w .long) (w .mask)
 
+  -- and backward
+  pub spread-behind : {s t : List ℕ} → Sown (Listed (row edges 1) (row edges 0) e) sources total s
+      → Carried bitOr (Lies (row edges 3) (row edges 2) (parts .ups) (parts .low)) s t → Closed Sub (Lies (row edges 3) (row edges 2) (parts .ups) (parts .low)) t
+      → Spread (Listed (row edges 1) (row edges 0) e) stops sources total t
+  spread-behind w = spread (parted-turned (T .plain) (T .from)) (w .long) (w .mask)
+
   module _ (S : Standing stops sources total) where
     -- backward, from the stops
-    pub spread-behind : {own old s t : List ℕ} → old ≡ replicate 192 0 → Owned sources total own
-        → Fed (Between (row edges 5) (row edges 4) 0 (parts .ins)) own old s
-        → Carried bitOr (Lies (row edges 3) (row edges 2) (parts .ups) (parts .low)) s t → Closed Sub (Lies (row edges 3) (row edges 2) (parts .ups) (parts .low)) t
-        → Spread (Listed (row edges 1) (row edges 0) e) stops sources total t
-    spread-behind b o f = spread (parted-turned (T .plain) (T .from)) (f .long ∙ rw b (length-replicate {A = ℕ} 192 0))
-        (seeds o (rw b at f) (λ x y w. listed-turned y x (ins-listed T y x (between-turned w) .0))
-        (λ b y l w. between-turned (listed-ins T y (getD sources b 0) (listed-turned (getD sources b 0) y w) (S .on b l))))
+    pub sown-behind : {own old s : List ℕ} → old ≡ replicate 192 0 → Owned sources total own → Fed (Between (row edges 5) (row edges 4) 0 (parts .ins)) own old s
+        → Sown (Listed (row edges 1) (row edges 0) e) sources total s
+    sown-behind b o f = record {
+      long = f .long ∙ rw b (length-replicate {A = ℕ} 192 0);
+      mask = seeds o (rw b at f) (λ x y w. listed-turned y x (ins-listed T y x (between-turned w) .0))
+          (λ b y l w. between-turned (listed-ins T y (getD sources b 0) (listed-turned (getD sources b 0) y w) (S .on b l)));
+    }
 
     pub marked-starts : {masks new all : List ℕ} → Spread (Listed (row edges 0) (row edges 1) e) stops sources total masks
         → Stored 0 sources total masks new → Fed (Between (row edges 4) (row edges 5) 0 (parts .ins)) new masks all

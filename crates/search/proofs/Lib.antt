@@ -1,5 +1,6 @@
 pub mod Runs
 pub mod Turns
+pub mod Abreast
 pub mod Placing
 pub mod Splitting
 pub mod Steps

@@ -1,6 +1,6 @@
 -- What a sweep does: it keeps bounds, values change one way, a quiet one changes nothing, and one that runs ahead leaves all its edges closed.
 -- Assumes nothing.
-use mathlib.Core.Path.{_≡_, refl, _∙_}
+use mathlib.Core.Path.{_≡_, refl, sym, _∙_}
 use mathlib.Core.Logic.{_⊎_, ⊎-elim}
 use mathlib.Core.Bool.{Bool, true, false}
 use mathlib.Core.List.{List, [], _∷_}
@@ -14,7 +14,7 @@ use lib.Seq.{getD-set-same, getD-set-other}
 use Rattle.lists.specs.Mask.{Sub, or-left, or-right, or-more}
 use Rattle.lists.specs.Store.{at-set}
 use Rattle.search.specs.Sweep.{Between, place, Step, Run, none, more, Carried, start, then, Closed, Ahead, Kind}
-use Rattle.search.specs.LevelLaws.{nearer, Follows}
+use Rattle.search.specs.LevelLaws.{nearer, Follows, Risen}
 
 -- nothing is new in two sweeps only when nothing is in either
 pub or-none : (a b : ℕ) → bitOr a b ≡ 0 → (a ≡ 0) × (b ≡ 0)
@@ -207,10 +207,9 @@ module _ {f : ℕ → ℕ → ℕ} {keys values : List ℕ} {a b : ℕ} {back : 
   run-long l none = l
   run-long l (more {t = t} r w) = let h : length t ≡ 192 = run-long l r in rw (w .is) (simp length-set h)
 
--- the value of x may come from elsewhere
-pub step-by : (f : ℕ → ℕ → ℕ) (x y : ℕ) (s : List ℕ) (r : ℕ) → r ≡ getD s x 0
-    → Step f x y s (set s y (f (getD s y 0) r)) (bitXor (f (getD s y 0) r) (getD s y 0))
-step-by f x y s r e = rw e (record { is = refl; quiet = λ z. xor-same _ _ z })
+-- an edge that was passed is a step of levels
+pub risen-step : {x y : ℕ} {s t : List ℕ} {r : ℕ} → Risen x y s t r → Step nearer x y s t (bitXor r (getD s y 0))
+risen-step {r = r} w = record { is = rw (w .is, w .level) refl; quiet = λ z. sym (w .level) ∙ xor-same r _ z }
 
 -- one turn more, its place told otherwise
 pub more-at : {f : ℕ → ℕ → ℕ} {keys values : List ℕ} {a b : ℕ} {back : Bool} {s t u : List ℕ} {j new d : ℕ} (p : ℕ) → p ≡ place a b back j

@@ -22,6 +22,11 @@ nearer old v = min old (v + 1)
 abbrev pub Follows : ℕ → ℕ → Type 0
 Follows v w = w ≤ v + 1
 
+-- An edge from x to y was passed, and r is the level of y.
+pub record Risen (x y : ℕ) (s t : List ℕ) (r : ℕ) : Type 0 where
+  pub is : t ≡ set s y r
+  pub level : r ≡ nearer (getD s y 0) (getD s x 0)
+
 -- how many nodes have a level
 pub told : List ℕ → ℕ
 told [] = 0

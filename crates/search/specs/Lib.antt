@@ -1,6 +1,7 @@
 pub mod Sweep
 pub mod SweepLaws
 pub mod LevelLaws
+pub mod Together
 pub mod Parts
 pub mod Steps
 pub mod Invariant

@@ -30,19 +30,24 @@ abbrev pub Departs : List (List ℕ) → List ℕ → List ℕ → ℕ → List 
 Departs edges places sources total masks =
     (e : ℕ) (stops : List ℕ) (parts : Parts) → Split edges e stops parts → Places (row edges 0) e places → Sown (Goes edges e) sources total masks
 
--- Such masks, old, become those of paths past no stop.
+-- So backward, from the stops.
+abbrev pub Arrives : List (List ℕ) → Parts → List ℕ → ℕ → List ℕ → Type 0
+Arrives edges parts sources total masks =
+    (e : ℕ) (stops : List ℕ) → Split edges e stops parts → Standing stops sources total → Sown (Comes edges e) sources total masks
+
+-- Such masks, old, become those of paths past no stop, forward and backward.
 abbrev pub Proceeds : List (List ℕ) → Parts → List ℕ → List ℕ → Type 0
 Proceeds edges parts old new =
     (e : ℕ) (stops sources : List ℕ) (total : ℕ) → Split edges e stops parts → Sown (Goes edges e) sources total old → Spread (Goes edges e) stops sources total new
 
--- Both, forward from any sources, and backward from the stops.
+abbrev pub Recedes : List (List ℕ) → Parts → List ℕ → List ℕ → Type 0
+Recedes edges parts old new =
+    (e : ℕ) (stops sources : List ℕ) (total : ℕ) → Split edges e stops parts → Sown (Comes edges e) sources total old → Spread (Comes edges e) stops sources total new
+
+-- Both, from any sources.
 abbrev pub SpreadsAhead : List (List ℕ) → List ℕ → Parts → List ℕ → ℕ → List ℕ → Type 0
 SpreadsAhead edges places parts sources total masks =
     (e : ℕ) (stops : List ℕ) → Split edges e stops parts → Places (row edges 0) e places → Spread (Goes edges e) stops sources total masks
-
-abbrev pub SpreadsBehind : List (List ℕ) → Parts → List ℕ → ℕ → List ℕ → Type 0
-SpreadsBehind edges parts sources total masks =
-    (e : ℕ) (stops : List ℕ) → Split edges e stops parts → Standing stops sources total → Spread (Comes edges e) stops sources total masks
 
 -- Masks go on, from the stops, where the levels are told.
 abbrev pub GoesOn : List (List ℕ) → List ℕ → Parts → List ℕ → ℕ → List ℕ → List ℕ → List ℕ → Type 0
@@ -66,12 +71,21 @@ Measures edges places parts sources total old new =
     (e : ℕ) (stops masks : List ℕ) → Split edges e stops parts → Places (row edges 0) e places → Standing stops sources total
     → Sown (Goes edges e) sources total masks → Each Begins masks old → Nearest edges e stops sources total new
 
--- All that is found from the stops, forward and backward.
-abbrev pub Starts : List (List ℕ) → List ℕ → Parts → List ℕ → ℕ → List ℕ → List ℕ → List ℕ → Type 0
-Starts edges places parts sources total masks all levels =
+-- Starts s, levels d and ends t, of the stops' own edges, become those of paths past no stop.
+abbrev pub Spreads : List (List ℕ) → List ℕ → Parts → List ℕ → ℕ → List ℕ → List ℕ → List ℕ → List ℕ → List ℕ → List ℕ → Type 0
+Spreads edges places parts sources total s d t s′ d′ t′ =
     (e : ℕ) (stops : List ℕ) → Split edges e stops parts → Places (row edges 0) e places → Standing stops sources total
-    → Marked (Goes edges e) stops sources total masks all × Nearest edges e stops sources total levels
+    → Sown (Goes edges e) sources total s → Each Begins s d → Sown (Comes edges e) sources total t
+    → Spread (Goes edges e) stops sources total s′ × Nearest edges e stops sources total d′ × Spread (Comes edges e) stops sources total t′
 
-abbrev pub Ends : List (List ℕ) → Parts → List ℕ → ℕ → List ℕ → Type 0
-Ends edges parts sources total masks =
-    (e : ℕ) (stops : List ℕ) → Split edges e stops parts → Standing stops sources total → Cleared (Comes edges e) stops sources total masks
+-- All that is found from the stops, but for what the starts bring to them.
+abbrev pub Boundaries : List (List ℕ) → List ℕ → Parts → List ℕ → ℕ → List ℕ → List ℕ → List ℕ → Type 0
+Boundaries edges places parts sources total starts levels ends =
+    (e : ℕ) (stops : List ℕ) → Split edges e stops parts → Places (row edges 0) e places → Standing stops sources total
+    → Spread (Goes edges e) stops sources total starts × Nearest edges e stops sources total levels × Cleared (Comes edges e) stops sources total ends
+
+-- That too.
+abbrev pub Gathers : List (List ℕ) → Parts → List ℕ → ℕ → List ℕ → List ℕ → List ℕ → Type 0
+Gathers edges parts sources total old new all =
+    (e : ℕ) (stops : List ℕ) → Split edges e stops parts → Standing stops sources total → Spread (Goes edges e) stops sources total old
+    → Marked (Goes edges e) stops sources total new all

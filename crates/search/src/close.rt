@@ -35,7 +35,7 @@ pub fn place_of(a: usize, b: usize, j: usize, back: bool) -> usize
 
 // The bits of x come to y; what is new. Along many edges nothing is written where nothing is new, as mostly where sweeps are many; along few
 // ones every mask is, since on a chart that was not seen before whether something is new is hard to tell ahead.
-fn carry(masks: &mut [u64; Chart::NODES], x: u8, y: u8, few: bool) -> u64
+pub fn carry(masks: &mut [u64; Chart::NODES], x: u8, y: u8, few: bool) -> u64
     requires { ⌜ (length (now masks) ≡ 192) × (x < 192) × (y < 192) ⌝ }
     ensures { λ r. ⌜ Step bitOr x y (now (masks .entry)) (now (masks .exit)) r ⌝ }
 {

@@ -1,13 +1,12 @@
 // Levels closed along edges: a node's level is at most one more than that of a node before it.
 ghost use mathlib.Core.Path.{_≡_};
-ghost use mathlib.Core.Bool.{true};
+ghost use mathlib.Core.Bool.{true, false};
 ghost use Prim.Native.Nat.{ℕ, _≤_, _<_, min};
+ghost use lib.Bits.{bitXor};
 ghost use lib.ListN.{getD, length};
 ghost use Rattle.search.specs.Sweep.{Lies, Run, Carried, Closed, Lists};
-ghost use Rattle.search.specs.LevelLaws.{nearer, Follows};
-use crate::close::FEW;
+ghost use Rattle.search.specs.LevelLaws.{nearer, Follows, Risen};
 use crate::close::STEPS;
-use crate::close::place_of;
 use crate::close::steps_of;
 use chart::format::Chart;
 
@@ -18,10 +17,10 @@ pub struct Level {
 
 impl Level {
     pub const NONE: u8 = 254;
-}
 
-// The number of no node.
-const NO_NODE: u8 = 255;
+    // the number of no node
+    pub const NO_NODE: u8 = 255;
+}
 
 // The smaller of two levels.
 fn smaller(a: u8, b: u8) -> u8
@@ -33,46 +32,53 @@ fn smaller(a: u8, b: u8) -> u8
     b
 }
 
-// The level of x. Along a few edges, where each often goes on from the one before, the level last written is at hand and not read back.
-fn level_of(levels: &[u8; Chart::NODES], x: u8, last: u8, level: u8, few: bool) -> u8
+// What is new where a level takes the place of an old one, 0 for nothing.
+pub fn change(level: u8, old: u8) -> u8
+    ensures { λ r. ⌜ r ≡ bitXor level old ⌝ }
+{
+    level ^ old
+}
+
+// The level of x. Where each edge often goes on from the one before, the level last written is at hand and not read back.
+fn level_of(levels: &[u8; Chart::NODES], x: u8, last: u8, level: u8) -> u8
     requires { ⌜ (x < 192) × (x ≡ last → level ≡ getD (now levels) x 0) ⌝ }
     ensures { λ r. ⌜ r ≡ getD (now (levels .entry)) x 0 ⌝ }
 {
-    if few {
-        if x == last {
-            return level;
-        }
+    if x == last {
+        return level;
     }
     levels[x as usize]
 }
 
+// Along an edge from x to y, with the level last written; the level of y.
+pub fn ascend(levels: &mut [u8; Chart::NODES], x: u8, y: u8, last: u8, level: u8) -> u8
+    requires { ⌜ (length (now levels) ≡ 192) × (x < 192) × (y < 192) × (getD (now levels) x 0 ≤ 254) × (x ≡ last → level ≡ getD (now levels) x 0) ⌝ }
+    ensures { λ r. ⌜ Risen x y (now (levels .entry)) (now (levels .exit)) r ⌝ }
+{
+    let above = level_of(levels, x, last, level);
+    let to = y as usize;
+    let all = smaller(levels[to], above + 1);
+    levels[to] = all;
+    all
+}
+
 // Along the edges from place a up to place b; what is new, 0 when nothing is.
-fn ascend(
+fn sweep(
     keys: &[u8; Chart::EDGES],
     values: &[u8; Chart::EDGES],
     a: usize,
     b: usize,
-    back: bool,
     levels: &mut [u8; Chart::NODES],
 ) -> u8
-    requires { ⌜ (a ≤ b) × (b ≤ 1024) × (length (now levels) ≡ 192) ⌝ }
-    requires { ⌜ ((j : ℕ) → getD (now keys) j 0 < 192) ⌝ }
-    requires { ⌜ ((j : ℕ) → getD (now values) j 0 < 192) ⌝ }
-    requires { ⌜ ((y : ℕ) → getD (now levels) y 0 ≤ 254) ⌝ }
-    ensures { λ r. ⌜ Run nearer (now (keys .entry)) (now (values .entry)) a b back (now (levels .entry)) b (now (levels .exit)) r ⌝ }
+    requires { ⌜ (a ≤ b) × (b ≤ 1024) × (length (now levels) ≡ 192) × ((y : ℕ) → getD (now levels) y 0 ≤ 254) ⌝ }
+    requires { ⌜ ((j : ℕ) → getD (now keys) j 0 < 192) × ((j : ℕ) → getD (now values) j 0 < 192) ⌝ }
+    ensures { λ r. ⌜ Run nearer (now (keys .entry)) (now (values .entry)) a b false (now (levels .entry)) b (now (levels .exit)) r ⌝ }
 {
-    let few = b - a < FEW;
     let mut new = 0;
-    let mut last = NO_NODE;
-    let mut level = 0;
     let mut j = a;
     while j < b {
-        let at = place_of(a, b, j, back);
-        let old = levels[values[at] as usize];
-        level = smaller(old, level_of(levels, keys[at], last, level, few) + 1);
-        last = values[at];
-        levels[last as usize] = level;
-        new = new | (level ^ old);
+        let old = levels[values[j] as usize];
+        new = new | change(ascend(levels, keys[j], values[j], Level::NO_NODE, 0), old);
         j += 1;
     }
     new
@@ -84,16 +90,15 @@ pub fn measure(
     values: &[u8; Chart::EDGES],
     ups: usize,
     low: usize,
-    back: bool,
     levels: &mut [u8; Chart::NODES],
 ) -> bool
-    requires { ⌜ Lists (now keys) (now values) ups low back × (length (now levels) ≡ 192) ⌝ }
+    requires { ⌜ Lists (now keys) (now values) ups low false × (length (now levels) ≡ 192) ⌝ }
     requires { ⌜ ((y : ℕ) → getD (now levels) y 0 ≤ 254) ⌝ }
     ensures { λ _. ⌜ Carried nearer (Lies (now (keys .entry)) (now (values .entry)) ups low) (now (levels .entry)) (now (levels .exit)) ⌝ }
     ensures { λ r. ⌜ (r ≡ true → Closed Follows (Lies (now (keys .entry)) (now (values .entry)) ups low) (now (levels .exit))) ⌝ }
 {
-    let mut new = ascend(keys, values, 0, ups, back, levels);
-    new = ascend(keys, values, low, Chart::EDGES, back, levels);
+    let mut new = sweep(keys, values, 0, ups, levels);
+    new = sweep(keys, values, low, Chart::EDGES, levels);
     let turn = steps_of(ups, low);
     let mut left = STEPS;
     while new != 0 {
@@ -101,9 +106,9 @@ pub fn measure(
             return false;
         }
         left -= turn;
-        new = ascend(keys, values, 0, ups, back, levels);
+        new = sweep(keys, values, 0, ups, levels);
         if new != 0 {
-            new = ascend(keys, values, low, Chart::EDGES, back, levels);
+            new = sweep(keys, values, low, Chart::EDGES, levels);
         }
     }
     true

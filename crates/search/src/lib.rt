@@ -11,4 +11,5 @@ pub mod places;
 pub mod search;
 pub mod sources;
 pub mod telling;
+pub mod together;
 pub mod waiting;

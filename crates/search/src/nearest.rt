@@ -31,7 +31,6 @@ fn swept(
         &edges[Parts::PLAIN_TO],
         parts.ups,
         parts.low,
-        false,
         levels,
     );
     tell(levels);
@@ -39,7 +38,7 @@ fn swept(
 }
 
 // The same by one search.
-fn searched(
+pub fn searched(
     edges: &[[u8; Chart::EDGES]; Parts::ROWS],
     places: &[usize; Chart::PLACES],
     nodes: &[u8; Sources::MOST],

@@ -10,17 +10,21 @@ ghost use lib.ListN.{getD, length, replicate};
 ghost use Rattle.search.specs.Parts.{Split};
 ghost use Rattle.search.specs.Levels.{Each, Begins};
 ghost use Rattle.search.specs.Search.{Ready, Sown, Lone, Settled};
-ghost use Rattle.search.specs.Promises.{Goes, Table, Departs, Proceeds, SpreadsAhead, SpreadsBehind, GoesOn, Starts, Ends};
+ghost use Rattle.search.specs.Promises.{Goes, Table, Departs, Arrives, Proceeds, Recedes, SpreadsAhead, GoesOn, Spreads, Boundaries, Gathers};
+use crate::close::FEW;
 use crate::close::close;
 use crate::edges::Extent;
 use crate::edges::Parts;
 use crate::nearest::fewest;
+use crate::nearest::searched;
 use crate::sources::Sources;
 use crate::sources::clear;
 use crate::sources::feed;
 use crate::sources::sow;
 use crate::sources::stand;
 use crate::telling::show;
+use crate::telling::tell;
+use crate::together::close_together;
 use chart::cursor::wide;
 use chart::format::Chart;
 
@@ -75,8 +79,8 @@ pub fn ahead(
     proceed(edges, parts, masks);
 }
 
-// Backward, from the stops.
-fn behind(
+// Backward, the bits of the stops, at the nodes from which edges lead to them.
+fn arrive(
     edges: &[[u8; Chart::EDGES]; Parts::ROWS],
     parts: Parts,
     sources: &[u8; Sources::MOST],
@@ -85,7 +89,8 @@ fn behind(
 )
     requires { ⌜ (total ≤ 64) × (now masks ≡ replicate 192 0) × ((b : ℕ) → getD (now sources) b 0 < 192) ⌝ }
     requires { ⌜ Table (now edges) parts ⌝ }
-    ensures { λ _. ⌜ SpreadsBehind (now (edges .entry)) parts (now (sources .entry)) total (now (masks .exit)) ⌝ }
+    ensures { λ _. ⌜ Arrives (now (edges .entry)) parts (now (sources .entry)) total (now (masks .exit)) ⌝ }
+    ensures { λ _. ⌜ (length (now (masks .exit)) ≡ 192) × ((y : ℕ) → getD (now (masks .exit)) y 0 < 18446744073709551616) ⌝ }
 {
     let mut own = [0u64; Chart::NODES];
     stand(sources, total, &mut own);
@@ -97,6 +102,14 @@ fn behind(
         &own,
         masks,
     );
+}
+
+// On from there, past no stop.
+fn recede(edges: &[[u8; Chart::EDGES]; Parts::ROWS], parts: Parts, masks: &mut [u64; Chart::NODES])
+    requires { ⌜ Table (now edges) parts ⌝ }
+    requires { ⌜ (length (now masks) ≡ 192) × ((y : ℕ) → getD (now masks) y 0 < 18446744073709551616) ⌝ }
+    ensures { λ _. ⌜ Recedes (now (edges .entry)) parts (now (masks .entry)) (now (masks .exit)) ⌝ }
+{
     close(
         &edges[Parts::PLAIN_TO],
         &edges[Parts::PLAIN_FROM],
@@ -160,48 +173,89 @@ fn onward(
     proceed(edges, extent.parts, masks);
 }
 
-// From the stops: the masks of the nodes that may be passed and their levels, and the masks of all nodes.
-pub fn starts(
+// Whether both lists are short.
+fn few(parts: Parts) -> bool
+    requires { ⌜ parts .low ≤ 1024 ⌝ }
+{
+    if parts.ups < FEW {
+        return Chart::EDGES - parts.low < FEW;
+    }
+    false
+}
+
+// On from there in both directions, with the levels: swept together along few edges. Along many none waits for what it has just written, and each
+// by itself takes no more turns than it needs.
+fn spread(
     edges: &[[u8; Chart::EDGES]; Parts::ROWS],
     places: &[usize; Chart::PLACES],
     extent: Extent,
     nodes: &[u8; Sources::MOST],
-    masks: &mut [u64; Chart::NODES],
+    starts: &mut [u64; Chart::NODES],
     levels: &mut [u8; Chart::NODES],
-    all: &mut [u64; Chart::NODES],
+    ends: &mut [u64; Chart::NODES],
 )
-    requires { ⌜ (extent .barriers ≤ 64) × (now masks ≡ replicate 192 0) × Ready (now edges) (now places) (extent .parts) ⌝ }
+    requires { ⌜ (extent .barriers ≤ 64) × ((b : ℕ) → getD (now nodes) b 0 < 192) × Each Begins (now starts) (now levels) ⌝ }
+    requires { ⌜ ((ready : Ready (now edges) (now places) (extent .parts)) × Sown (Goes (now edges) (ready .count)) (now nodes) (extent .barriers) (now starts)) ⌝ }
+    requires { ⌜ (length (now ends) ≡ 192) × ((y : ℕ) → getD (now ends) y 0 < 18446744073709551616) ⌝ }
+    ensures { λ _. ⌜ Spreads (now (edges .entry)) (now (places .entry)) (extent .parts) (now (nodes .entry)) (extent .barriers)
+        (now (starts .entry)) (now (levels .entry)) (now (ends .entry)) (now (starts .exit)) (now (levels .exit)) (now (ends .exit)) ⌝ }
+    ensures { λ _. ⌜ length (now (starts .exit)) ≡ 192 ⌝ }
+{
+    if few(extent.parts) {
+        if close_together(edges, extent.parts, starts, levels, ends) {
+            tell(levels);
+            return;
+        }
+        searched(edges, places, nodes, extent.barriers, levels);
+        return;
+    }
+    fewest(edges, places, extent, nodes, levels);
+    onward(edges, places, extent, nodes, levels, starts);
+    recede(edges, extent.parts, ends);
+}
+
+// From the stops, forward and backward: the masks of the nodes that may be passed, and the levels. The starts of the stops are not told yet.
+pub fn boundaries(
+    edges: &[[u8; Chart::EDGES]; Parts::ROWS],
+    places: &[usize; Chart::PLACES],
+    extent: Extent,
+    nodes: &[u8; Sources::MOST],
+    starts: &mut [u64; Chart::NODES],
+    levels: &mut [u8; Chart::NODES],
+    ends: &mut [u64; Chart::NODES],
+)
+    requires { ⌜ (extent .barriers ≤ 64) × (now starts ≡ replicate 192 0) × (now ends ≡ replicate 192 0) × Ready (now edges) (now places) (extent .parts) ⌝ }
     requires { ⌜ ((b : ℕ) → getD (now nodes) b 0 < 192) ⌝ }
-    ensures { λ _. ⌜ Starts (now (edges .entry)) (now (places .entry)) (extent .parts) (now (nodes .entry)) (extent .barriers) (now (masks .exit)) (now (all .exit)) (now (levels .exit)) ⌝ }
+    ensures { λ _. ⌜ Boundaries (now (edges .entry)) (now (places .entry)) (extent .parts) (now (nodes .entry)) (extent .barriers)
+        (now (starts .exit)) (now (levels .exit)) (now (ends .exit)) ⌝ }
+    ensures { λ _. ⌜ length (now (starts .exit)) ≡ 192 ⌝ }
 {
     let total = extent.barriers;
-    let parts = extent.parts;
-    depart(edges, places, nodes, total, masks, levels);
-    fewest(edges, places, extent, nodes, levels);
-    onward(edges, places, extent, nodes, levels, masks);
-    *all = *masks;
-    clear(nodes, total, masks);
+    depart(edges, places, nodes, total, starts, levels);
+    arrive(edges, extent.parts, nodes, total, ends);
+    spread(edges, places, extent, nodes, starts, levels, ends);
+    clear(nodes, total, ends);
+}
+
+// The starts of all nodes, of which the stops keep none.
+pub fn reach_stops(
+    edges: &[[u8; Chart::EDGES]; Parts::ROWS],
+    extent: Extent,
+    nodes: &[u8; Sources::MOST],
+    starts: &mut [u64; Chart::NODES],
+    all: &mut [u64; Chart::NODES],
+)
+    requires { ⌜ (extent .barriers ≤ 64) × ((b : ℕ) → getD (now nodes) b 0 < 192) × (length (now starts) ≡ 192) × Table (now edges) (extent .parts) ⌝ }
+    ensures { λ _. ⌜ Gathers (now (edges .entry)) (extent .parts) (now (nodes .entry)) (extent .barriers) (now (starts .entry)) (now (starts .exit)) (now (all .exit)) ⌝ }
+{
+    *all = *starts;
+    clear(nodes, extent.barriers, starts);
     feed(
         &edges[Parts::STOP_FROM],
         &edges[Parts::STOP_TO],
         0,
-        parts.ins,
-        masks,
+        extent.parts.ins,
+        starts,
         all,
     );
-}
-
-// The masks of the nodes that may be passed, backward: along the edges turned round.
-pub fn ends(
-    edges: &[[u8; Chart::EDGES]; Parts::ROWS],
-    extent: Extent,
-    nodes: &[u8; Sources::MOST],
-    masks: &mut [u64; Chart::NODES],
-)
-    requires { ⌜ (extent .barriers ≤ 64) × (now masks ≡ replicate 192 0) × ((b : ℕ) → getD (now nodes) b 0 < 192) ⌝ }
-    requires { ⌜ Table (now edges) (extent .parts) ⌝ }
-    ensures { λ _. ⌜ Ends (now (edges .entry)) (extent .parts) (now (nodes .entry)) (extent .barriers) (now (masks .exit)) ⌝ }
-{
-    behind(edges, extent.parts, nodes, extent.barriers, masks);
-    clear(nodes, extent.barriers, masks);
 }

@@ -2,11 +2,12 @@
 // and levels, as they begin and as they are told.
 ghost use mathlib.Core.Path.{_≡_};
 ghost use mathlib.Core.List.{[], _∷_};
-ghost use Prim.Native.Nat.{ℕ, _+_, _≤_, _<_};
+ghost use Prim.Native.Nat.{ℕ, _≤_, _<_};
 ghost use lib.ListN.{getD, length, replicate};
 ghost use Rattle.search.specs.Sweep.{Between};
 ghost use Rattle.search.specs.Fed.{Fed, Owned, Sowed, Stored};
 ghost use Rattle.search.specs.Levels.{Each, Begins};
+ghost use Rattle.search.specs.Steps.{Bounded};
 use crate::levels::Level;
 use chart::cursor::wide;
 use chart::format::Chart;
@@ -75,8 +76,7 @@ pub fn sow(
     masks: &mut [u64; Chart::NODES],
     levels: &mut [u8; Chart::NODES],
 )
-    requires { ⌜ (total ≤ 64) × (now masks ≡ replicate 192 0) × ((x : ℕ) → x < 192 → (getD (now places) x 0 ≤ getD (now places) (x + 1) 0) × (getD (now places) (x + 1) 0 ≤ 1024)) ⌝ }
-    requires { ⌜ ((j : ℕ) → getD (now values) j 0 < 192) ⌝ }
+    requires { ⌜ (total ≤ 64) × (now masks ≡ replicate 192 0) × Bounded (now values) (now places) ⌝ }
     requires { ⌜ ((b : ℕ) → getD (now sources) b 0 < 192) ⌝ }
     ensures { λ _. ⌜ Sowed (now (values .entry)) (now (places .entry)) (now (sources .entry)) total (now (masks .exit)) ⌝ }
     ensures { λ _. ⌜ Each Begins (now (masks .exit)) (now (levels .exit)) ⌝ }

@@ -80,7 +80,8 @@ fn pass_on(
 ) -> usize
     requires { ⌜ Fits (now masks) (now held) (now ring) head waiting × (first ≤ 1024) ⌝ }
     requires { ⌜ ((j : ℕ) → getD (now values) j 0 < 192) × ((j : ℕ) → getD (now before) j 0 ≤ j) ⌝ }
-    ensures { λ r. ⌜ Walk (now (values .entry)) (now (before .entry)) bits head first (now (masks .entry)) (now (held .entry)) (now (ring .entry)) waiting 0 (now (masks .exit)) (now (held .exit)) (now (ring .exit)) r ⌝ }
+    ensures { λ r. ⌜ Walk (now (values .entry)) (now (before .entry)) bits head first (now (masks .entry)) (now (held .entry)) (now (ring .entry)) waiting 0
+        (now (masks .exit)) (now (held .exit)) (now (ring .exit)) r ⌝ }
     ensures { λ r. ⌜ r ≤ filled (now (held .exit)) ⌝ }
 {
     let mut n = waiting;

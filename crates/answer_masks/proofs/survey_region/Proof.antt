@@ -1,4 +1,4 @@
--- `answer_masks::survey_region` meets its contract: from start forward, from finish backward, and what each node holds.
+-- `answer_masks::survey_region` meets its contract: the tables, the marking, and what each node holds.
 -- Assumes nothing.
 use mathlib.Core.Path.{_≡_, refl, sym, _∙_}
 use native.Mathlib.Omega.{arith}
@@ -11,7 +11,7 @@ use Rattle.check_chart.proofs.Outcome.{passed-none}
 use Rattle.mark_tables.specs.Tables.{Accepted}
 use Rattle.mark_tables.proofs.Accepted.{well-formed}
 use Rattle.mark_tables.proofs.Tabling.{blank-none}
-use Rattle.mark_regions.proofs.Entering.{few, not-none, nodes-below, unreached, stuck, connects}
+use Rattle.mark_regions.proofs.Entering.{few, not-none, nodes-below, cut-off, connects}
 use Rattle.answer_constructs.proofs.Nodes.{all-marks}
 use Rattle.answer_masks.specs.Surveyed.{checkedOf}
 use Rattle.answer_masks.proofs.survey_region.Statement.{statement}
@@ -24,19 +24,9 @@ start c = c .before .before .before .before .before .before
 is-accepted : (c : tie.After-load-tables) → Accepted (start c .args .s .now) (start c .args .chart)
 is-accepted c = start c .pre .0 .0
 
--- before the first search, and before the second
-abbrev loaded : (c : tie.After-fill-starts) → tie.After-load-tables
+-- before the marking
+abbrev loaded : (c : tie.After-fill) → tie.After-load-tables
 loaded c = c .before .before .before .before .before .before .before
-
-abbrev forth : (c : tie.After-fill-ends) → tie.Else1
-forth c = c .before .before .before .before
-
--- where a search has ended, before row 10 is asked of it
-abbrev reached : (c : tie.After-refuses) → tie.After-fill-starts
-reached c = c .before
-
-abbrev left : (c : tie.After-refuses2) → tie.After-fill-ends
-left c = c .before
 
 load-tables-requires : tie.Need-load-tables-requires
 load-tables-requires c κs = (c .before .before .before .before .before .pre .0 .0, blank-none, refl)
@@ -44,12 +34,15 @@ load-tables-requires c κs = (c .before .before .before .before .before .pre .0 
 index-1-starts : tie.Need-index-1-starts
 index-1-starts c = search needs
 
-fill-starts-requires : tie.Need-fill-starts-requires
-fill-starts-requires c κs =
+fill-requires : tie.Need-fill-requires
+fill-requires c κs =
     let l = c .before .before .before .before .before .before in
     let A = is-accepted l in
     let (T, (H, (S, N, Q))) = l .load-tables .ensures in
-    ((few A N, not-none A N, omega (arith, Q, A .laid .nodes-most), rw (start l .pre .0 .2) refl, (_, _, H)), nodes-below A N)
+    ((few A N, not-none A N, omega (arith, Q, A .laid .nodes-most), rw (start l .pre .0 .2) refl, refl, (_, _, H)), nodes-below A N)
+
+element-set-from-marks : tie.Need-element-set-from-marks
+element-set-from-marks c = search needs
 
 refuses-requires : tie.Need-refuses-requires
 refuses-requires c κs = search needs
@@ -58,50 +51,21 @@ returns : tie.Need-returns
 unfolding checkedOf answer
 returns c =
     let asked = c .before in
-    let l = loaded (reached asked) in
+    let l = loaded (asked .before) in
     let A = is-accepted l in
     let (T, (H, (S, N, Q))) = l .load-tables .ensures in
-    let lost = reached asked .fill-starts .ensures .0 _ (well-formed _ _ A) T S N (Q ∙ sym (nodes-length _ _ (A .laid))) in
+    let lost = asked .before .fill .ensures .0 _ _ (well-formed _ _ A) T S N (Q ∙ sym (nodes-length _ _ (A .laid))) in
     let (whole, not) = asked .refuses .ensures in (
       (
-        λ q. rw (unreached _ _ (start l .pre .0 .1 q) N (sym lost ∙ sym (whole q) ∙ c .if1 .taken)),
+        λ q. rw (cut-off _ _ (start l .pre .0 .1 q) (sym lost ∙ sym (whole q) ∙ c .if1 .taken)),
         λ n. let f = not n in let t = c .if1 .taken in absurd (bad (cc)),
-      ),
-      λ chart sets q. absurd (bad (cc)),
-    )
-
-index-1-ends : tie.Need-index-1-ends
-index-1-ends c = search needs
-
-fill-ends-requires : tie.Need-fill-ends-requires
-fill-ends-requires c κs =
-    let l = loaded (reached (c .before .before .before .before)) in
-    let A = is-accepted l in
-    let (T, (H, (S, N, Q))) = l .load-tables .ensures in
-    ((few A N, not-none A N, omega (arith, Q, A .laid .nodes-most), rw (start l .pre .0 .2) refl, (_, _, H .split)), nodes-below A N)
-
-refuses-requires-2 : tie.Need-refuses-requires-2
-refuses-requires-2 c κs = search needs
-
-returns-2 : tie.Need-returns-2
-unfolding checkedOf answer
-returns-2 c =
-    let asked = c .before in
-    let l = loaded (reached (forth (left asked) .before)) in
-    let A = is-accepted l in
-    let (T, (H, (S, N, Q))) = l .load-tables .ensures in
-    let lost = left asked .fill-ends .ensures .0 _ _ _ (well-formed _ _ A) T S N (Q ∙ sym (nodes-length _ _ (A .laid))) in
-    let (whole, not) = asked .refuses2 .ensures in (
-      (
-        λ q. rw (stuck _ _ (start l .pre .0 .1 q) N lost (sym (whole q) ∙ c .if2 .taken)),
-        λ n. let f = not n in let t = c .if2 .taken in absurd (bad (cc)),
       ),
       λ chart sets q. absurd (bad (cc)),
     )
 
 returns-requires : tie.Need-returns-requires
 returns-requires c κs =
-    let l = loaded (reached (forth (left (c .before .before .before .before)) .before)) in
+    let l = loaded (c .before .before .before .before .before) in
     let (T, (H, (S, N, Q))) = l .load-tables .ensures in
     ((is-accepted l, start l .pre .1 .0, start l .pre .1 .1), (H, (_, (T, S))))
 
@@ -111,30 +75,27 @@ index-1-fill-held c = search needs
 fill-held-requires : tie.Need-fill-held-requires
 fill-held-requires c κs =
     let found = c .before in
-    let l = loaded (reached (forth (left (found .before .before .before .before .before)) .before)) in
+    let l = loaded (found .before .before .before .before .before .before) in
     (is-accepted l, found .returns .ensures, rw (start l .pre .0 .2) refl)
 
-returns-3 : tie.Need-returns-3
+returns-2 : tie.Need-returns-2
 unfolding checkedOf answer checked
-returns-3 c =
+returns-2 c =
     let off = c .before .before .before .before .before .before in
-    let asked′ = off .before in
-    let on = forth (left asked′) in
-    let asked = on .before in
-    let l = loaded (reached asked) in
+    let asked = off .before in
+    let filled = asked .before in
+    let l = loaded filled in
     let e = start l in
     let A = is-accepted l in
     let W = well-formed _ _ A in
     let (T, (H, (S, N, Q))) = l .load-tables .ensures in
-    let n = Q ∙ sym (nodes-length _ _ (A .laid)) in
-    let (lost, starts) = reached asked .fill-starts .ensures in
-    let (lost′, ends) = left asked′ .fill-ends .ensures in
-    let (whole, _) = asked .refuses .ensures in
-    let (whole′, _) = asked′ .refuses2 .ensures in (
+    let (lost, marked) = filled .fill .ensures in
+    let (starts, ends, levels) = marked _ _ W T S N in
+    let (whole, _) = asked .refuses .ensures in (
       (
         λ q.
             let h = e .pre .0 .1 q in
-            let admits = connects _ _ h N (lost′ _ _ _ W T S N n) (sym (lost _ W T S N n) ∙ sym (whole q) ∙ on .if1 .left) (sym (whole′ q) ∙ off .if2 .left) in
+            let admits = connects _ _ h (sym (lost _ _ W T S N (Q ∙ sym (nodes-length _ _ (A .laid)))) ∙ sym (whole q) ∙ off .if1 .left) in
             let counts = passed-none (firstOf (chartRows (e .args .s .now))) (countsOf (e .args .s .now)) (e .args .chart) h .1 in
             rw (admits, counts),
         λ n. refl,
@@ -144,7 +105,7 @@ returns-3 c =
           let b : c .fill-held .result ≡ sets = cc in
           rw (← a, ← b) (record {
             accepted = A;
-            marked = all-marks _ _ A (e .args .marks .now) _ _ _ (rw (e .pre .0 .2) refl) (starts _ W T S N .0) (ends _ _ _ W T S N) (c .fill-held .ensures .1) (c .fill-held .ensures .0);
+            marked = all-marks _ _ A (e .args .marks .now) _ _ _ (rw (e .pre .0 .2) refl) starts ends (c .fill-held .ensures .1) (c .fill-held .ensures .0);
           }),
     )
 
@@ -154,14 +115,11 @@ survey-region-spec =
     (tie.spec
     load-tables-requires
     index-1-starts
-    fill-starts-requires
+    fill-requires
+    element-set-from-marks
     refuses-requires
     returns
-    index-1-ends
-    fill-ends-requires
-    refuses-requires-2
-    returns-2
     returns-requires
     index-1-fill-held
     fill-held-requires
-    returns-3)
+    returns-2)

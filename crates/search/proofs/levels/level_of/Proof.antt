@@ -4,7 +4,7 @@ use Rattle.search.proofs.levels.level_of.Statement.{statement}
 use Rattle.search.proofs.levels.level_of.Tie as tie
 
 returns : tie.Need-returns
-returns c = c .before .before .pre .1 (c .if2 .taken)
+returns c = c .before .pre .1 (c .if1 .taken)
 
 element-copy-out-result : tie.Need-element-copy-out-result
 element-copy-out-result c = search needs

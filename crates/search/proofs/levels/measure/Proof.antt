@@ -5,37 +5,38 @@ use native.Mathlib.Omega.{arith}
 use Rattle.search.specs.LevelLaws.{nearer, Follows}
 use Rattle.lists.specs.Truth.{clash}
 use denote.Ref.{now}
-use Rattle.search.proofs.Runs.{levels-kind, run-swept, run-long, carried-on}
+use Rattle.search.proofs.Runs.{levels-kind, run-swept, carried-on}
 use Rattle.search.proofs.Turns.{Closing, opened, still, again, closing-closed, rebase}
 use Rattle.search.proofs.levels.measure.Statement.{statement}
 use Rattle.search.proofs.levels.measure.Tie as tie
 
 abbrev Inv-loop : tie.InvT-loop
-Inv-loop keys values ups low back levels₀ new₀ turn left₀ levels new left =
+Inv-loop keys values ups low levels₀ new₀ turn left₀ levels new left =
     Closing nearer Follows (λ d. d ≤ 254) keys values ups low levels₀ levels new
 
 abbrev μ-loop : tie.MeasureT-loop
-μ-loop keys values ups low back levels₀ new₀ turn left₀ levels new left = left
+μ-loop keys values ups low levels₀ new₀ turn left₀ levels new left = left
 
-ascend-requires : tie.Need-ascend-requires Inv-loop μ-loop
-ascend-requires c κs =
+sweep-requires : tie.Need-sweep-requires Inv-loop μ-loop
+sweep-requires c κs =
     let ((L, long), fits) = c .before .pre in
-    ((omega arith, L .ups-most, long), (L .key, (L .value, fits)))
+    ((omega arith, L .ups-most, long, fits), (L .key, L .value))
 
-ascend-requires-2 : tie.Need-ascend-requires-2 Inv-loop μ-loop
-ascend-requires-2 c κs =
+sweep-requires-2 : tie.Need-sweep-requires-2 Inv-loop μ-loop
+sweep-requires-2 c κs =
     let ((L, long), fits) = c .before .before .before .pre in
-    ((L .low-most, omega arith, run-long long (c .before .ascend .ensures)), (L .key, (L .value, run-swept levels-kind _ _ _ _ _ (L .key) (L .value) long fits (c .before .ascend .ensures) .bound)))
+    let w = run-swept levels-kind _ _ _ _ _ (L .key) (L .value) long fits (c .before .sweep .ensures) in
+    ((L .low-most, omega arith, w .long, w .bound), (L .key, L .value))
 
 -- the first two sweeps
-first-two : (c : tie.After-ascend2 Inv-loop μ-loop)
+first-two : (c : tie.After-sweep2 Inv-loop μ-loop)
     → (let args = c .before .before .before .before .args in
     Closing nearer Follows (λ d. d ≤ 254) (now (args .keys)) (now (args .values)) (args .ups) (args .low) (now (args .levels))
-    (c .ascend2 .last .1 .1 .1 .1 .1 .0) (c .ascend2 .result))
+    (c .sweep2 .last .1 .1 .1 .1 .0) (c .sweep2 .result))
 first-two c =
     let start = c .before .before .before .before in
     let ((L, long), fits) = start .pre in
-    opened levels-kind L long fits (c .before .before .ascend .ensures) (c .ascend2 .ensures)
+    opened levels-kind L long fits (c .before .before .sweep .ensures) (c .sweep2 .ensures)
 
 steps-of-requires : tie.Need-steps-of-requires Inv-loop μ-loop
 steps-of-requires c κs = let L = c .before .before .before .before .pre .0 .0 in (L .ups-most, L .low-most)
@@ -48,18 +49,20 @@ returns c =
     let at-loop = c .before .before in
     (carried-on (first-two (at-loop .before .before) .half .carried) (at-loop .loop .inv .half .carried), λ h. absurd (clash h refl))
 
-ascend-requires-3 : tie.Need-ascend-requires-3 Inv-loop μ-loop
-ascend-requires-3 c κs =
+sweep-requires-3 : tie.Need-sweep-requires-3 Inv-loop μ-loop
+sweep-requires-3 c κs =
     let at-loop = c .before .before .before in
     let L = at-loop .before .before .before .before .before .before .pre .0 .0 in
-    ((omega arith, L .ups-most, at-loop .loop .inv .half .long), (L .key, (L .value, at-loop .loop .inv .half .bound)))
+    ((omega arith, L .ups-most, at-loop .loop .inv .half .long, at-loop .loop .inv .half .bound), (L .key, L .value))
 
-ascend-requires-4 : tie.Need-ascend-requires-4 Inv-loop μ-loop
-ascend-requires-4 c κs =
+sweep-requires-4 : tie.Need-sweep-requires-4 Inv-loop μ-loop
+sweep-requires-4 c κs =
     let at = c .before .before in
     let at-loop = at .before .before .before .before in
     let L = at-loop .before .before .before .before .before .before .pre .0 .0 in
-    ((L .low-most, omega arith, run-long (at-loop .loop .inv .half .long) (at .ascend3 .ensures)), (L .key, (L .value, run-swept levels-kind _ _ _ _ _ (L .key) (L .value) (at-loop .loop .inv .half .long) (at-loop .loop .inv .half .bound) (at .ascend3 .ensures) .bound)))
+    let h = at-loop .loop .inv .half in
+    let w = run-swept levels-kind _ _ _ _ _ (L .key) (L .value) (h .long) (h .bound) (at .sweep3 .ensures) in
+    ((L .low-most, omega arith, w .long, w .bound), (L .key, L .value))
 
 loop-less : tie.Need-loop-less Inv-loop μ-loop
 loop-less c = omega arith
@@ -69,7 +72,7 @@ loop-again c =
     let at = c .before .before .before in
     let at-loop = at .before .before .before .before in
     let L = at-loop .before .before .before .before .before .before .pre .0 .0 in
-    again levels-kind L (at-loop .loop .inv) (at .ascend3 .ensures) (c .ascend4 .ensures)
+    again levels-kind L (at-loop .loop .inv) (at .sweep3 .ensures) (c .sweep4 .ensures)
 
 loop-less-2 : tie.Need-loop-less-2 Inv-loop μ-loop
 loop-less-2 c = omega arith
@@ -79,7 +82,7 @@ loop-again-2 c =
     let at = c .before in
     let at-loop = at .before .before .before .before in
     let L = at-loop .before .before .before .before .before .before .pre .0 .0 in
-    still levels-kind L (at-loop .loop .inv) (omega arith) (at .ascend3 .ensures)
+    still levels-kind L (at-loop .loop .inv) (omega arith) (at .sweep3 .ensures)
 
 returns-2 : tie.Need-returns-2 Inv-loop μ-loop
 returns-2 c =
@@ -93,13 +96,13 @@ measure-spec =
     (tie.spec
     Inv-loop
     μ-loop
-    ascend-requires
-    ascend-requires-2
+    sweep-requires
+    sweep-requires-2
     steps-of-requires
     loop-holds
     returns
-    ascend-requires-3
-    ascend-requires-4
+    sweep-requires-3
+    sweep-requires-4
     loop-less
     loop-again
     loop-less-2

@@ -12,7 +12,7 @@ sow-requires : tie.Need-sow-requires
 sow-requires c κs =
     let ((few, blank, (_, ready)), sources) = c .before .before .before .pre in
     let T = ready .split in
-    ((few, blank, bounded T (ready .begins) .place), (T .to, sources))
+    ((few, blank, bounded T (ready .begins)), sources)
 
 returns : tie.Need-returns
 returns c = ((λ e stops _ T P. sown-ahead T P (c .sow .ensures .0)), c .sow .ensures .1)

@@ -32,7 +32,7 @@ wide-requires : tie.Need-wide-requires Inv-loop μ-loop
 wide-requires c κs = search needs
 
 below : (c : tie.After-wide Inv-loop μ-loop) → c .wide .result < 192
-below c = let l = c .before .before .before in omega (arith, c .wide .ensures, start l .pre .1 .1 (l .loop .b))
+below c = let l = c .before .before .before in omega (arith, c .wide .ensures, start l .pre .1 (l .loop .b))
 
 mul-sow-edges : tie.Need-mul-sow-edges Inv-loop μ-loop
 mul-sow-edges c = omega (arith, below c)
@@ -57,10 +57,10 @@ sow-edges-requires c κs =
     let own = c .before .before in
     let at = own .before .before .before in
     let l = at .before .before .before in
-    let ((few, blank, places), (values, sources)) = start l .pre in
-    let (order, most) = places (at .wide .result) (below at) in
+    let ((few, blank, bounded), sources) = start l .pre in
+    let (order, most) = bounded .place (at .wide .result) (below at) in
     let (under, sowed, begun) = l .loop .inv in
-    ((order, most, omega (arith, own .bit .ensures, pow-pos (l .loop .b)), sowed .long, begun), values)
+    ((order, most, omega (arith, own .bit .ensures, pow-pos (l .loop .b)), sowed .long, begun), bounded .node)
 
 add-b : tie.Need-add-b Inv-loop μ-loop
 add-b c = omega arith
