@@ -12,53 +12,30 @@ pub const MOST: usize = 8_192;
 /// Lists of this length and more are swept one direction at a time.
 pub const FEW: usize = 200;
 
-/// One direction of a sweep over a short list, where an edge often goes on from the one before: the
-/// mask written last stays at hand.
-struct Last {
-    node: u8,
-    mask: u64,
+/// What masks bring along the edges of a short list.
+struct Grown {
     new: u64,
 }
 
-impl Last {
-    #[inline(always)]
-    fn new() -> Last {
-        Last {
-            node: 255,
-            mask: 0,
-            new: 0,
-        }
-    }
-
+impl Grown {
     #[inline(always)]
     fn carry(&mut self, masks: &mut Masks, from: u8, to: u8) {
         let old = masks[usize::from(to)];
-        let read = masks[usize::from(from)];
-        let own = if from == self.node { self.mask } else { read };
-        self.mask = own | old;
-        self.node = to;
-        masks[usize::from(to)] = self.mask;
-        self.new |= self.mask ^ old;
+        let all = old | masks[usize::from(from)];
+        masks[usize::from(to)] = all;
+        self.new |= all ^ old;
     }
 }
 
-/// The same of levels: the fewest edges of a path.
-struct LastLevel {
+/// The same of levels, the fewest edges of a path. An edge often goes on from the one before: the level
+/// written last stays at hand, since a level takes longer than a mask to be ready.
+struct Risen {
     node: u8,
     level: u8,
     new: u8,
 }
 
-impl LastLevel {
-    #[inline(always)]
-    fn new() -> LastLevel {
-        LastLevel {
-            node: 255,
-            level: 0,
-            new: 0,
-        }
-    }
-
+impl Risen {
     #[inline(always)]
     fn carry(&mut self, levels: &mut Levels, from: u8, to: u8) {
         let old = levels[usize::from(to)];
@@ -85,8 +62,13 @@ impl Swept<'_> {
     /// whether anything has changed.
     #[inline(always)]
     fn sweep<const LEFT: bool, const LEVELS: bool>(&mut self, list: &[Edge]) -> bool {
-        let (mut starts, mut left, mut ends) = (Last::new(), Last::new(), Last::new());
-        let mut levels = LastLevel::new();
+        let (mut starts, mut left, mut ends) =
+            (Grown { new: 0 }, Grown { new: 0 }, Grown { new: 0 });
+        let mut levels = Risen {
+            node: 255,
+            level: 0,
+            new: 0,
+        };
         for (&ahead, &behind) in list.iter().zip(list.iter().rev()) {
             let ((a, b), (p, q)) = (ends_of(ahead), ends_of(behind));
             starts.carry(self.starts, a, b);
