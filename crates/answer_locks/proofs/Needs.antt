@@ -121,7 +121,7 @@ module _ {R : Region} {marks : List (List ℕ)} {sets : Sets} (M : Marks R marks
     ever-by k = needs-by names I N past A _ (λ x. unbarred (profileAt marks x) marks)
         (λ x y lx ly. barred-fitting R size x y ∙ rw (unbarred-by M x y lx ly)) c l k ∙ sym (S .ever c (omega arith))
 
-    pub byte-by : lockByte R size c ≡ byteBy criticals found c
+    pub byte-by : lockByte R size c ≡ byteBy criticals (found .ever) (found .needed) c
     unfolding lockByte byteBy
     byte-by = rw (K c l) (go (has criticals c) (λ h. let k = critical-of R c .0 (K c l ∙ h) .0 in (needed-by k, ever-by k)))
       where

@@ -6,13 +6,12 @@ use mathlib.Core.List.{List}
 use Prim.Native.Nat.{ℕ, _≤_, _<_}
 use lib.ListN.{length, getD}
 use Rattle.lists.specs.Bits.{has}
-use Rattle.answer_locks.specs.declared.search.Tried.{Tried}
 
-unfoldable pub byteBy : ℕ → Tried → ℕ → ℕ
-byteBy criticals found c = cond (has criticals c) (cond (has (found .needed) c) 0 (cond (has (found .ever) c) 1 2)) 255
+unfoldable pub byteBy : ℕ → ℕ → ℕ → ℕ → ℕ
+byteBy criticals ever needed c = cond (has criticals c) (cond (has needed c) 0 (cond (has ever c) 1 2)) 255
 
 -- The bytes of the first n constructs stand at the front, and the rest stays.
-pub record Put (criticals : ℕ) (found : Tried) (n : ℕ) (old new : List ℕ) : Type 0 where
+pub record Put (criticals ever needed n : ℕ) (old new : List ℕ) : Type 0 where
   pub long : length new ≡ length old
-  pub at : (c : ℕ) → c < n → getD new c 0 ≡ byteBy criticals found c
+  pub at : (c : ℕ) → c < n → getD new c 0 ≡ byteBy criticals ever needed c
   pub past : (c : ℕ) → n ≤ c → getD new c 0 ≡ getD old c 0

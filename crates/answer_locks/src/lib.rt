@@ -21,6 +21,7 @@ use answer_names::spread;
 use answer_nodes::SETS;
 use answer_nodes::gather_all;
 use chart::format::Chart;
+use chart::format::Construct;
 use mark_tables::closed::load_closed;
 use masks::unions::BITS;
 use theory_answers::Size;
@@ -29,8 +30,8 @@ pub mod bytes;
 pub mod fitting;
 pub mod search;
 
-// The bytes fill the front of `out`.
-pub fn put_locks(s: &[u8], chart: Chart, size: Size, marks: &MaskTable, kinds: Sets, out: &mut [u8])
+// The bytes fill the front of `out`, by a search over the nodes.
+fn put_found(s: &[u8], chart: Chart, size: Size, marks: &MaskTable, kinds: Sets, out: &mut [u8])
     requires { ⌜ Accepted (now s) chart × Marks (reading (now s) chart) (now marks) kinds × (chart .constructs ≤ length (now out)) ⌝ }
     ensures { λ _.
         let result = locksResult (reading (now (s .entry)) chart) size in
@@ -52,5 +53,19 @@ pub fn put_locks(s: &[u8], chart: Chart, size: Size, marks: &MaskTable, kinds: S
     let mut named = [[0u64; BITS]; THIRDS];
     gather_names(&names, &shut, &mut named);
     let found = search(chart.nodes, marks, &around, &shut, &nodes, &named);
-    put_bytes(chart.constructs, criticals, found, out);
+    put_bytes(chart.constructs, criticals, found.ever, found.needed, out);
+}
+
+// The same. Where the chart has no critical, none is needed, and nothing is searched.
+pub fn put_locks(s: &[u8], chart: Chart, size: Size, marks: &MaskTable, kinds: Sets, out: &mut [u8])
+    requires { ⌜ Accepted (now s) chart × Marks (reading (now s) chart) (now marks) kinds × (chart .constructs ≤ length (now out)) ⌝ }
+    ensures { λ _.
+        let result = locksResult (reading (now (s .entry)) chart) size in
+        ⌜ now (out .exit) ≡ result ++ drop (length result) (now (out .entry)) ⌝ }
+{
+    if Construct::occurs(s, chart, Construct::CRITICAL) {
+        put_found(s, chart, size, marks, kinds, out);
+        return;
+    }
+    put_bytes(chart.constructs, 0, 0, 0, out);
 }

@@ -57,7 +57,7 @@ module _ (s : List ℕ) (chart : Chart) (A : Accepted s chart) where
       → has members c ≡ countsIn (decode s .constructs) (chart .region) c
   member-of members c q l = rw q (has-of (countsIn (decode s .constructs) (chart .region)) (chart .constructs) c l)
 
-  critical-byte : (d : ℕ) → d < R .constructs → R .kind d ≡ critical → at d .kind ≡ criticalByte
+  pub critical-byte : (d : ℕ) → d < R .constructs → R .kind d ≡ critical → at d .kind ≡ criticalByte
   unfolding kindOf
   critical-byte d l k = kind-byte s chart A criticalByte d (omega arith) (omega arith) l k
 

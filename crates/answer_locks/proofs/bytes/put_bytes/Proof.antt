@@ -10,10 +10,10 @@ use Rattle.answer_locks.proofs.bytes.put_bytes.Statement.{statement}
 use Rattle.answer_locks.proofs.bytes.put_bytes.Tie as tie
 
 abbrev Inv-loop : tie.InvT-loop
-Inv-loop n criticals found out₀ c₀ out c = (c ≤ n) × Put criticals found c out₀ out
+Inv-loop n criticals ever needed out₀ c₀ out c = (c ≤ n) × Put criticals ever needed c out₀ out
 
 abbrev μ-loop : tie.MeasureT-loop
-μ-loop n criticals found out₀ c₀ out c = n - c
+μ-loop n criticals ever needed out₀ c₀ out c = n - c
 
 loop-holds : tie.Need-loop-holds Inv-loop μ-loop
 loop-holds c = (omega arith, record { long = refl; at = λ d l. absurd (omega arith); past = λ d l. refl })
@@ -39,7 +39,7 @@ loop-again c =
       omega arith,
       record {
         long = length-set (l .loop .out) (l .loop .c) _ ∙ P .long;
-        at = stored (λ d v. v ≡ byteBy (e .args .criticals) (e .args .found) d) (l .loop .out) (l .loop .c) _ room (c .lock-byte .ensures) (P .at);
+        at = stored (λ d v. v ≡ byteBy (e .args .criticals) (e .args .ever) (e .args .needed) d) (l .loop .out) (l .loop .c) _ room (c .lock-byte .ensures) (P .at);
         past = λ d m. at-set (λ v. v ≡ getD (e .args .out .now) d 0) (l .loop .out) (l .loop .c) _ d room (λ q. absurd (omega arith)) (λ n. P .past d (omega arith));
       },
     )
