@@ -1,12 +1,13 @@
 -- What is computed of the constructs on the way to the masks of nodes: what a node in each construct holds, and the constructs of one kind.
 -- Assumes nothing.
 use mathlib.Core.Path.{_≡_}
+use mathlib.Core.Logic.{_⊎_}
 use mathlib.Core.Bool.{Bool, _&&_, _||_, not, cond}
 use mathlib.Core.List.{List}
 use Prim.Native.Nat.{ℕ, _^_, _<_}
 use lib.Dec.{eqb, leb}
 use lib.ListN.{length, getD}
-use Rattle.lists.specs.Mask.{Mask}
+use Rattle.lists.specs.Mask.{Has, Mask}
 use Rattle.lists.specs.Bits.{has}
 use Rattle.chart.specs.Format.{outside, Construct, constructAt}
 use Rattle.chart.specs.Region.{Kind, single, master, critical, loop, ordered, sections, section, parallel, Region}
@@ -23,6 +24,13 @@ Gives R c d ordered = (d ≡ R .parent c) × (Returns R d → ⊥)
 Gives R c d sections = ⊥
 Gives R c d section = (d ≡ c) × (Returns R (R .parent d) → ⊥)
 Gives R c d parallel = ⊥
+
+-- By master the masters for its thread, but where a master is still to be found: there 0 may stand.
+pub record Peers (R : Region) (rest : ℕ) (like : List ℕ) : Type 0 where
+  pub long : length like ≡ 64
+  pub left : (c : ℕ) → Has rest c → (c < R .constructs) × (R .kind c ≡ master)
+  pub at : (c : ℕ) → c < R .constructs → R .kind c ≡ master
+      → (Has rest c × (getD like c 0 ≡ 0)) ⊎ Mask (λ d. Gives R c d master) (R .constructs) (getD like c 0)
 
 -- A node that lies in p holds d: so a construct of the region gives it, which is p or stands above p.
 abbrev pub HeldIn : Region → (ℕ → Type 0) → ℕ → ℕ → Type 0

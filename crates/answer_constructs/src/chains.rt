@@ -13,16 +13,17 @@ ghost use Rattle.chart.specs.Checked.{reading};
 ghost use Rattle.chart.proofs.RegionFacts.{Counts};
 ghost use Rattle.theory_paths.specs.Phases.{returning as returningMask};
 ghost use Rattle.mark_tables.specs.Tables.{Accepted};
-ghost use Rattle.answer_constructs.specs.Chains.{Chains, maskAt, lastingBit, ownMask};
+ghost use Rattle.answer_constructs.specs.Chains.{Peers, Chains, maskAt, lastingBit, ownMask};
 ghost use Rattle.answer_constructs.specs.Marks.{OfKind, Kinds};
 use crate::members::members_of;
 use crate::peers::add_if;
-use crate::peers::masters_like;
+use crate::peers::fill_peers;
 use chart::cursor::wide;
 use chart::format::Chart;
 use chart::format::Construct;
 use masks::bits::bit;
 use masks::bits::has;
+use masks::unions::BITS;
 
 // The mask of construct p, with no bit where p is none.
 pub fn mask_at(masks: &[u64; Chart::CONSTRUCTS], p: u8) -> u64
@@ -87,15 +88,15 @@ fn add_construct(
     c: usize,
     members: u64,
     returning: u64,
-    masters: u64,
+    like: &[u64; BITS],
     held: &mut [u64; Chart::CONSTRUCTS],
 )
-    requires { ⌜ Accepted (now s) chart × (c < chart .constructs) × (members ≡ maskOf (countsIn (decode (now s) .constructs) (chart .region)) (chart .constructs)) × (returning ≡ returningMask (reading (now s) chart)) × OfKind (reading (now s) chart) master masters × Chains (reading (now s) chart) (Counts (decode (now s)) (chart .region)) c (now held) ⌝ }
+    requires { ⌜ Accepted (now s) chart × (c < chart .constructs) × (members ≡ maskOf (countsIn (decode (now s) .constructs) (chart .region)) (chart .constructs)) × (returning ≡ returningMask (reading (now s) chart)) × Peers (reading (now s) chart) 0 (now like) × Chains (reading (now s) chart) (Counts (decode (now s)) (chart .region)) c (now held) ⌝ }
     ensures { λ _. ⌜ Chains (reading (now (s .entry)) chart) (Counts (decode (now (s .entry))) (chart .region)) (c + 1) (now (held .exit)) ⌝ }
 {
     let construct = Construct::read(s, chart, c);
-    let like = masters_like(s, chart, c, masters);
-    held[c] = mask_at(held, construct.parent) | gives(construct, c, members, returning, like);
+    let own = gives(construct, c, members, returning, like[c]);
+    held[c] = mask_at(held, construct.parent) | own;
 }
 
 // For each construct what a node that lies in it holds, given the constructs that return and the masters.
@@ -110,10 +111,12 @@ pub fn fill_chains(
     ensures { λ _. ⌜ Chains (reading (now (s .entry)) chart) (Counts (decode (now (s .entry))) (chart .region)) (chart .constructs) (now (held .exit)) ⌝ }
 {
     let members = members_of(s, chart);
+    let mut like = [0u64; BITS];
+    fill_peers(s, chart, masters, &mut like);
     let n = chart.constructs;
     let mut c = 0;
     while c < n {
-        add_construct(s, chart, c, members, returning, masters, held);
+        add_construct(s, chart, c, members, returning, &like, held);
         c += 1;
     }
 }

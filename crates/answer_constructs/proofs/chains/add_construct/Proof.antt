@@ -1,15 +1,16 @@
 -- `answer_constructs::chains::add_construct` meets its contract.
 -- Assumes nothing.
-use mathlib.Core.Path.{sym, _∙_, subst}
+use mathlib.Core.Path.{refl, sym, _∙_, subst}
 use Prim.Native.Nat.{_<_}
 use native.Mathlib.Omega.{arith}
-use lib.ListN.{length}
+use lib.ListN.{length, getD}
 use borrow.Author.Needs.{needs}
 use Rattle.chart.specs.Format.{decode}
-use Rattle.chart.specs.Scope.{parentOf}
+use Rattle.chart.specs.Scope.{kindOf, parentOf}
 use Rattle.chart.proofs.Records.{constructs-length}
 use Rattle.chart.proofs.Tree.{Below}
 use Rattle.answer_constructs.proofs.Constructs.{index-below, parent-lower, ordered-parent, section-parent, chains-more}
+use Rattle.answer_constructs.proofs.Masters.{peers-at}
 use Rattle.answer_constructs.proofs.chains.add_construct.Statement.{statement}
 use Rattle.answer_constructs.proofs.chains.add_construct.Tie as tie
 
@@ -19,26 +20,29 @@ counted c = let e = c .before .before in omega (arith, constructs-length _ (e .a
 read-requires : tie.Need-read-requires
 read-requires c κs = search needs
 
-masters-like-requires : tie.Need-masters-like-requires
-masters-like-requires c κs = let e = c .before .before in (e .pre .0, e .pre .1, e .pre .4)
+mul-gives : tie.Need-mul-gives
+mul-gives c = search needs
 
-mask-at-requires : tie.Need-mask-at-requires
-unfolding parentOf
-mask-at-requires c κs =
-    let r = c .before .before in
-    let e = r .before .before in
-    index-below (omega (arith, e .pre .0 .laid .constructs-most, e .pre .1))
-    (subst (Below (e .args .c)) (sym (r .read .ensures .1)) (parent-lower _ (e .args .chart) (e .pre .0) (e .args .c) (counted r)))
+element-copy-out-gives : tie.Need-element-copy-out-gives
+element-copy-out-gives c = let e = c .before .before in omega (arith, e .pre .0 .laid .constructs-most, e .pre .1)
 
 gives-requires : tie.Need-gives-requires
 unfolding parentOf
 gives-requires c κs =
-    let r = c .before .before .before in
+    let r = c .before in
     let e = r .before .before in (
       omega (arith, e .pre .0 .laid .constructs-most, e .pre .1),
       λ k. rw (r .read .ensures .1) (ordered-parent _ (e .args .chart) (e .pre .0) (e .args .c) (counted r) (sym (r .read .ensures .0) ∙ k)),
       λ k. rw (r .read .ensures .1) (section-parent _ (e .args .chart) (e .pre .0) (e .args .c) (counted r) (sym (r .read .ensures .0) ∙ k)),
     )
+
+mask-at-requires : tie.Need-mask-at-requires
+unfolding parentOf
+mask-at-requires c κs =
+    let r = c .before .before .before in
+    let e = r .before .before in
+    index-below (omega (arith, e .pre .0 .laid .constructs-most, e .pre .1))
+    (subst (Below (e .args .c)) (sym (r .read .ensures .1)) (parent-lower _ (e .args .chart) (e .pre .0) (e .args .c) (counted r)))
 
 mul-held : tie.Need-mul-held
 mul-held c = search needs
@@ -47,14 +51,14 @@ element-write-held : tie.Need-element-write-held
 element-write-held c = search needs
 
 returns : tie.Need-returns
-unfolding parentOf
+unfolding parentOf kindOf
 returns c =
-    let m = c .before in
-    let k = m .before .before in
-    let r = k .before in
+    let g = c .before .before in
+    let r = g .before .before in
     let e = r .before .before in
-    rw (m .mask-at .ensures, c .gives .ensures, r .read .ensures .0, r .read .ensures .1, e .pre .3)
-    (chains-more _ (e .args .chart) (e .pre .0) (e .args .c) (counted r) (k .masters-like .result) (k .masters-like .ensures) (e .pre .2) (e .pre .5))
+    rw (c .mask-at .ensures, g .gives .ensures, r .read .ensures .0, r .read .ensures .1, e .pre .3)
+    (chains-more _ (e .args .chart) (e .pre .0) (e .args .c) (counted r) (getD (e .args .like .now) (e .args .c) 0)
+    (λ q. peers-at _ (e .args .chart) (e .pre .0) (e .args .c) (e .pre .4) (counted r) (rw q refl)) (e .pre .2) (e .pre .5))
 
 pub add-construct-spec : {M : Type 1} → statement M
-add-construct-spec = tie.close (tie.spec read-requires masters-like-requires mask-at-requires gives-requires mul-held element-write-held returns)
+add-construct-spec = tie.close (tie.spec read-requires mul-gives element-copy-out-gives gives-requires mask-at-requires mul-held element-write-held returns)
