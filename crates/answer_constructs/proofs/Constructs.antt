@@ -31,9 +31,8 @@ use Rattle.chart.proofs.Tables.{loop-above, sections-above}
 use Rattle.chart.proofs.RegionFacts.{Counts}
 use Rattle.theory_answers.specs.Unexcluded.{Returns}
 use Rattle.theory_paths.specs.Decide.{returns}
-use Rattle.theory_paths.specs.Phases.{returning}
 use Rattle.theory_paths.specs.PhasesLaws.{returns-means}
-use Rattle.mark_tables.specs.Tables.{Accepted}
+use Rattle.mark_tables.specs.Tables.{Accepted, asksReturn, Returned}
 use Rattle.mark_tables.proofs.Accepted.{tables, well-formed}
 use Rattle.answer_constructs.specs.Chains.{Gives, HeldIn, Chains, maskAt, lastingBit, ownMask, isOf}
 use Rattle.answer_constructs.specs.Marks.{OfKind, Kinds}
@@ -111,10 +110,10 @@ module _ (s : List ℕ) (chart : Chart) (A : Accepted s chart) where
   ordered-parent c l q = omega (arith, do-below c l q, few s chart A)
 
   -- one bit, where what `of` gives for it does not return: the construct itself, or its parent
-  lasting-one : (of : ℕ → ℕ) (c : ℕ) → c < R .constructs → of c < R .constructs
-      → Mask (λ d. (d ≡ c) × (Returns R (of d) → ⊥)) (R .constructs) (lastingBit (returning R) (of c) c)
-  unfolding lastingBit returning
-  lasting-one of c l m = rw (has-of (returns R) (R .constructs) (of c) m) (go (truth (returns R (of c))))
+  lasting-one : (returning : ℕ) → Returned R returning → (of : ℕ → ℕ) (c : ℕ) → c < R .constructs → of c < R .constructs → asksReturn (R .kind (of c)) ≡ true
+      → Mask (λ d. (d ≡ c) × (Returns R (of d) → ⊥)) (R .constructs) (lastingBit returning (of c) c)
+  unfolding lastingBit
+  lasting-one returning T of c l m a = rw (T (of c) m a) (go (truth (returns R (of c))))
     where
       means : (returns R (of c) ≡ true) ↔ Returns R (of c)
       means = returns-means R (well-formed s chart A) (of c)
@@ -125,7 +124,7 @@ module _ (s : List ℕ) (chart : Chart) (A : Accepted s chart) where
       go (inr h) = rw h (mask-carry (λ d m q. (q, λ r. clash (means .1 (subst (λ (e : ℕ). Returns R (of e)) q r)) h)) (λ d m p. p .0) (mask-one l))
 
   -- what a construct gives
-  module _ (c : ℕ) (l : c < R .constructs) (masters : ℕ) (M : byte c ≡ masterByte → Mask (λ d. Gives R c d master) (R .constructs) masters) where
+  module _ (c : ℕ) (l : c < R .constructs) (returning : ℕ) (T : Returned R returning) (masters : ℕ) (M : byte c ≡ masterByte → Mask (λ d. Gives R c d master) (R .constructs) masters) where
     abbrev Own : ℕ → Type 0
     Own d = Member c × Gives R c d (R .kind c)
 
@@ -133,7 +132,7 @@ module _ (s : List ℕ) (chart : Chart) (A : Accepted s chart) where
     given : {kind : Kind} {m : ℕ} → Member c → R .kind c ≡ kind → Mask (λ d. Gives R c d kind) (R .constructs) m → Mask Own (R .constructs) m
     given n q v = mask-carry (λ d m g. (n, subst (Gives R c d) (sym q) g)) (λ d m g. subst (Gives R c d) q (g .1)) v
 
-    own-given : Member c → Mask Own (R .constructs) (ownMask (byte c) (R .parent c) c (returning R) masters)
+    own-given : Member c → Mask Own (R .constructs) (ownMask (byte c) (R .parent c) c returning masters)
     unfolding ownMask kindOf
     own-given n = go (ℕ-discrete (byte c) masterByte) (ℕ-discrete (byte c) singleByte) (ℕ-discrete (byte c) orderedByte) (ℕ-discrete (byte c) sectionByte)
       where
@@ -153,37 +152,37 @@ module _ (s : List ℕ) (chart : Chart) (A : Accepted s chart) where
         ) at g
 
         go : Dec (byte c ≡ masterByte) → Dec (byte c ≡ singleByte) → Dec (byte c ≡ orderedByte) → Dec (byte c ≡ sectionByte)
-            → Mask Own (R .constructs) (ownMask (byte c) (R .parent c) c (returning R) masters)
+            → Mask Own (R .constructs) (ownMask (byte c) (R .parent c) c returning masters)
         go (yes a) b o t = rw (eq-eqb (byte c) masterByte a) (given {kind = master} n (rw a) (M a))
-        go (no a) (yes b) o t = rw (ne-eqb (byte c) masterByte a, eq-eqb (byte c) singleByte b) (given {kind = single} n (rw b) (lasting-one (λ d. d) c l l))
+        go (no a) (yes b) o t = rw (ne-eqb (byte c) masterByte a, eq-eqb (byte c) singleByte b) (given {kind = single} n (rw b) (lasting-one returning T (λ d. d) c l l (rw b refl)))
         go (no a) (no b) (yes o) t =
             let p = do-below c l o in
             rw (ne-eqb (byte c) masterByte a, ne-eqb (byte c) singleByte b, eq-eqb (byte c) orderedByte o)
-            (given {kind = ordered} n (rw o) (lasting-one (λ d. d) (R .parent c) p p))
+            (given {kind = ordered} n (rw o) (lasting-one returning T (λ d. d) (R .parent c) p p (rw (loop-above (decode s) (tables s chart A) c l (rw o)) refl)))
         go (no a) (no b) (no o) (yes t) =
             let p = sections-below c l t in
             rw (ne-eqb (byte c) masterByte a, ne-eqb (byte c) singleByte b, ne-eqb (byte c) orderedByte o, eq-eqb (byte c) sectionByte t)
-            (given {kind = section} n (rw t) (lasting-one (R .parent) c l p))
+            (given {kind = section} n (rw t) (lasting-one returning T (R .parent) c l p (rw (sections-above (decode s) (tables s chart A) c l (rw t)) refl)))
         go (no a) (no b) (no o) (no t) =
             rw (ne-eqb (byte c) masterByte a, ne-eqb (byte c) singleByte b, ne-eqb (byte c) orderedByte o, ne-eqb (byte c) sectionByte t)
             (no-bit (λ d m g. other a b o t (ℕ-discrete (byte c) loopByte) (ℕ-discrete (byte c) sectionsByte) (ℕ-discrete (byte c) parallelByte) d (g .1)))
 
     -- where it is one of the region
     own-is : (members : ℕ) → members ≡ maskOf (countsIn (decode s .constructs) (chart .region)) (chart .constructs)
-        → Mask Own (R .constructs) (cond (has members c) (ownMask (byte c) (R .parent c) c (returning R) masters) 0)
+        → Mask Own (R .constructs) (cond (has members c) (ownMask (byte c) (R .parent c) c returning masters) 0)
     own-is members q =
         rw (q, has-of (countsIn (decode s .constructs) (chart .region)) (chart .constructs) c (omega (arith, constructs-length s chart (A .laid))))
         (go (truth (countsIn (decode s .constructs) (chart .region) c)))
       where
         go : (countsIn (decode s .constructs) (chart .region) c ≡ true) ⊎ (countsIn (decode s .constructs) (chart .region) c ≡ false)
-            → Mask Own (R .constructs) (cond (countsIn (decode s .constructs) (chart .region) c) (ownMask (byte c) (R .parent c) c (returning R) masters) 0)
+            → Mask Own (R .constructs) (cond (countsIn (decode s .constructs) (chart .region) c) (ownMask (byte c) (R .parent c) c returning masters) 0)
         go (inl h) = rw h (own-given (l, h))
         go (inr h) = rw h (no-bit (λ d m g. clash (g .0 .1) h))
 
     pub chains-more : {members : ℕ} {held : List ℕ} → members ≡ maskOf (countsIn (decode s .constructs) (chart .region)) (chart .constructs)
         → Chains (reading s chart) (Counts (decode s) (chart .region)) c held
         → Chains (reading s chart) (Counts (decode s) (chart .region)) (c + 1)
-        (set held c (bitOr (maskAt held (R .parent c)) (cond (has members c) (ownMask (byte c) (R .parent c) c (returning R) masters) 0)))
+        (set held c (bitOr (maskAt held (R .parent c)) (cond (has members c) (ownMask (byte c) (R .parent c) c returning masters) 0)))
     chains-more {members} {held} q K =
         let f = few s chart A in
         record {

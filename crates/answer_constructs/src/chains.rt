@@ -11,8 +11,7 @@ ghost use Rattle.chart.specs.Scope.{orderedByte, sectionByte};
 ghost use Rattle.chart.specs.Nested.{countsIn};
 ghost use Rattle.chart.specs.Checked.{reading};
 ghost use Rattle.chart.proofs.RegionFacts.{Counts};
-ghost use Rattle.theory_paths.specs.Phases.{returning as returningMask};
-ghost use Rattle.mark_tables.specs.Tables.{Accepted};
+ghost use Rattle.mark_tables.specs.Tables.{Accepted, Returned};
 ghost use Rattle.answer_constructs.specs.Chains.{Peers, Chains, maskAt, lastingBit, ownMask};
 ghost use Rattle.answer_constructs.specs.Marks.{OfKind, Kinds};
 use crate::members::members_of;
@@ -91,7 +90,7 @@ fn add_construct(
     like: &[u64; BITS],
     held: &mut [u64; Chart::CONSTRUCTS],
 )
-    requires { ⌜ Accepted (now s) chart × (c < chart .constructs) × (members ≡ maskOf (countsIn (decode (now s) .constructs) (chart .region)) (chart .constructs)) × (returning ≡ returningMask (reading (now s) chart)) × Peers (reading (now s) chart) 0 (now like) × Chains (reading (now s) chart) (Counts (decode (now s)) (chart .region)) c (now held) ⌝ }
+    requires { ⌜ Accepted (now s) chart × (c < chart .constructs) × (members ≡ maskOf (countsIn (decode (now s) .constructs) (chart .region)) (chart .constructs)) × Returned (reading (now s) chart) returning × Peers (reading (now s) chart) 0 (now like) × Chains (reading (now s) chart) (Counts (decode (now s)) (chart .region)) c (now held) ⌝ }
     ensures { λ _. ⌜ Chains (reading (now (s .entry)) chart) (Counts (decode (now (s .entry))) (chart .region)) (c + 1) (now (held .exit)) ⌝ }
 {
     let construct = Construct::read(s, chart, c);
@@ -107,7 +106,7 @@ pub fn fill_chains(
     masters: u64,
     held: &mut [u64; Chart::CONSTRUCTS],
 )
-    requires { ⌜ Accepted (now s) chart × (returning ≡ returningMask (reading (now s) chart)) × OfKind (reading (now s) chart) master masters × (length (now held) ≡ 48) ⌝ }
+    requires { ⌜ Accepted (now s) chart × Returned (reading (now s) chart) returning × OfKind (reading (now s) chart) master masters × (length (now held) ≡ 48) ⌝ }
     ensures { λ _. ⌜ Chains (reading (now (s .entry)) chart) (Counts (decode (now (s .entry))) (chart .region)) (chart .constructs) (now (held .exit)) ⌝ }
 {
     let members = members_of(s, chart);

@@ -7,8 +7,7 @@ ghost use Rattle.chart.specs.Format.{decode};
 ghost use Rattle.chart.specs.Region.{section};
 ghost use Rattle.chart.specs.Checked.{Laid, reading};
 ghost use Rattle.chart.proofs.RegionFacts.{Counts};
-ghost use Rattle.theory_paths.specs.Phases.{returning as returningMask};
-ghost use Rattle.mark_tables.specs.Tables.{Accepted};
+ghost use Rattle.mark_tables.specs.Tables.{Accepted, Returned};
 ghost use Rattle.answer_constructs.specs.Chains.{Chains};
 ghost use Rattle.answer_constructs.specs.Marks.{Held, OfKind, Kinds};
 ghost use Rattle.answer_constructs.specs.Below.{namedFrom, HeldBelow};
@@ -118,10 +117,10 @@ fn mark_nodes(
     mark_from(s, chart, x, n, chains, sections, held);
 }
 
-// What each node of an accepted chart holds, where nothing is written before, given the mask of the constructs that return; and the constructs
+// What each node of an accepted chart holds, where nothing is written before, given which constructs return; and the constructs
 // of each kind.
 pub fn fill_held(s: &[u8], chart: Chart, returning: u64, held: &mut [u64; Chart::NODES]) -> Sets
-    requires { ⌜ Accepted (now s) chart × (returning ≡ returningMask (reading (now s) chart)) × (now held ≡ replicate 192 0) ⌝ }
+    requires { ⌜ Accepted (now s) chart × Returned (reading (now s) chart) returning × (now held ≡ replicate 192 0) ⌝ }
     ensures { λ r. ⌜ Kinds (reading (now (s .entry)) chart) r ⌝ }
     ensures { λ _. ⌜ ((x : ℕ) → x < chart .nodes → Held (reading (now (s .entry)) chart) x (getD (now (held .exit)) x 0)) ⌝ }
 {

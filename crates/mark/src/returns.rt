@@ -1,20 +1,20 @@
 // Which constructs return: one search from their ends, past no barrier.
 ghost use mathlib.Core.Path.{_≡_};
-ghost use mathlib.Core.Bool.{true, cond};
+ghost use mathlib.Core.Bool.{true, false, cond};
 ghost use Prim.Native.Nat.{ℕ, _^_, _≤_, _<_};
 ghost use lib.Bits.{bitOr};
 ghost use lib.ListN.{getD};
 ghost use Rattle.lists.specs.Mask.{maskOf};
 ghost use Rattle.lists.specs.Bits.{has as Bits·has};
-ghost use Rattle.chart.specs.Format.{decode};
-ghost use Rattle.chart.specs.Scope.{beginNode, endNode};
-ghost use Rattle.chart.specs.Checked.{reading};
+ghost use Rattle.chart.specs.Format.{decode, constructAt};
+ghost use Rattle.chart.specs.Scope.{beginNode, endNode, kindOf};
+ghost use Rattle.chart.specs.Checked.{Laid, reading};
 ghost use Rattle.check_nodes.specs.Framed.{Framed};
-ghost use Rattle.theory_paths.specs.Phases.{returning};
-ghost use Rattle.mark_tables.specs.Tables.{Accepted, Handed};
+ghost use Rattle.mark_tables.specs.Tables.{Accepted, Handed, asksReturn, Returned};
 ghost use Rattle.mark.specs.Joined.{ArrangedBy};
 use chart::cursor::wide;
 use chart::format::Chart;
+use chart::format::Construct;
 use masks::bits::has;
 use search::edges::Parts;
 use search::search::ahead;
@@ -61,8 +61,37 @@ fn all_before(begins: &[u8; Sources::MOST], ends: &[u8; Sources::MOST], n: usize
     true
 }
 
-// The mask of the constructs that return, given where each begins and ends. Where no edge falls between nodes that are no barriers, no path
-// leads back.
+// Whether a rule asks of a construct of this kind whether it returns.
+fn asks(kind: u8) -> bool
+    ensures { λ r. ⌜ r ≡ asksReturn (kindOf kind) ⌝ }
+{
+    if kind == Construct::SINGLE {
+        return true;
+    }
+    if kind == Construct::DO {
+        return true;
+    }
+    kind == Construct::SECTIONS
+}
+
+// Whether there is such a construct.
+fn any_asked(s: &[u8], chart: Chart) -> bool
+    requires { ⌜ Laid (now s) chart ⌝ }
+    ensures { λ r. ⌜ (r ≡ false → (c : ℕ) → c < chart .constructs → asksReturn (kindOf (constructAt (decode (now (s .entry)) .constructs) c .kind)) ≡ false) ⌝ }
+{
+    let n = chart.constructs;
+    let mut c = 0;
+    while c < n {
+        if asks(Construct::read(s, chart, c).kind) {
+            return true;
+        }
+        c += 1;
+    }
+    false
+}
+
+// The mask of the constructs that return, as far as a rule asks, given where each begins and ends. Where no edge falls between nodes that are
+// no barriers, no path leads back.
 pub fn returns(
     s: &[u8],
     chart: Chart,
@@ -74,12 +103,12 @@ pub fn returns(
 ) -> u64
     requires { ⌜ Accepted (now s) chart × Framed (decode (now s)) beginNode (now begins) × Framed (decode (now s)) endNode (now ends) ⌝ }
     requires { ⌜ Handed (chart .region) (decode (now s)) (now edges) (now places) parts × ArrangedBy (reading (now s) chart) (now edges) (now places) parts ⌝ }
-    ensures { λ r. ⌜ r ≡ returning (reading (now (s .entry)) chart) ⌝ }
+    ensures { λ r. ⌜ Returned (reading (now (s .entry)) chart) r ⌝ }
 {
-    let n = chart.constructs;
-    if n == 0 {
+    if !any_asked(s, chart) {
         return 0;
     }
+    let n = chart.constructs;
     if parts.low == Chart::EDGES {
         if all_before(begins, ends, n) {
             return 0;

@@ -2,17 +2,18 @@
 -- stops and as a list; the nodes that a claim may not name; and the bytes that these are loaded from.
 -- Assumes nothing.
 use mathlib.Core.Path.{_≡_}
-use mathlib.Core.Bool.{Bool, not, cond}
+use mathlib.Core.Bool.{Bool, true, false, not, cond}
 use mathlib.Core.List.{List}
 use mathlib.Core.Option.{none}
 use Prim.Native.Nat.{ℕ, _+_, _≤_, _<_}
 use lib.Dec.{ltb, eqb}
 use lib.ListN.{length, getD, set}
+use Rattle.lists.specs.Bits.{has}
 use Rattle.lists.specs.Range.{count}
 use Rattle.lists.specs.Select.{select}
 use Rattle.lists.specs.Store.{Written}
 use Rattle.chart.specs.Format.{Edge as Edge·Edge, Decoded, decode, edgeAt}
-use Rattle.chart.specs.Region.{Region}
+use Rattle.chart.specs.Region.{Kind, single, master, critical, loop, ordered, sections, section, parallel, Region}
 use Rattle.chart.specs.Refusal.{firstOf, tableRows}
 use Rattle.chart.specs.Scope.{leavingAt}
 use Rattle.chart.specs.Nested.{liesWithin}
@@ -20,7 +21,7 @@ use Rattle.chart.specs.Checked.{Laid}
 use Rattle.chart.specs.declared.format.Chart.{Chart}
 use Rattle.chart.proofs.Facts.{Named}
 use Rattle.theory_paths.specs.Path.{Edge, Open}
-use Rattle.theory_paths.specs.Decide.{noBarrier, reachesAny}
+use Rattle.theory_paths.specs.Decide.{noBarrier, reachesAny, returns}
 use Rattle.theory_paths.specs.Graph.{Listed, Places}
 use Rattle.theory_paths.specs.Cut.{edgesOf}
 use Rattle.theory_paths.specs.Phases.{Direction, forward, backward, barriers, barrierAt, marks, nearest}
@@ -96,6 +97,21 @@ pub record Stops (R : Region) (stops : List ℕ) : Type 0 where
 -- A flag on each node that a claim may not name: a barrier, or a node outside the region.
 pub record Closed (R : Region) (closed : List ℕ) : Type 0 where
   pub at : (x : ℕ) → x < R .nodes → getD closed x 0 ≡ cond (asked R x) 0 1
+
+-- The pair rules ask of constructs of this kind whether they return: of singles, of dos, and for its sections of a sections.
+abbrev pub asksReturn : Kind → Bool
+asksReturn single = true
+asksReturn master = false
+asksReturn critical = false
+asksReturn loop = true
+asksReturn ordered = false
+asksReturn sections = true
+asksReturn section = false
+asksReturn parallel = false
+
+-- The mask tells of these constructs whether they return.
+abbrev pub Returned : Region → ℕ → Type 0
+Returned R mask = (c : ℕ) → c < R .constructs → asksReturn (R .kind c) ≡ true → has mask c ≡ returns R c
 
 -- The nodes of the barriers, by number.
 pub record Barriers (R : Region) (nodes : List ℕ) (total : ℕ) : Type 0 where

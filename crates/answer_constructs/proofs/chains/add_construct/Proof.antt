@@ -56,8 +56,8 @@ returns c =
     let g = c .before .before in
     let r = g .before .before in
     let e = r .before .before in
-    rw (c .mask-at .ensures, g .gives .ensures, r .read .ensures .0, r .read .ensures .1, e .pre .3)
-    (chains-more _ (e .args .chart) (e .pre .0) (e .args .c) (counted r) (getD (e .args .like .now) (e .args .c) 0)
+    rw (c .mask-at .ensures, g .gives .ensures, r .read .ensures .0, r .read .ensures .1)
+    (chains-more _ (e .args .chart) (e .pre .0) (e .args .c) (counted r) _ (e .pre .3) (getD (e .args .like .now) (e .args .c) 0)
     (λ q. peers-at _ (e .args .chart) (e .pre .0) (e .args .c) (e .pre .4) (counted r) (rw q refl)) (e .pre .2) (e .pre .5))
 
 pub add-construct-spec : {M : Type 1} → statement M
