@@ -4,3 +4,4 @@ pub mod Membership
 pub mod Facts
 pub mod Nodes
 pub mod Lacked
+pub mod Past

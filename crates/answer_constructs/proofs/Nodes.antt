@@ -31,6 +31,7 @@ use Rattle.theory_paths.specs.Phases.{forward, backward}
 use Rattle.mark_tables.specs.Tables.{Accepted, Masks}
 use Rattle.mark_tables.proofs.Accepted.{tables, well-formed}
 use Rattle.answer_constructs.specs.declared.chains.Sets.{Sets}
+use Rattle.answer_constructs.specs.Below.{HeldBelow}
 use Rattle.answer_constructs.specs.Marks.{Holds, Held, OfKind, Kinds, Marks}
 use Rattle.answer_constructs.specs.Chains.{Gives, HeldIn, Chains, maskAt}
 use Rattle.answer_constructs.proofs.Facts.{few, is-read}
@@ -211,15 +212,16 @@ module _ (s : List ℕ) (chart : Chart) (A : Accepted s chart) where
   -- all nodes, with the rows stored one by one
   pub all-marks : (marks : List (List ℕ)) (starts ends held : List ℕ) {sets : Sets} → length marks ≡ 3
       → Masks forward (reading s chart) starts → Masks backward (reading s chart) ends
-      → ((x : ℕ) → x < chart .nodes → Held (reading s chart) x (getD held x 0)) → Kinds (reading s chart) sets
+      → HeldBelow (reading s chart) (chart .nodes) held → Kinds (reading s chart) sets
       → Marks (reading s chart) (set (set (set marks 0 starts) 1 ends) 2 held) sets
-  all-marks marks starts ends held l from to has kinds =
+  all-marks marks starts ends held l from to below kinds =
       let n = nodes-length s chart (A .laid) in
       rw (three marks l starts ends held) (record {
         well-formed = well-formed s chart A;
         few = omega (arith, A .laid .nodes-most);
         has-starts = from;
         has-ends = to;
-        has-held = λ x l. has x (omega arith);
+        has-held = λ x l. below .has-held x (omega arith);
+        none-past = λ x l. below .rest x (omega arith);
         kinds = kinds;
       })

@@ -69,4 +69,5 @@ pub record Marks (R : Region) (marks : List (List ℕ)) (sets : Sets) : Type 0 w
   pub has-starts : Masks forward R (startsIn marks)
   pub has-ends : Masks backward R (endsIn marks)
   pub has-held : (x : ℕ) → x < R .nodes → Held R x (getD (heldIn marks) x 0)
+  pub none-past : (x : ℕ) → R .nodes ≤ x → getD (heldIn marks) x 0 ≡ 0
   pub kinds : Kinds R sets

@@ -104,7 +104,7 @@ fn mark_nodes(
     held: &mut [u64; Chart::NODES],
 )
     requires { ⌜ Accepted (now s) chart × Chains (reading (now s) chart) (Counts (decode (now s)) (chart .region)) (chart .constructs) (now chains) × OfKind (reading (now s) chart) section sections × (length (now held) ≡ 192) × ((x : ℕ) → getD (now held) x 0 ≡ 0) ⌝ }
-    ensures { λ _. ⌜ ((x : ℕ) → x < chart .nodes → Held (reading (now (s .entry)) chart) x (getD (now (held .exit)) x 0)) ⌝ }
+    ensures { λ _. ⌜ HeldBelow (reading (now (s .entry)) chart) (chart .nodes) (now (held .exit)) ⌝ }
 {
     let n = chart.nodes;
     let mut x = 0;
@@ -122,7 +122,7 @@ fn mark_nodes(
 pub fn fill_held(s: &[u8], chart: Chart, returning: u64, held: &mut [u64; Chart::NODES]) -> Sets
     requires { ⌜ Accepted (now s) chart × Returned (reading (now s) chart) returning × (now held ≡ replicate 192 0) ⌝ }
     ensures { λ r. ⌜ Kinds (reading (now (s .entry)) chart) r ⌝ }
-    ensures { λ _. ⌜ ((x : ℕ) → x < chart .nodes → Held (reading (now (s .entry)) chart) x (getD (now (held .exit)) x 0)) ⌝ }
+    ensures { λ _. ⌜ HeldBelow (reading (now (s .entry)) chart) (chart .nodes) (now (held .exit)) ⌝ }
 {
     let sets = sets_of(s, chart);
     let n = chart.constructs;

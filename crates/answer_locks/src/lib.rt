@@ -49,9 +49,9 @@ fn put_found(s: &[u8], chart: Chart, size: Size, marks: &MaskTable, kinds: Sets,
     let mut shut = [0u8; Chart::NODES];
     close_lacking(chart.nodes, marks, sets, &closed, &mut shut);
     let mut nodes = [[0u64; BITS]; SETS];
-    gather_all(marks, &shut, &mut nodes);
+    gather_all(chart.nodes, marks, &shut, &mut nodes);
     let mut named = [[0u64; BITS]; THIRDS];
-    gather_names(&names, &shut, &mut named);
+    gather_names(chart.nodes, &names, &shut, &mut named);
     let found = search(chart.nodes, marks, &around, &shut, &nodes, &named);
     put_bytes(chart.constructs, criticals, found.ever, found.needed, out);
 }

@@ -4,8 +4,9 @@ ghost use mathlib.Core.Path.{_≡_};
 ghost use mathlib.Core.Bool.{_&&_, not};
 ghost use mathlib.Core.List.{List};
 ghost use Prim.Native.Nat.{ℕ};
-ghost use lib.ListN.{length};
+ghost use lib.ListN.{replicate};
 ghost use Rattle.lists.specs.Bits.{has};
+ghost use Rattle.answer_nodes.specs.Gathered.{Past};
 ghost use Rattle.answer_nodes.specs.NodeSets.{InSets};
 ghost use Rattle.answer_met.specs.Meets.{unbarred, meets, NodeSet, Named};
 use answer_constructs::marks::ENDS;
@@ -24,13 +25,19 @@ pub type NameSets = [[u64; BITS]; THIRDS];
 
 pub const THIRDS: usize = 3;
 
-pub fn gather_names(names: &[u64; Chart::NODES], closed: &[u8; Chart::NODES], named: &mut NameSets)
-    requires { ⌜ length (now named) ≡ 3 ⌝ }
+// Of n nodes.
+pub fn gather_names(
+    n: usize,
+    names: &[u64; Chart::NODES],
+    closed: &[u8; Chart::NODES],
+    named: &mut NameSets,
+)
+    requires { ⌜ Past n (now names) × (now named ≡ replicate 3 (replicate 64 0)) ⌝ }
     ensures { λ _. ⌜ Named (now (closed .entry)) (now (names .entry)) (now (named .exit)) ⌝ }
 {
     let mut w = 0;
     while w < THIRDS {
-        gather(names, closed, 64 * w, &mut named[w]);
+        gather(names, closed, 64 * w, n, &mut named[w]);
         w += 1;
     }
 }

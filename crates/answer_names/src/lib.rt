@@ -1,7 +1,7 @@
 // Names of criticals: for each node the criticals of the names around it, as a mask. Two nodes share a name where these share a bit. And the criticals
 // around each node themselves.
 ghost use mathlib.Core.Path.{_≡_};
-ghost use Prim.Native.Nat.{_≤_, _<_};
+ghost use Prim.Native.Nat.{ℕ, _≤_, _<_};
 ghost use lib.ListN.{length, getD};
 ghost use Rattle.lists.specs.Bits.{has as hasBit};
 ghost use Rattle.lists.specs.Mask.{Mask, maskOf};
@@ -91,6 +91,7 @@ pub fn spread(s: &[u8], chart: Chart, given: &Table, masks: &mut [u64; Chart::NO
 pub fn fill_names(s: &[u8], chart: Chart, names: &mut [u64; Chart::NODES])
     requires { ⌜ Accepted (now s) chart × (length (now names) ≡ 192) ⌝ }
     ensures { λ _. ⌜ Names (reading (now (s .entry)) chart) (now (names .exit)) ⌝ }
+    ensures { λ _. ⌜ ((x : ℕ) → chart .nodes ≤ x → getD (now (names .exit)) x 0 ≡ getD (now (names .entry)) x 0) ⌝ }
 {
     let mut given = [0u64; Chart::CONSTRUCTS];
     fill_given(s, chart, &mut given);

@@ -1,11 +1,11 @@
 -- Sets of a row of masks joined, three words by one law, and rows that are stored one by one.
 -- Assumes nothing.
-use mathlib.Core.Path.{_≡_, subst}
+use mathlib.Core.Path.{_≡_, refl, subst}
 use mathlib.Core.List.{List, []}
-use Prim.Native.Nat.{ℕ, _+_, _*_, _-_, _/_, _%_, _^_, _<_}
+use Prim.Native.Nat.{ℕ, zero, suc, _+_, _*_, _-_, _/_, _%_, _^_, _<_}
 use native.Mathlib.Omega.{arith}
 use native.Mathlib.Decide.{ℕ-discrete, decLt}
-use lib.ListN.{length, getD, set}
+use lib.ListN.{length, getD, set, replicate}
 use lib.Seq.{getD-set-same, getD-set-other}
 use Rattle.masks.specs.Unions.{Joined}
 use Rattle.masks.specs.declared.unions.Words.{Words}
@@ -38,6 +38,12 @@ three-words P low middle high j l = go (decLt j 64) (decLt j 128)
     go (yes h) d = let q : 64 * 0 + j ≡ j = omega arith in subst P q (low j h)
     go (no h) (yes d) = let q : 64 * 1 + (j - 64) ≡ j = omega arith in subst P q (middle (j - 64) (omega arith))
     go (no h) (no d) = let q : 64 * 2 + (j - 128) ≡ j = omega arith in subst P q (high (j - 128) (omega arith))
+
+-- rows that are all the same
+pub in-each : {v : List ℕ} (n j : ℕ) → j < n → getD (replicate n v) j [] ≡ v
+in-each zero j l = absurd (omega arith)
+in-each (suc n) zero l = refl
+in-each (suc n) (suc j) l = in-each n j (omega arith)
 
 -- the turn of a loop that stores a row once at each index
 pub stored-row : (P : ℕ → List ℕ → Type 0) (l : List (List ℕ)) (i : ℕ) (v : List ℕ) → i < length l → P i v → ((j : ℕ) → j < i → P j (getD l j []))

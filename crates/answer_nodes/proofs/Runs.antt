@@ -4,19 +4,37 @@ use mathlib.Core.Path.{_≡_, refl}
 use mathlib.Core.Logic.{_⊎_, inl, inr}
 use mathlib.Core.Bool.{Bool, true, false, cond}
 use mathlib.Core.List.{List}
-use Prim.Native.Nat.{ℕ, _+_, _/_, _%_, _^_}
+use Prim.Native.Nat.{ℕ, zero, suc, _+_, _/_, _%_, _^_, _≤_, _<_}
 use native.Mathlib.Omega.{arith}
+use native.Mathlib.Decide.{ℕ-discrete}
+use lib.Dec.{eqb}
 use lib.Bits.{bitOr, or-comm}
 use lib.ListN.{getD, replicate}
-use borrow.Author.Tests.{ne-eqb}
-use Rattle.lists.specs.Mask.{mask-carry, mask-unique, mask-either, has-none}
+use borrow.Author.Tests.{eqb-true, ne-eqb}
+use Rattle.lists.specs.Truth.{and-both, false-if}
+use Rattle.lists.specs.Mask.{maskOf, mask-carry, mask-unique, mask-either, has-none}
 use Rattle.lists.specs.Bits.{has}
 use Rattle.lists.specs.Store.{zeros}
-use Rattle.answer_nodes.specs.Gathered.{pending}
+use Rattle.answer_nodes.specs.Gathered.{having, pending, Past}
 use Rattle.answer_nodes.specs.Shared.{own-mask}
 
 pub none-pending : (b : ℕ) → pending (replicate 64 0) 0 0 b ≡ 0
 none-pending b = rw (ne-eqb (0 / 2 ^ b % 2) 1 (has-none b)) (zeros 64 b)
+
+-- nothing is pending of places past the last node
+
+pub mask-short : (f : ℕ → Bool) (a b : ℕ) → a ≤ b → ((j : ℕ) → a ≤ j → j < b → f j ≡ false) → maskOf f a ≡ maskOf f b
+unfolding maskOf
+mask-short f a zero l h = let z : a ≡ 0 = omega arith in rw z refl
+mask-short f a (suc b) l h = go (ℕ-discrete a (suc b)) (λ m. mask-short f a b m (λ j p q. h j p (omega arith)))
+  where
+    go : Dec (a ≡ suc b) → (a ≤ b → maskOf f a ≡ maskOf f b) → maskOf f a ≡ cond (f b) (2 ^ b) 0 + maskOf f b
+    go (yes q) more = rw q refl
+    go (no q) more = rw (h b (omega arith) (omega arith)) (omega (arith, more (omega arith)))
+
+pub none-having : (closed masks : List ℕ) (n first : ℕ) → first + 64 ≤ 192 → Past n masks → (b j : ℕ) → j < 64 → n ≤ first + j → having closed masks first b j ≡ false
+none-having closed masks n first m P b j l p =
+    rw (P (first + j) p (omega arith)) (false-if (λ h. has-none b (eqb-true _ 1 (and-both (eqb (getD closed (first + j) 0) 0) _ h .1))))
 
 -- the order of unions
 

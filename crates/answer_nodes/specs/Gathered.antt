@@ -3,7 +3,7 @@
 use mathlib.Core.Path.{_≡_}
 use mathlib.Core.Bool.{Bool, _&&_, cond}
 use mathlib.Core.List.{List}
-use Prim.Native.Nat.{ℕ, _+_, _<_}
+use Prim.Native.Nat.{ℕ, _+_, _≤_, _<_}
 use lib.Bits.{bitOr}
 use lib.Dec.{eqb}
 use lib.ListN.{getD}
@@ -13,6 +13,10 @@ use Rattle.lists.specs.Bits.{has}
 -- Node first + j is not closed, and its mask has bit b.
 abbrev pub having : List ℕ → List ℕ → ℕ → ℕ → ℕ → Bool
 having closed masks first b j = eqb (getD closed (first + j) 0) 0 && has (getD masks (first + j) 0) b
+
+-- No mask has a bit from entry n on.
+abbrev pub Past : ℕ → List ℕ → Type 0
+Past n masks = (x : ℕ) → n ≤ x → x < 192 → getD masks x 0 ≡ 0
 
 -- For each bit the nodes from `first` on, 64 of them, that have it.
 pub record Gathered (closed masks : List ℕ) (first : ℕ) (sets : List ℕ) : Type 0 where

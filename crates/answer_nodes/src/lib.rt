@@ -3,7 +3,8 @@
 ghost use mathlib.Core.Path.{_≡_};
 ghost use mathlib.Core.List.{List, []};
 ghost use Prim.Native.Nat.{ℕ, _<_};
-ghost use lib.ListN.{length, getD};
+ghost use lib.ListN.{getD, replicate};
+ghost use Rattle.answer_nodes.specs.Gathered.{Past};
 ghost use Rattle.answer_nodes.specs.NodeSets.{InSets, Sharing};
 use crate::sets::gather;
 use answer_constructs::marks::MaskTable;
@@ -19,14 +20,14 @@ pub type NodeSets = [[u64; BITS]; SETS];
 
 pub const SETS: usize = 9;
 
-// Set k is of row k / 3 of the masks and of the 64 nodes from 64 * (k % 3) on.
-pub fn gather_all(marks: &MaskTable, closed: &[u8; Chart::NODES], nodes: &mut NodeSets)
-    requires { ⌜ length (now nodes) ≡ 9 ⌝ }
+// Set k is of row k / 3 of the masks and of the 64 nodes from 64 * (k % 3) on, of n nodes in all.
+pub fn gather_all(n: usize, marks: &MaskTable, closed: &[u8; Chart::NODES], nodes: &mut NodeSets)
+    requires { ⌜ ((r : ℕ) → r < 3 → Past n (getD (now marks) r [])) × (now nodes ≡ replicate 9 (replicate 64 0)) ⌝ }
     ensures { λ _. ⌜ InSets (now (closed .entry)) (now (marks .entry)) (now (nodes .exit)) ⌝ }
 {
     let mut k = 0;
     while k < SETS {
-        gather(&marks[k / 3], closed, 64 * (k % 3), &mut nodes[k]);
+        gather(&marks[k / 3], closed, 64 * (k % 3), n, &mut nodes[k]);
         k += 1;
     }
 }

@@ -4,9 +4,9 @@ ghost use mathlib.Core.Bool.{_&&_, cond};
 ghost use Prim.Native.Nat.{ℕ, _+_, _^_, _≤_, _<_};
 ghost use lib.Bits.{bitOr};
 ghost use lib.Dec.{eqb};
-ghost use lib.ListN.{length};
+ghost use lib.ListN.{length, replicate};
 ghost use Rattle.lists.specs.Bits.{has};
-ghost use Rattle.answer_nodes.specs.Gathered.{pending, Gathered};
+ghost use Rattle.answer_nodes.specs.Gathered.{pending, Past, Gathered};
 use chart::format::Chart;
 use masks::bits::bit;
 use masks::unions::BITS;
@@ -36,20 +36,35 @@ fn take(sets: &mut [u64; BITS], run: Run, closed: u8, mask: u64, j: usize) -> Ru
     Run { mask, set: bit(j) }
 }
 
-// For each bit the nodes from `first` on, 64 of them, that have it and are not closed.
+// How many of the 64 places from `first` on are nodes.
+fn count_from(first: usize, n: usize) -> usize
+    ensures { λ r. ⌜ (r ≤ 64) × ((j : ℕ) → r ≤ j → j < 64 → n ≤ first + j) ⌝ }
+{
+    if n <= first {
+        return 0;
+    }
+    let left = n - first;
+    if left < BITS {
+        return left;
+    }
+    BITS
+}
+
+// For each bit those of the 64 nodes from `first` on that have it and are not closed, where there are n nodes. The sets are empty before.
 pub fn gather(
     masks: &[u64; Chart::NODES],
     closed: &[u8; Chart::NODES],
     first: usize,
+    n: usize,
     sets: &mut [u64; BITS],
 )
-    requires { ⌜ first + 64 ≤ 192 ⌝ }
+    requires { ⌜ (first + 64 ≤ 192) × Past n (now masks) × (now sets ≡ replicate 64 0) ⌝ }
     ensures { λ _. ⌜ Gathered (now (closed .entry)) (now (masks .entry)) first (now (sets .exit)) ⌝ }
 {
-    *sets = [0u64; BITS];
+    let end = count_from(first, n);
     let mut run = Run { mask: 0, set: 0 };
     let mut j = 0;
-    while j < 64 {
+    while j < end {
         run = take(sets, run, closed[first + j], masks[first + j], j);
         j += 1;
     }

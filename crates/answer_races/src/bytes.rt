@@ -39,9 +39,9 @@ pub fn put_races(s: &[u8], chart: Chart, marks: &MaskTable, accesses: &[u8], out
     let mut closed = [0u8; Chart::NODES];
     load_closed(s, chart, &mut closed);
     let mut nodes = [[0u64; BITS]; SETS];
-    gather_all(marks, &closed, &mut nodes);
+    gather_all(chart.nodes, marks, &closed, &mut nodes);
     let mut named = [[0u64; BITS]; THIRDS];
-    gather_names(&names, &closed, &mut named);
+    gather_names(chart.nodes, &names, &closed, &mut named);
     let mut lines = [[0u64; WORDS]; Chart::NODES];
     fill_lines(
         chart.nodes,

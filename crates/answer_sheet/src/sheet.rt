@@ -88,7 +88,7 @@ pub fn fill_sheet(
     let mut closed = [0u8; Chart::NODES];
     load_closed(s, chart, &mut closed);
     let mut nodes = [[0u64; BITS]; SETS];
-    gather_all(marks, &closed, &mut nodes);
+    gather_all(chart.nodes, marks, &closed, &mut nodes);
     let mut fence = [0u64; WORDS];
     fill_fence(&closed, &mut fence);
     let mut spread = [0u64; BYTES];

@@ -1,7 +1,11 @@
 -- `answer_locks::put_found` meets its contract.
 -- Assumes nothing.
-use mathlib.Core.Path.{refl}
+use mathlib.Core.Path.{refl, _∙_}
+use native.Mathlib.Omega.{arith}
 use borrow.Author.Needs.{needs}
+use Rattle.lists.specs.Store.{zeros}
+use Rattle.chart.proofs.Records.{nodes-length}
+use Rattle.answer_constructs.proofs.Past.{rows-past}
 use Rattle.answer_names.proofs.Peers.{given-small}
 use Rattle.answer_locks.proofs.Written.{locks-put}
 use Rattle.answer_locks.proofs.put_found.Statement.{statement}
@@ -51,10 +55,16 @@ close-lacking-requires : tie.Need-close-lacking-requires
 close-lacking-requires c κs = (start (given (spread (around (c .before .before)))) .pre .0 .laid .nodes-most, refl)
 
 gather-all-requires : tie.Need-gather-all-requires
-gather-all-requires c κs = search needs
+gather-all-requires c κs =
+    let e = start (given (spread (around (sized (c .before .before))))) in
+    (λ r l x. rows-past (e .pre .1) (nodes-length _ (e .args .chart) (e .pre .0 .laid)) r x l, refl)
 
 gather-names-requires : tie.Need-gather-names-requires
-gather-names-requires c κs = search needs
+gather-names-requires c κs =
+    let p = spread (around (sized (closing (c .before .before .before)))) in
+    let e = start (given p) in
+    let n = nodes-length _ (e .args .chart) (e .pre .0 .laid) in
+    (λ x l m. p .spread .ensures .past x (omega arith) ∙ zeros 192 x, refl)
 
 search-requires : tie.Need-search-requires
 search-requires c κs =

@@ -1,6 +1,8 @@
 -- `answer_names::fill_names` meets its contract.
 -- Assumes nothing.
 use mathlib.Core.Path.{refl}
+use native.Mathlib.Omega.{arith}
+use Rattle.chart.proofs.Records.{nodes-length}
 use Rattle.answer_names.proofs.Peers.{given-small, spread-names}
 use Rattle.answer_names.proofs.fill_names.Statement.{statement}
 use Rattle.answer_names.proofs.fill_names.Tie as tie
@@ -17,7 +19,8 @@ returns : tie.Need-returns
 returns c =
     let g = c .before .before .before in
     let e = g .before .before .before in
-    spread-names _ (e .args .chart) (e .pre .0) (g .fill-given .ensures) (c .spread .ensures)
+    let n = nodes-length _ (e .args .chart) (e .pre .0 .laid) in
+    (spread-names _ (e .args .chart) (e .pre .0) (g .fill-given .ensures) (c .spread .ensures), λ x l. c .spread .ensures .past x (omega arith))
 
 pub fill-names-spec : {M : Type 1} → statement M
 fill-names-spec = tie.close (tie.spec fill-given-requires spread-requires returns)

@@ -14,7 +14,7 @@ returns : tie.Need-returns
 returns c =
     let k = c .before in
     let e = k .before .before in
-    (k .sets-of .ensures, λ x l. rw (e .pre .2) (none-held _ (e .args .chart) (e .pre .0) (c .if1 .taken) x))
+    (k .sets-of .ensures, rw (e .pre .2) (record { long = refl; has-held = λ x l. none-held _ (e .args .chart) (e .pre .0) (c .if1 .taken) x; rest = λ x l. zeros 192 x }))
 
 fill-chains-requires : tie.Need-fill-chains-requires
 fill-chains-requires c κs =

@@ -81,7 +81,7 @@ mark-from-requires-2 c κs =
     (accepted, l .loop .inv .0, omega arith, chains, sections, l .loop .inv .1)
 
 returns : tie.Need-returns Inv-loop μ-loop
-returns c = c .mark-from2 .ensures .has-held
+returns c = c .mark-from2 .ensures
 
 pub mark-nodes-spec : {M : Type 1} → statement M
 mark-nodes-spec =

@@ -14,6 +14,7 @@ returns c = (
     has-starts = M .has-starts;
     has-ends = M .has-ends;
     has-held = M .has-held;
+    none-past = M .none-past;
     kinds = let K = M .kinds in record { masters = K .masters; singles = K .singles; dos = K .dos; sections = K .sections };
   },
 )

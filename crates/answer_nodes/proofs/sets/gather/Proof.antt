@@ -1,26 +1,29 @@
 -- `answer_nodes::sets::gather` meets its contract. The loop's invariant: once the run is added, the sets have the nodes passed.
 -- Assumes nothing.
-use mathlib.Core.Path.{_≡_, refl, ap, sym, _∙_}
+use mathlib.Core.Path.{_≡_, refl, sym, _∙_}
 use Prim.Native.Nat.{ℕ, _-_, _≤_, _<_}
 use native.Mathlib.Omega.{arith}
 use lib.ListN.{length}
 use Rattle.lists.specs.Mask.{maskOf}
 use Rattle.lists.specs.Bits.{mask-next}
 use Rattle.answer_nodes.specs.Gathered.{having, pending}
-use Rattle.answer_nodes.proofs.Runs.{none-pending}
+use Rattle.answer_nodes.proofs.Runs.{none-pending, mask-short, none-having}
 use Rattle.answer_nodes.proofs.sets.gather.Statement.{statement}
 use Rattle.answer_nodes.proofs.sets.gather.Tie as tie
 
 abbrev Inv-loop : tie.InvT-loop
-Inv-loop masks closed first sets₀ run₀ j₀ sets run j =
-    (j ≤ 64) × (length sets ≡ 64) × ((b : ℕ) → b < 64 → pending sets (run .mask) (run .set) b ≡ maskOf (having closed masks first b) j)
+Inv-loop masks closed first n sets₀ end run₀ j₀ sets run j =
+    (j ≤ end) × (length sets ≡ 64) × ((b : ℕ) → b < 64 → pending sets (run .mask) (run .set) b ≡ maskOf (having closed masks first b) j)
 
 abbrev μ-loop : tie.MeasureT-loop
-μ-loop masks closed first sets₀ run₀ j₀ sets run j = 64 - j
+μ-loop masks closed first n sets₀ end run₀ j₀ sets run j = end - j
+
+count-from-requires : tie.Need-count-from-requires Inv-loop μ-loop
+count-from-requires c κs = tt
 
 loop-holds : tie.Need-loop-holds Inv-loop μ-loop
 unfolding maskOf
-loop-holds c = (omega arith, refl, λ b l. none-pending b)
+loop-holds c = (omega arith, rw (c .before .pre .2) refl, λ b l. rw (c .before .pre .2) (none-pending b))
 
 add-take : tie.Need-add-take Inv-loop μ-loop
 add-take c = omega arith
@@ -38,7 +41,7 @@ element-copy-out-take-2 : tie.Need-element-copy-out-take-2 Inv-loop μ-loop
 element-copy-out-take-2 c = omega arith
 
 take-requires : tie.Need-take-requires Inv-loop μ-loop
-take-requires c κs = let l = c .before .before .before .before in (l .loop .inv .1, c .before .before .before .loop-test .taken)
+take-requires c κs = let l = c .before .before .before .before in (l .loop .inv .1, omega (arith, l .before .count-from .ensures .0, c .before .before .before .loop-test .taken))
 
 add-j : tie.Need-add-j Inv-loop μ-loop
 add-j c = omega arith
@@ -62,8 +65,13 @@ returns : tie.Need-returns Inv-loop μ-loop
 returns c =
     let l = c .before .before .before in
     let e = l .before .before .args in
-    let q : l .loop .j ≡ 64 = omega arith in
-    record { at = λ b m. c .add .ensures .at b m ∙ l .loop .inv .2 b m ∙ ap (maskOf (having (e .closed .now) (e .masks .now) (e .first) b)) q }
+    let (most, past) = l .before .count-from .ensures in
+    let P = l .before .before .pre in
+    record {
+      at = λ b m. c .add .ensures .at b m ∙ l .loop .inv .2 b m
+          ∙ mask-short (having (e .closed .now) (e .masks .now) (e .first) b) (l .loop .j) 64 (omega arith)
+          (λ j h k. none-having (e .closed .now) (e .masks .now) (e .n) (e .first) (P .0) (P .1) b j k (past j (omega arith) k));
+    }
 
 pub gather-spec : {M : Type 1} → statement M
 gather-spec =
@@ -71,6 +79,7 @@ gather-spec =
     (tie.spec
     Inv-loop
     μ-loop
+    count-from-requires
     loop-holds
     add-take
     element-copy-out-take

@@ -1,16 +1,18 @@
 -- `answer_races::bytes::put_races` meets its contract.
 -- Assumes nothing.
-use mathlib.Core.Path.{_≡_, ap, _∙_}
+use mathlib.Core.Path.{_≡_, refl, ap, _∙_}
 use mathlib.Core.List.{List, _++_}
 use Prim.Native.Nat.{ℕ, _≤_, _<_}
 use native.Mathlib.Omega.{arith}
 use lib.ListN.{length, drop}
 use borrow.Author.Needs.{needs}
+use Rattle.lists.specs.Store.{zeros}
 use Rattle.chart.specs.Region.{Region}
 use Rattle.chart.specs.Checked.{reading}
 use Rattle.chart.proofs.Records.{nodes-length}
 use Rattle.theory_calls.specs.Access.{accessAt}
 use Rattle.theory_calls.specs.RaceLaws.{whole-accesses, few-accesses}
+use Rattle.answer_constructs.proofs.Past.{rows-past}
 use Rattle.answer_races.proofs.BytesLaws.{fields-fit, all-pairs}
 use Rattle.answer_races.proofs.bytes.put_races.Statement.{statement}
 use Rattle.answer_races.proofs.bytes.put_races.Tie as tie
@@ -22,10 +24,14 @@ load-closed-requires : tie.Need-load-closed-requires
 load-closed-requires c κs = search needs
 
 gather-all-requires : tie.Need-gather-all-requires
-gather-all-requires c κs = search needs
+gather-all-requires c κs =
+    let e = c .before .before .before .before .before .before .before .before .before in
+    (λ r l x. rows-past (e .pre .1 .1) (nodes-length _ (e .args .chart) (e .pre .0 .laid)) r x l, refl)
 
 gather-names-requires : tie.Need-gather-names-requires
-gather-names-requires c κs = search needs
+gather-names-requires c κs =
+    let named = c .before .before .before .before .before .before .before .before in
+    (λ x l m. named .fill-names .ensures .1 x l ∙ zeros 192 x, refl)
 
 fill-lines-requires : tie.Need-fill-lines-requires
 fill-lines-requires c κs = search needs
@@ -70,7 +76,7 @@ returns c =
     let f = c .before .before in
     let y = f .before .before .before in
     let e = start y in
-    let all = all-pairs (read e) (e .args .accesses .now) (e .pre .1 .1 .well-formed) (e .pre .2) (y .fill-lines .last .1 .1 .1 .1 .1 .1 .0) (e .pre .1 .1) (loaded y .load-closed .ensures) (named y .fill-names .ensures)
+    let all = all-pairs (read e) (e .args .accesses .now) (e .pre .1 .1 .well-formed) (e .pre .2) (y .fill-lines .last .1 .1 .1 .1 .1 .1 .0) (e .pre .1 .1) (loaded y .load-closed .ensures) (named y .fill-names .ensures .0)
     (λ a l z. y .fill-lines .ensures a (omega (arith, nodes-are e .0)) z) in
     f .fill-races .ensures ∙ ap (λ (l : List ℕ). l ++ drop (length l) (e .args .out .now)) all
 

@@ -14,6 +14,7 @@ use Rattle.theory_answers.specs.Sheet.{entry, row, sheet}
 use Rattle.theory_answers.specs.declared.Size.{Size}
 use Rattle.mark_tables.specs.Tables.{Closed}
 use Rattle.answer_constructs.specs.Marks.{Sized, Marks}
+use Rattle.answer_constructs.proofs.Past.{rows-past}
 use Rattle.answer_sheet.specs.Sheet.{rowOf}
 use Rattle.answer_sheet.proofs.Entries.{kept-row}
 use Rattle.answer_sheet.proofs.sheet.fill_sheet.Statement.{statement}
@@ -34,7 +35,9 @@ load-closed-requires : tie.Need-load-closed-requires Inv-loop μ-loop
 load-closed-requires c κs = c .before .before .before .before .pre .0
 
 gather-all-requires : tie.Need-gather-all-requires Inv-loop μ-loop
-gather-all-requires c κs = refl
+gather-all-requires c κs =
+    let e = c .before .before .before .before .before .before .before in
+    (λ r l x. rows-past (e .pre .1) (nodes-length _ (e .args .chart) (e .pre .0 .laid)) r x l, refl)
 
 fill-fence-requires : tie.Need-fill-fence-requires Inv-loop μ-loop
 fill-fence-requires c κs = tt
