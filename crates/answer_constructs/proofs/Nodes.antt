@@ -61,6 +61,9 @@ module _ (s : List ℕ) (chart : Chart) (A : Accepted s chart) where
   node-fits : (x : ℕ) → NodeFits (decode s .constructs) (kind x) (number x)
   node-fits x = node-fit (decode s) (tables s chart A) x
 
+  pub kind-known : (x : ℕ) → nodeAt (decode s .nodes) x .kind ≤ endNode
+  kind-known x = node-fits x .known
+
   pub number-place : (x : ℕ) → Below (chart .constructs) (nodeAt (decode s .nodes) x .number)
   number-place x = subst (λ (n : ℕ). Below n (number x)) (constructs-length s chart (A .laid)) (node-fits x .number-below)
 

@@ -22,17 +22,24 @@ fill-chains-requires c κs =
     let e = k .before .before in
     (e .pre .0, e .pre .1, k .sets-of .ensures .masters, refl)
 
-mark-nodes-requires : tie.Need-mark-nodes-requires
-mark-nodes-requires c κs =
+fill-places-requires : tie.Need-fill-places-requires
+fill-places-requires c κs =
     let f = c .before .before in
     let k = f .before .before .before in
-    let e = k .before .before in
-    (e .pre .0, f .fill-chains .ensures, k .sets-of .ensures .sections, rw (e .pre .2) refl, rw (e .pre .2) (zeros 192))
+    (k .before .before .pre .0, f .fill-chains .ensures, k .sets-of .ensures .sections, refl)
+
+-- where the constructs of each kind were found
+abbrev sorted : tie.After-fill-places → tie.After-sets-of
+sorted p = p .before .before .before .before .before .before
+
+mark-nodes-requires : tie.Need-mark-nodes-requires
+mark-nodes-requires c κs =
+    let p = c .before .before in
+    let e = sorted p .before .before in
+    (e .pre .0, p .fill-places .ensures, e .pre .2)
 
 returns-2 : tie.Need-returns-2
-returns-2 c =
-    let k = c .before .before .before .before .before .before in
-    (k .sets-of .ensures, c .mark-nodes .ensures)
+returns-2 c = (sorted (c .before .before .before) .sets-of .ensures, c .mark-nodes .ensures)
 
 pub fill-held-spec : {M : Type 1} → statement M
-fill-held-spec = tie.close (tie.spec sets-of-requires returns fill-chains-requires mark-nodes-requires returns-2)
+fill-held-spec = tie.close (tie.spec sets-of-requires returns fill-chains-requires fill-places-requires mark-nodes-requires returns-2)

@@ -1,47 +1,41 @@
 -- `answer_constructs::held::mark_nodes` meets its contract. The loop's invariant: the nodes passed have their masks.
 -- Assumes nothing.
-use mathlib.Core.Path.{_≡_, sym, subst, _∙_}
-use mathlib.Core.Logic.{inl, inr}
-use mathlib.Core.List.{List}
-use Prim.Native.Nat.{ℕ, _+_, _≤_, _<_, _-_}
+use mathlib.Core.Path.{_≡_, refl, _∙_}
+use Prim.Native.Nat.{_≤_, _-_}
 use native.Mathlib.Omega.{arith}
-use native.Mathlib.Decide.{decLt}
-use Rattle.lists.specs.Truth.{not-eqb}
-use Rattle.lists.specs.Range.{none-passes}
-use Rattle.chart.specs.Format.{decode}
-use Rattle.chart.specs.Region.{Region}
+use lib.ListN.{length-set}
+use lib.Seq.{getD-set-other}
+use Rattle.lists.specs.Store.{zeros, stored}
 use Rattle.chart.specs.Checked.{reading}
 use Rattle.answer_constructs.specs.Marks.{Held}
-use Rattle.answer_constructs.proofs.Nodes.{outside-held}
-use Rattle.answer_constructs.specs.Below.{namedFrom, HeldBelow}
+use Rattle.answer_constructs.specs.Below.{HeldBelow}
+use Rattle.answer_constructs.proofs.Nodes.{kind-known}
 use Rattle.answer_constructs.proofs.held.mark_nodes.Statement.{statement}
 use Rattle.answer_constructs.proofs.held.mark_nodes.Tie as tie
 
 abbrev Inv-loop : tie.InvT-loop
-Inv-loop s chart chains sections held₀ n x₀ held x = (x ≤ chart .nodes) × HeldBelow (reading s chart) x held
+Inv-loop s chart places held₀ n x₀ held x = (x ≤ chart .nodes) × HeldBelow (reading s chart) x held
 
 abbrev μ-loop : tie.MeasureT-loop
-μ-loop s chart chains sections held₀ n x₀ held x = chart .nodes - x
+μ-loop s chart places held₀ n x₀ held x = chart .nodes - x
 
 loop-holds : tie.Need-loop-holds Inv-loop μ-loop
-loop-holds c =
-    let (accepted, chains, sections, long, none) = c .before .pre in
-    (omega arith, record { long = long; has-held = λ y l. absurd (omega arith); rest = λ y l. none y })
+loop-holds c = (omega arith, rw (c .before .pre .2) (record { long = refl; has-held = λ y l. absurd (omega arith); rest = λ y l. zeros 192 y }))
 
-add-loop : tie.Need-add-loop Inv-loop μ-loop
-add-loop c = omega (arith, c .before .before .pre .0 .laid .nodes-most)
+read-requires : tie.Need-read-requires Inv-loop μ-loop
+read-requires c κs = (c .before .before .before .pre .0 .laid, omega arith)
 
-busy-requires : tie.Need-busy-requires Inv-loop μ-loop
-busy-requires c κs = (c .before .before .before .pre .0 .laid, omega arith)
+held-at-requires : tie.Need-held-at-requires Inv-loop μ-loop
+held-at-requires c κs =
+    let l = c .before .before in
+    let e = l .before .before in
+    omega (arith, kind-known _ (e .args .chart) (e .pre .0) (l .loop .x), c .read .ensures .0)
 
-add-mark-from : tie.Need-add-mark-from Inv-loop μ-loop
-add-mark-from c = omega arith
+mul-held : tie.Need-mul-held Inv-loop μ-loop
+mul-held c = let l = c .before .before .before in omega (arith, l .before .before .pre .0 .laid .nodes-most)
 
-mark-from-requires : tie.Need-mark-from-requires Inv-loop μ-loop
-mark-from-requires c κs =
-    let l = c .before .before .before .before in
-    let (accepted, chains, sections, long, none) = l .before .before .pre in
-    (accepted, omega arith, omega arith, chains, sections, l .loop .inv .1)
+element-write-held : tie.Need-element-write-held Inv-loop μ-loop
+element-write-held c = let l = c .before .before .before in omega (arith, l .loop .inv .1 .long, l .before .before .pre .0 .laid .nodes-most)
 
 add-x : tie.Need-add-x Inv-loop μ-loop
 add-x c = omega arith
@@ -49,39 +43,26 @@ add-x c = omega arith
 loop-less : tie.Need-loop-less Inv-loop μ-loop
 loop-less c = omega arith
 
--- nodes that hold nothing keep their 0
-past : {R : Region} {x : ℕ} {held : List ℕ} (n : ℕ) → HeldBelow R x held → ((k : ℕ) → k < n → Held R (x + k) 0) → HeldBelow R (x + n) held
-past {R} {x} {held} n i none = record {
-  long = i .long;
-  has-held = λ y l. elim (decLt y x) [
-    | yes h ↦ i .has-held y h
-    | no h ↦ let q : x + (y - x) ≡ y = omega arith in rw (i .rest y (omega arith)) (subst (λ (z : ℕ). Held R z 0) q (none (y - x) (omega arith)))
-  ];
-  rest = λ y l. i .rest y (omega arith);
-}
-
 loop-again : tie.Need-loop-again Inv-loop μ-loop
 loop-again c =
-    let l = c .before .before .before in
+    let r = c .before in
+    let l = r .before .before in
     let e = l .before .before in
-    let a = e .args in (
+    let i = l .loop .inv .1 in
+    let holds : Held (reading (e .args .s .now) (e .args .chart)) (l .loop .x) (c .held-at .result) = rw (c .held-at .ensures, r .read .ensures .0, r .read .ensures .1) (e .pre .1 (l .loop .x)) in (
       omega arith,
-      elim (c .if1 .came) [
-        | inl (t, g, m, q) ↦ rw q (m .ensures)
-        | inr (t, q) ↦
-            let none = none-passes 8 (namedFrom (decode (a .s .now)) (l .loop .x)) (sym (c .before .busy .ensures) ∙ t .left) in
-            rw q (past 8 (l .loop .inv .1) (λ k h. outside-held _ (a .chart) (e .pre .0) (e .pre .1) (l .loop .x + k) (not-eqb _ _ (none k h))))
-      ],
+      record {
+        long = length-set (l .loop .held) (l .loop .x) _ ∙ i .long;
+        has-held = stored (λ y m. Held (reading (e .args .s .now) (e .args .chart)) y m) (l .loop .held) (l .loop .x) _ (omega (arith, i .long, e .pre .0 .laid .nodes-most)) holds (i .has-held);
+        rest = λ y m. getD-set-other (l .loop .held) (l .loop .x) y _ 0 (λ z. absurd (omega arith)) ∙ i .rest y (omega arith);
+      },
     )
 
-mark-from-requires-2 : tie.Need-mark-from-requires-2 Inv-loop μ-loop
-mark-from-requires-2 c κs =
-    let l = c .before .before in
-    let (accepted, chains, sections, long, none) = l .before .before .pre in
-    (accepted, l .loop .inv .0, omega arith, chains, sections, l .loop .inv .1)
-
 returns : tie.Need-returns Inv-loop μ-loop
-returns c = c .mark-from2 .ensures
+returns c =
+    let l = c .before in
+    let q : l .loop .x ≡ l .before .before .args .chart .nodes = omega arith in
+    rw q at (l .loop .inv .1)
 
 pub mark-nodes-spec : {M : Type 1} → statement M
 mark-nodes-spec =
@@ -90,12 +71,11 @@ mark-nodes-spec =
     Inv-loop
     μ-loop
     loop-holds
-    add-loop
-    busy-requires
-    add-mark-from
-    mark-from-requires
+    read-requires
+    held-at-requires
+    mul-held
+    element-write-held
     add-x
     loop-less
     loop-again
-    mark-from-requires-2
     returns)
