@@ -1,5 +1,6 @@
 pub mod Constructs
 pub mod Masters
+pub mod Noted
 pub mod Membership
 pub mod Facts
 pub mod Nodes

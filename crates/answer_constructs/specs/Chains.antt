@@ -7,7 +7,7 @@ use mathlib.Core.List.{List}
 use Prim.Native.Nat.{ℕ, _^_, _<_}
 use lib.Dec.{eqb, leb}
 use lib.ListN.{length, getD}
-use Rattle.lists.specs.Mask.{Has, Mask}
+use Rattle.lists.specs.Mask.{Mask, maskOf}
 use Rattle.lists.specs.Bits.{has}
 use Rattle.chart.specs.Format.{outside, Construct, constructAt}
 use Rattle.chart.specs.Region.{Kind, single, master, critical, loop, ordered, sections, section, parallel, Region}
@@ -24,13 +24,6 @@ Gives R c d ordered = (d ≡ R .parent c) × (Returns R d → ⊥)
 Gives R c d sections = ⊥
 Gives R c d section = (d ≡ c) × (Returns R (R .parent d) → ⊥)
 Gives R c d parallel = ⊥
-
--- By master the masters for its thread, but where a master is still to be found: there 0 may stand.
-pub record Peers (R : Region) (rest : ℕ) (like : List ℕ) : Type 0 where
-  pub long : length like ≡ 64
-  pub left : (c : ℕ) → Has rest c → (c < R .constructs) × (R .kind c ≡ master)
-  pub at : (c : ℕ) → c < R .constructs → R .kind c ≡ master
-      → (Has rest c × (getD like c 0 ≡ 0)) ⊎ Mask (λ d. Gives R c d master) (R .constructs) (getD like c 0)
 
 -- A node that lies in p holds d: so a construct of the region gives it, which is p or stands above p.
 abbrev pub HeldIn : Region → (ℕ → Type 0) → ℕ → ℕ → Type 0
@@ -73,3 +66,12 @@ isLike constructs kind name filter d =
 -- Construct c is a master for a thread that a team of m lacks.
 unfoldable pub isOver : List Construct → ℕ → ℕ → Bool
 isOver constructs m c = let k = constructAt constructs c in eqb (k .kind) masterByte && leb m (k .filter)
+
+-- The constructs like construct c: of its kind, with its name and its filter.
+abbrev pub likeMask : List Construct → ℕ → ℕ
+likeMask constructs c = let k = constructAt constructs c in maskOf (isLike constructs (k .kind) (k .name) (k .filter)) (length constructs)
+
+-- For each construct those like it, or 0 where nobody has asked yet.
+pub record Known (constructs : List Construct) (known : List ℕ) : Type 0 where
+  pub long : length known ≡ 64
+  pub at : (c : ℕ) → c < length constructs → (getD known c 0 ≡ 0) ⊎ (getD known c 0 ≡ likeMask constructs c)

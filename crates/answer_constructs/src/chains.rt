@@ -4,19 +4,19 @@ ghost use mathlib.Core.Bool.{cond};
 ghost use Prim.Native.Nat.{_+_, _<_};
 ghost use lib.ListN.{length};
 ghost use Rattle.lists.specs.Bits.{has as hasBit};
-ghost use Rattle.lists.specs.Mask.{maskOf};
-ghost use Rattle.chart.specs.Format.{outside, decode};
+ghost use Rattle.lists.specs.Mask.{Mask, maskOf};
+ghost use Rattle.chart.specs.Format.{outside, decode, constructAt};
 ghost use Rattle.chart.specs.Region.{master};
-ghost use Rattle.chart.specs.Scope.{orderedByte, sectionByte};
+ghost use Rattle.chart.specs.Scope.{masterByte, orderedByte, sectionByte};
 ghost use Rattle.chart.specs.Nested.{countsIn};
 ghost use Rattle.chart.specs.Checked.{reading};
 ghost use Rattle.chart.proofs.RegionFacts.{Counts};
 ghost use Rattle.mark_tables.specs.Tables.{Accepted, Returned};
-ghost use Rattle.answer_constructs.specs.Chains.{Peers, Chains, maskAt, lastingBit, ownMask};
+ghost use Rattle.answer_constructs.specs.Chains.{Gives, Chains, maskAt, lastingBit, ownMask};
 ghost use Rattle.answer_constructs.specs.Marks.{OfKind, Kinds};
 use crate::members::members_of;
 use crate::peers::add_if;
-use crate::peers::fill_peers;
+use crate::peers::masters_like;
 use chart::cursor::wide;
 use chart::format::Chart;
 use chart::format::Construct;
@@ -80,21 +80,24 @@ fn gives(construct: Construct, c: usize, members: u64, returning: u64, masters: 
     own(construct, c, returning, masters)
 }
 
-// One construct more. Its parent is lower, and so done.
+// One construct more, given the masters for its thread if it is one. Its parent is lower, and so done.
 fn add_construct(
     s: &[u8],
     chart: Chart,
     c: usize,
     members: u64,
     returning: u64,
-    like: &[u64; BITS],
+    like: u64,
     held: &mut [u64; Chart::CONSTRUCTS],
 )
-    requires { ⌜ Accepted (now s) chart × (c < chart .constructs) × (members ≡ maskOf (countsIn (decode (now s) .constructs) (chart .region)) (chart .constructs)) × Returned (reading (now s) chart) returning × Peers (reading (now s) chart) 0 (now like) × Chains (reading (now s) chart) (Counts (decode (now s)) (chart .region)) c (now held) ⌝ }
+    requires { ⌜ Accepted (now s) chart × (c < chart .constructs)
+        × (members ≡ maskOf (countsIn (decode (now s) .constructs) (chart .region)) (chart .constructs)) × Returned (reading (now s) chart) returning
+        × (constructAt (decode (now s) .constructs) c .kind ≡ masterByte → Mask (λ d. Gives (reading (now s) chart) c d master) (reading (now s) chart .constructs) like)
+        × Chains (reading (now s) chart) (Counts (decode (now s)) (chart .region)) c (now held) ⌝ }
     ensures { λ _. ⌜ Chains (reading (now (s .entry)) chart) (Counts (decode (now (s .entry))) (chart .region)) (c + 1) (now (held .exit)) ⌝ }
 {
     let construct = Construct::read(s, chart, c);
-    let own = gives(construct, c, members, returning, like[c]);
+    let own = gives(construct, c, members, returning, like);
     held[c] = mask_at(held, construct.parent) | own;
 }
 
@@ -110,12 +113,12 @@ pub fn fill_chains(
     ensures { λ _. ⌜ Chains (reading (now (s .entry)) chart) (Counts (decode (now (s .entry))) (chart .region)) (chart .constructs) (now (held .exit)) ⌝ }
 {
     let members = members_of(s, chart);
-    let mut like = [0u64; BITS];
-    fill_peers(s, chart, masters, &mut like);
+    let mut known = [0u64; BITS];
     let n = chart.constructs;
     let mut c = 0;
     while c < n {
-        add_construct(s, chart, c, members, returning, &like, held);
+        let like = masters_like(s, chart, c, masters, &mut known);
+        add_construct(s, chart, c, members, returning, like, held);
         c += 1;
     }
 }

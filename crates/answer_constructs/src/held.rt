@@ -33,7 +33,8 @@ fn fill_places(
     sections: u64,
     places: &mut PlaceTable,
 )
-    requires { ⌜ Accepted (now s) chart × Chains (reading (now s) chart) (Counts (decode (now s)) (chart .region)) (chart .constructs) (now chains) × OfKind (reading (now s) chart) section sections × (now places ≡ replicate 128 0) ⌝ }
+    requires { ⌜ Accepted (now s) chart × Chains (reading (now s) chart) (Counts (decode (now s)) (chart .region)) (chart .constructs) (now chains)
+        × OfKind (reading (now s) chart) section sections × (now places ≡ replicate 128 0) ⌝ }
     ensures { λ _. ⌜ HeldBy (reading (now (s .entry)) chart) (decode (now (s .entry))) (now (places .exit)) ⌝ }
 {
     let n = chart.constructs;

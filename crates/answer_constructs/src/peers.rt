@@ -4,18 +4,17 @@ ghost use mathlib.Core.Bool.{_&&_, cond};
 ghost use Prim.Native.Nat.{_^_, _<_};
 ghost use lib.Bits.{bitOr};
 ghost use lib.Dec.{eqb};
-ghost use lib.ListN.{replicate};
-ghost use Rattle.lists.specs.Mask.{maskOf};
-ghost use Rattle.chart.specs.Format.{decode};
+ghost use Rattle.lists.specs.Mask.{Mask, maskOf};
+ghost use Rattle.chart.specs.Format.{decode, constructAt};
 ghost use Rattle.chart.specs.Region.{master};
+ghost use Rattle.chart.specs.Scope.{masterByte};
 ghost use Rattle.chart.specs.Checked.{Laid, reading};
 ghost use Rattle.mark_tables.specs.Tables.{Accepted};
-ghost use Rattle.answer_constructs.specs.Chains.{Peers, isLike};
+ghost use Rattle.answer_constructs.specs.Chains.{Gives, isLike, likeMask, Known};
 ghost use Rattle.answer_constructs.specs.Marks.{OfKind};
 use chart::format::Chart;
 use chart::format::Construct;
 use masks::bits::bit;
-use masks::bits::lowest;
 use masks::unions::BITS;
 use masks::unions::add;
 
@@ -58,33 +57,32 @@ pub fn peers(s: &[u8], chart: Chart, construct: Construct) -> u64
     mask
 }
 
-// The masters like the lowest one that is left, unless they are there: one pass over the constructs finds them, and they are added to each of
-// them. Returns the others that are left.
-fn add_peers(s: &[u8], chart: Chart, rest: u64, like: &mut [u64; BITS]) -> u64
-    requires { ⌜ Accepted (now s) chart × (0 < rest) × Peers (reading (now s) chart) rest (now like) ⌝ }
-    ensures { λ r. ⌜ (r < rest) × Peers (reading (now (s .entry)) chart) r (now (like .exit)) ⌝ }
+// The constructs like construct c. They are noted for each of them, so that one pass is made for all of them.
+pub fn noted_peers(s: &[u8], chart: Chart, c: usize, known: &mut [u64; BITS]) -> u64
+    requires { ⌜ Laid (now s) chart × (c < chart .constructs) × Known (decode (now s) .constructs) (now known) ⌝ }
+    ensures { λ r. ⌜ (r ≡ likeMask (decode (now (s .entry)) .constructs) c) × Known (decode (now (s .entry)) .constructs) (now (known .exit)) ⌝ }
 {
-    let c = lowest(rest);
-    let left = rest & (rest - 1);
-    if like[c] != 0 {
-        return left;
+    let noted = known[c];
+    if noted != 0 {
+        return noted;
     }
     let same = peers(s, chart, Construct::read(s, chart, c));
-    add(like, same, same);
-    left
+    add(known, same, same);
+    same
 }
 
-// For each master the masters for its thread: all of them in edition 1, which has no filters.
-pub fn fill_peers(s: &[u8], chart: Chart, masters: u64, like: &mut [u64; BITS])
-    requires { ⌜ Accepted (now s) chart × OfKind (reading (now s) chart) master masters × (now like ≡ replicate 64 0) ⌝ }
-    ensures { λ _. ⌜ Peers (reading (now (s .entry)) chart) 0 (now (like .exit)) ⌝ }
+// The masters for the thread of construct c, where that is one: all of them in edition 1, which has no filters.
+pub fn masters_like(s: &[u8], chart: Chart, c: usize, masters: u64, known: &mut [u64; BITS]) -> u64
+    requires { ⌜ Accepted (now s) chart × (c < chart .constructs) × OfKind (reading (now s) chart) master masters × Known (decode (now s) .constructs) (now known) ⌝ }
+    ensures { λ r. let R = reading (now (s .entry)) chart in ⌜ (constructAt (decode (now (s .entry)) .constructs) c .kind ≡ masterByte → Mask (λ d. Gives R c d master) (R .constructs) r) ⌝ }
+    ensures { λ _. ⌜ Known (decode (now (s .entry)) .constructs) (now (known .exit)) ⌝ }
 {
     if chart.edition != Chart::EDITION_2 {
-        add(like, masters, masters);
-        return;
+        return masters;
     }
-    let mut rest = masters;
-    while rest != 0 {
-        rest = add_peers(s, chart, rest, like);
+    let construct = Construct::read(s, chart, c);
+    if construct.kind != Construct::MASTER {
+        return 0;
     }
+    noted_peers(s, chart, c, known)
 }

@@ -76,9 +76,9 @@ module _ (s : List ℕ) (chart : Chart) (A : Accepted s chart) where
     unfiltered : (d : ℕ) → d < R .constructs → at d .kind ≡ criticalByte → at d .filter ≡ 0
     unfiltered d l k = tables s chart A .constructs .alone d l .unfiltered (λ z. omega (arith, z, k))
 
-    pub gives-peers : Mask (GivesName R Member c) (R .constructs) (maskOf like (chart .constructs))
+    pub gives-peers : Mask (GivesName R Member c) (R .constructs) (maskOf like (R .constructs))
     unfolding isLike kindOf
-    gives-peers = rw (← constructs-length s chart (A .laid)) (mask-carry to from (mask-of like (R .constructs)))
+    gives-peers = mask-carry to from (mask-of like (R .constructs))
       where
         to : (d : ℕ) → d < R .constructs → like d ≡ true → GivesName R Member c d
         to d m h =

@@ -11,27 +11,32 @@ ghost use Rattle.chart.specs.Checked.{reading};
 ghost use Rattle.chart.proofs.RegionFacts.{Counts};
 ghost use Rattle.chart.proofs.Tables.{lies};
 ghost use Rattle.mark_tables.specs.Tables.{Accepted};
+ghost use Rattle.answer_constructs.specs.Chains.{Known};
 ghost use Rattle.answer_names.specs.Names.{GivesName, Given, Small, Chained, Spread, Names, OwnBits, Criticals, InCriticals};
 use answer_constructs::chains::mask_at;
 use answer_constructs::members::members_of;
 use answer_constructs::peers::add_if;
-use answer_constructs::peers::peers;
+use answer_constructs::peers::noted_peers;
 use chart::format::Chart;
 use chart::format::Construct;
 use chart::format::Node;
 use check_edges::scope;
 use masks::bits::bit;
 use masks::bits::has;
+use masks::unions::BITS;
 
 // A mask for each construct.
 pub type Table = [u64; Chart::CONSTRUCTS];
 
 // What construct c gives the nodes inside it, where `members` are the constructs of the region.
-fn gives(s: &[u8], chart: Chart, c: usize, members: u64) -> u64
-    requires { ⌜ Accepted (now s) chart × (c < chart .constructs) × (members ≡ maskOf (countsIn (decode (now s) .constructs) (chart .region)) (chart .constructs)) ⌝ }
+fn gives(s: &[u8], chart: Chart, c: usize, members: u64, known: &mut [u64; BITS]) -> u64
+    requires { ⌜ Accepted (now s) chart × (c < chart .constructs)
+        × (members ≡ maskOf (countsIn (decode (now s) .constructs) (chart .region)) (chart .constructs))
+        × Known (decode (now s) .constructs) (now known) ⌝ }
     ensures { λ r.
         let R = reading (now (s .entry)) chart in
         ⌜ Mask (GivesName R (Counts (decode (now (s .entry))) (chart .region)) c) (R .constructs) r ⌝ }
+    ensures { λ _. ⌜ Known (decode (now (s .entry)) .constructs) (now (known .exit)) ⌝ }
 {
     if !has(members, c) {
         return 0;
@@ -40,7 +45,7 @@ fn gives(s: &[u8], chart: Chart, c: usize, members: u64) -> u64
     if construct.kind != Construct::CRITICAL {
         return 0;
     }
-    peers(s, chart, construct)
+    noted_peers(s, chart, c, known)
 }
 
 // The same of every construct.
@@ -49,10 +54,11 @@ pub fn fill_given(s: &[u8], chart: Chart, given: &mut Table)
     ensures { λ _. ⌜ Given (reading (now (s .entry)) chart) (Counts (decode (now (s .entry))) (chart .region)) (now (given .exit)) ⌝ }
 {
     let members = members_of(s, chart);
+    let mut known = [0u64; BITS];
     let n = chart.constructs;
     let mut c = 0;
     while c < n {
-        given[c] = gives(s, chart, c, members);
+        given[c] = gives(s, chart, c, members, &mut known);
         c += 1;
     }
 }

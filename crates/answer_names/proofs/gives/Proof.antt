@@ -29,7 +29,7 @@ returns : tie.Need-returns
 returns c =
     let h = c .before in
     let e = h .before .before in
-    gives-none _ (e .args .chart) (e .pre .0) (e .args .c) (λ n. clash (n .1) (sym (member h) ∙ not-true _ (c .if1 .taken)))
+    (gives-none _ (e .args .chart) (e .pre .0) (e .args .c) (λ n. clash (n .1) (sym (member h) ∙ not-true _ (c .if1 .taken))), e .pre .3)
 
 read-requires : tie.Need-read-requires
 read-requires c κs = search needs
@@ -38,20 +38,20 @@ returns-2 : tie.Need-returns-2
 returns-2 c =
     let r = c .before .before in
     let e = r .before .before .before .before in
-    other-kind _ (e .args .chart) (e .pre .0) (e .args .c) (below e) (λ k. c .if2 .taken (r .read .ensures .0 ∙ k))
+    (other-kind _ (e .args .chart) (e .pre .0) (e .args .c) (below e) (λ k. c .if2 .taken (r .read .ensures .0 ∙ k)), e .pre .3)
 
-peers-requires : tie.Need-peers-requires
-peers-requires c κs = search needs
+noted-peers-requires : tie.Need-noted-peers-requires
+noted-peers-requires c κs = search needs
 
 returns-3 : tie.Need-returns-3
 returns-3 c =
-    let l = c .before in
+    let l = c .before .before in
     let r = l .before .before in
     let h = r .before .before in
     let e = h .before .before in
-    rw (c .peers .ensures, r .read .ensures .0, r .read .ensures .2, r .read .ensures .3)
-    (gives-peers _ (e .args .chart) (e .pre .0) (e .args .c) (below e, sym (member h) ∙ not-false _ (r .before .if1 .left)) (sym (r .read .ensures .0) ∙ l .if2 .left))
+    let (q, known) = c .noted-peers .ensures in
+    (rw q (gives-peers _ (e .args .chart) (e .pre .0) (e .args .c) (below e, sym (member h) ∙ not-false _ (r .before .if1 .left)) (sym (r .read .ensures .0) ∙ l .if2 .left)), known)
 
 pub gives-spec : {M : Type 1} → statement M
 gives-spec =
-    tie.close (tie.spec has-requires returns read-requires returns-2 peers-requires returns-3)
+    tie.close (tie.spec has-requires returns read-requires returns-2 noted-peers-requires returns-3)
