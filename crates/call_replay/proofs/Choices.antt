@@ -10,13 +10,14 @@ use native.Mathlib.Decide.{ℕ-discrete, decLt}
 use lib.ListN.{length, getD, set, length-set, length-append, List·getD-append}
 use lib.Seq.{getD-append-seam, getD-set-same}
 use borrow.Author.Tests.{eq-eqb, ne-eqb, le-ltb}
-use Rattle.lists.specs.Truth.{bad, clash, and-false}
+use Rattle.lists.specs.Truth.{bad, clash, and-false, or-right}
 use Rattle.lists.specs.Mask.{maskOf}
 use Rattle.lists.specs.Store.{at-set}
 use Rattle.chart.specs.Region.{Region}
 use Rattle.theory_team.specs.State.{State, released}
 use Rattle.theory_traces.specs.Decide.{decide, apply, allowed}
 use Rattle.theory_traces.specs.Replay.{Play, together, reached, gathered, chosenNow, choose, stepped, feed}
+use Rattle.theory_traces.specs.ReplayLaws.{together-of}
 use Rattle.answer_steps.specs.Tables.{Shows}
 use Rattle.call_replay.specs.PairsMet.{Sheet}
 use Rattle.call_replay.specs.declared.pairs_met.Rows.{Rows}
@@ -115,6 +116,7 @@ module _ {n m : ℕ} {rows : Rows} {P : Play} {team out : List ℕ} (L : Playing
             (λ h. absurd (omega (arith, long, L .fewer))) (λ h. choice-more t (omega (arith, long)));
         bytes = λ t l. at-set (λ i. i < 256) (set team (776 + p) v) 784 w (776 + t) inside (λ h. absurd (omega (arith, long, L .fewer))) (λ h. bytes-more b t (omega (arith, long)));
         marks = L .marks;
+        own = L .own;
       }
     where
       fits : length (P .chosen ++ (v ∷ [])) ≡ length (P .chosen) + 1 → length (P .chosen ++ (v ∷ [])) < m
@@ -124,13 +126,14 @@ module _ {n m : ℕ} {rows : Rows} {P : Play} {team out : List ℕ} (L : Playing
 pub playing-reached : {n m : ℕ} {rows : Rows} {team out : List ℕ} (met : ℕ → ℕ → Bool) (σ : State) → 0 < m → Shows σ team → getD team 784 0 ≡ 0
     → Sheet n rows (λ a b. met a b || together m σ a b) out → Playing n m rows (reached m met σ) team out
 unfolding reached
-playing-reached met σ l S z H = record {
+playing-reached {m = m} met σ l S z H = record {
   state = S;
   pending = z;
   fewer = l;
   choice = λ t k. absurd (omega arith);
   bytes = λ t k. absurd (omega arith);
   marks = H;
+  own = λ a b h. or-right (met a b) _ (together-of m σ a b .1 h);
 }
 
 -- whether an entry was fed tells which of the two it led to

@@ -1,5 +1,5 @@
-pub mod Parts
 pub mod Sheets
+pub mod Meetings
 pub mod Releases
 pub mod Choices
 pub mod Counting

@@ -9,6 +9,7 @@ use lib.ListN.{length, getD}
 use Rattle.chart.specs.Region.{Region}
 use Rattle.theory_team.specs.State.{State}
 use Rattle.theory_traces.specs.Replay.{Play, outcomeOf, playOf, replayed}
+use Rattle.theory_traces.specs.ReplayLaws.{Own}
 use Rattle.theory_traces.specs.declared.Replayed.{Replayed}
 use Rattle.answer_steps.specs.Tables.{Tabled, Shows}
 use Rattle.call_replay.specs.PairsMet.{Sheet, Kept}
@@ -22,6 +23,8 @@ pub record Playing (n m : ℕ) (rows : Rows) (P : Play) (team out : List ℕ) : 
   pub choice : (t : ℕ) → t < length (P .chosen) → getD team (776 + t) 0 ≡ getD (P .chosen) t 0
   pub bytes : (t : ℕ) → t < length (P .chosen) → getD team (776 + t) 0 < 256
   pub marks : Sheet n rows (P .met) out
+  -- what has met in the state is marked, so that a step need mark only what its thread meets
+  pub own : Own m P
 
 -- What an entry leads to, if anything, and whether it was fed; a forbidden one leaves all as it was.
 pub data After (n m : ℕ) (rows : Rows) (P : Play) : Option Play → Bool → List ℕ → List ℕ → Type 0 where

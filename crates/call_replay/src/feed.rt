@@ -13,6 +13,7 @@ ghost use Rattle.answer_steps.specs.Tables.{Tabled, Shows};
 ghost use Rattle.call_replay.specs.Playing.{Ready, OfPlays, Fed};
 use crate::pairs_met::Rows;
 use crate::pairs_met::mark_state;
+use crate::pairs_met::mark_thread;
 use answer_steps::decide::decide;
 use answer_steps::effects::apply;
 use answer_steps::tables::BARRIER;
@@ -159,7 +160,7 @@ fn step(
     }
     apply(team, t, v, effect);
     team[PENDING] = 0;
-    mark_state(team, m, at(table, NODES), rows, out);
+    mark_thread(team, m, at(table, NODES), rows, t, out);
     true
 }
 

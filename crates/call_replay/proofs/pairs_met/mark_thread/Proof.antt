@@ -1,102 +1,63 @@
--- `call_replay::pairs_met::mark_thread` meets its contract.
+-- `call_replay::pairs_met::mark_thread` meets its contract. The loop's invariant: thread t has met the threads passed.
 -- Assumes nothing.
-use mathlib.Core.Path.{_≡_, refl, _∙_}
-use mathlib.Core.Logic.{inl, inr}
-use mathlib.Core.List.{List}
-use Prim.Native.Nat.{ℕ, _+_, _-_, _*_, _≤_}
+use mathlib.Core.Path.{_≡_}
+use Prim.Native.Nat.{_-_, _≤_}
 use native.Mathlib.Omega.{arith}
-use lib.ListN.{length}
-use Rattle.call_replay.proofs.Sheets.{sheet-off, sheet-marked, sheet-thread, others, lent-line, kept-same, kept-part, row-fits}
-use borrow.Author.Needs.{needs}
+use Rattle.call_replay.specs.PairsMet.{meet, meets, Marks}
+use Rattle.call_replay.proofs.Sheets.{sheet-same, kept-same, kept-then, met-none, met-more}
 use Rattle.call_replay.proofs.pairs_met.mark_thread.Statement.{statement}
 use Rattle.call_replay.proofs.pairs_met.mark_thread.Tie as tie
 
-node-of-requires : tie.Need-node-of-requires
-node-of-requires c κs = (c .before .pre .0, c .before .pre .3)
+abbrev Inv-loop : tie.InvT-loop
+Inv-loop team m n rows t out₀ k₀ out k = (k ≤ m) × Marks (λ σ. meets k σ t) n rows team out₀ out
 
--- where the function was called, and the row of the thread's node
-abbrev start : tie.Then2 → tie.Start
-start c = c .before .before .before .before .before .before .before
+abbrev μ-loop : tie.MeasureT-loop
+μ-loop team m n rows t out₀ k₀ out k = m - k
 
-abbrev row : tie.Then2 → ℕ
-row c = c .before .before .before .before .before .node-of .result - start c .args .rows .first
+loop-holds : tie.Need-loop-holds Inv-loop μ-loop
+loop-holds c = (omega arith, ((λ σ met S H. sheet-same (λ a b. met-none (met a b) (λ j. meet σ (c .before .args .t) j a b)) H), kept-same _ _))
 
-room : (c : tie.Then2) → row c * start c .args .n + start c .args .n ≤ length (start c .args .out .now)
-room c = omega (arith, row-fits (row c) (start c .args .n) (start c .args .rows .count) (c .if2 .taken), start c .pre .2)
+mark-pair-requires : tie.Need-mark-pair-requires Inv-loop μ-loop
+mark-pair-requires c κs =
+    let pre = c .before .before .before .before .pre in
+    (pre .0, pre .2, omega (arith, pre .1), omega (arith, pre .3, c .before .before .loop .inv .1 .1 .long))
 
-mul-start : tie.Need-mul-start
-mul-start c = omega (arith, room c)
+add-k : tie.Need-add-k Inv-loop μ-loop
+add-k c = omega arith
 
-add-end : tie.Need-add-end
-add-end c = omega (arith, room c)
+loop-less : tie.Need-loop-less Inv-loop μ-loop
+loop-less c = omega arith
 
-sub-mark-row : tie.Need-sub-mark-row
-sub-mark-row c = search needs
+loop-again : tie.Need-loop-again Inv-loop μ-loop
+loop-again c =
+    let l = c .before .before .before .before .before in
+    let marked = c .before .before .mark-pair .ensures in (
+      omega arith,
+      (
+        (λ σ met S H. sheet-same (λ a b. met-more (met a b) (l .loop .k) (λ j. meet σ (c .before .before .before .before .before .before .before .args .t) j a b)) (marked .0 σ _ S (l .loop .inv .1 .0 σ met S H))),
+        kept-then (l .loop .inv .1 .1) (marked .1),
+      ),
+    )
 
-part-mark-row-start : tie.Need-part-mark-row-start
-part-mark-row-start c = search needs
+same-length : tie.Need-same-length Inv-loop μ-loop
+same-length c = c .before .loop .inv .1 .1 .long
 
-part-mark-row-end : tie.Need-part-mark-row-end
-part-mark-row-end c = room c
-
-mark-row-requires : tie.Need-mark-row-requires
-mark-row-requires c κs = (start (c .before) .pre .0, start (c .before) .pre .1)
-
--- the bytes of the row, as they are back
-abbrev part : tie.After-mark-row → List ℕ
-part c = c .mark-row .last .1 .1 .1 .0
-
-same-length : tie.Need-same-length
-same-length c =
-    let o = c .before .before .before .before in
-    let e = start o in
-    kept-part (e .args .n) (e .args .rows) (row o) _ _ (e .args .out .now) (o .if2 .taken) (e .pre .2) refl refl (part (c .before .before)) (c .before .before .mark-row .ensures .1) .long
-
-returns : tie.Need-returns
+returns : tie.Need-returns Inv-loop μ-loop
 returns c =
-    let o = c .before .before .before .before in
-    let e = start o in
-    let x = o .before .before .before .before .before .node-of in
-    let at : e .args .rows .first + row o ≡ x .result = omega (arith, o .before .before .before .if1 .taken) in
-    let (marked, long) = c .before .before .mark-row .ensures in (
-      λ σ met S H.
-          let line = lent-line (e .args .n) (e .args .rows) (row o) _ _ (e .args .out .now) (o .if2 .taken) (e .pre .2) refl refl H in
-          sheet-thread (e .args .m) (e .args .t) σ met (at ∙ x .ensures ∙ S .node (e .args .t) (e .pre .3))
-          (sheet-marked (e .args .n) (e .args .rows) (row o) _ _ (e .args .out .now) (o .if2 .taken) (e .pre .2) refl refl _ long met (others (e .args .m) (e .args .t) σ) H (marked σ _ S line)),
-      kept-part (e .args .n) (e .args .rows) (row o) _ _ (e .args .out .now) (o .if2 .taken) (e .pre .2) refl refl (part (c .before .before)) long,
-    )
-
-returns-2 : tie.Need-returns-2
-returns-2 c =
-    let e = c .before .before .before .before .before .before .before in
-    let x = c .before .before .before .before .before .node-of in
-    let first = c .before .before .before .if1 .taken in (
-      λ σ met S H.
-          sheet-thread (e .args .m) (e .args .t) σ met (x .ensures ∙ S .node (e .args .t) (e .pre .3))
-          (sheet-off (x .result) (others (e .args .m) (e .args .t) σ) (inr (omega (arith, first, c .if2 .left))) H),
-      kept-same _ _,
-    )
-
-returns-3 : tie.Need-returns-3
-returns-3 c =
-    let e = c .before .before .before .before in
-    let x = c .before .before .node-of in (
-      λ σ met S H. sheet-thread (e .args .m) (e .args .t) σ met (x .ensures ∙ S .node (e .args .t) (e .pre .3)) (sheet-off (x .result) (others (e .args .m) (e .args .t) σ) (inl (c .if1 .left)) H),
-      kept-same _ _,
-    )
+    let l = c .before in
+    let q : l .loop .k ≡ c .before .before .before .args .m = omega arith in
+    rw q at (l .loop .inv .1)
 
 pub mark-thread-spec : {M : Type 1} → statement M
 mark-thread-spec =
     tie.close
     (tie.spec
-    node-of-requires
-    mul-start
-    add-end
-    sub-mark-row
-    part-mark-row-start
-    part-mark-row-end
-    mark-row-requires
+    Inv-loop
+    μ-loop
+    loop-holds
+    mark-pair-requires
+    add-k
+    loop-less
+    loop-again
     same-length
-    returns
-    returns-2
-    returns-3)
+    returns)
