@@ -46,7 +46,7 @@ beside-more {a} {b} {old} {new} i v l h B = record { long = length-set new i v �
     apart j (inr g) q = omega arith
 
 -- five stores, one after the other
-pub five-stores : (t : List ℕ) (m k a b n : ℕ) → length t ≡ 2037
+pub five-stores : (t : List ℕ) (m k a b n : ℕ) → length t ≡ 2133
     → let t5 = set (set (set (set (set t 2032 m) 2033 k) 2034 a) 2035 b) 2036 n in
     ((getD t5 2032 0 ≡ m) × (getD t5 2033 0 ≡ k) × (getD t5 2036 0 ≡ n)) × (((getD t5 2034 0 ≡ a) × (getD t5 2035 0 ≡ b)) × Beside 2032 2037 t t5)
 five-stores t m k a b n l =

@@ -2,7 +2,7 @@
 -- Assumes nothing.
 use mathlib.Core.Path.{_≡_, refl, sym, _∙_, ap, subst}
 use mathlib.Core.Logic.{_⊎_, inl, inr}
-use mathlib.Core.Bool.{Bool, true, false, not, cond}
+use mathlib.Core.Bool.{Bool, true, false, _&&_, not, cond}
 use mathlib.Core.List.{List}
 use Prim.Native.Nat.{ℕ, _+_, _<_}
 use native.Mathlib.Numerals.{add-one}
@@ -14,7 +14,7 @@ use Rattle.lists.specs.Range.{every, every-at}
 use Rattle.chart.specs.Region.{Role, plain, barrier, opens, closes, Kind, single, master, critical, loop, ordered, sections, section, parallel, Region}
 use Rattle.chart.specs.Scope.{kindOf}
 use Rattle.theory_team.specs.State.{State}
-use Rattle.theory_traces.specs.Tests.{isKind, mayEnter, mayPass}
+use Rattle.theory_traces.specs.Tests.{isKind, isOpening, mayEnter, mayPass}
 use Rattle.theory_traces.specs.DecideLaws.{cond-cases}
 use Rattle.answer_steps.specs.Tables.{roleBy, Tabled}
 
@@ -84,6 +84,20 @@ sections-test = kind-test sections 6 refl (λ b h. h)
 pub section-test : (b : ℕ) → isKind (kindOf b) section ≡ eqb b 7
 unfolding kindOf
 section-test = kind-test section 7 refl (λ b h. h)
+
+-- a section, by the code and the number of its begin, its byte and its parent
+opening : (code number x : ℕ) → isOpening x (roleBy code number) ≡ (eqb code 2 && eqb number x)
+unfolding isOpening roleBy
+opening code number x = cond-cases (eqb code 1) _ _ (λ r. isOpening x r ≡ (eqb code 2 && eqb number x)) (λ h. rw (eqb-true code 1 h))
+    (λ h. cond-cases (eqb code 2) _ _ (λ r. isOpening x r ≡ (eqb code 2 && eqb number x)) (λ g. rw g) (λ g. rw g (cond-cases (eqb code 3) _ _ (λ r. isOpening x r ≡ false) (λ e. refl) (λ e. refl))))
+
+and-assoc : (a b c : Bool) → ((a && b) && c) ≡ (a && (b && c))
+and-assoc true b c = refl
+and-assoc false b c = refl
+
+pub section-by : (code number kind parent c x : ℕ)
+    → (((eqb code 2 && eqb number x) && eqb kind 7) && eqb parent c) ≡ (isOpening x (roleBy code number) && (isKind (kindOf kind) section && eqb parent c))
+section-by code number kind parent c x = rw (opening code number x, section-test kind) (and-assoc (eqb code 2 && eqb number x) (eqb kind 7) (eqb parent c))
 
 -- the kind of a byte that is known
 pub kind-at : {R : Region} {table : List ℕ} → Tabled R table → (c : ℕ) → c < R .constructs → {b : ℕ} (kind : Kind) → b ≡ getD table (1792 + c) 0 → (code : ℕ) → b ≡ code

@@ -1,6 +1,7 @@
 pub mod Laws
 pub mod Stores
 pub mod Filling
+pub mod Sorts
 pub mod Around
 pub mod Roles
 pub mod Marking

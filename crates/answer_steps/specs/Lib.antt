@@ -1,2 +1,3 @@
 pub mod Tables
 pub mod Words
+pub mod Children

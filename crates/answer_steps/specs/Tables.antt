@@ -1,16 +1,18 @@
 -- What a region's table and a team's hold.
 -- Assumes nothing.
 use mathlib.Core.Path.{_≡_}
-use mathlib.Core.Bool.{_&&_, cond}
+use mathlib.Core.Logic.{_↔_}
+use mathlib.Core.Bool.{Bool, true, false, _&&_, _||_, not, cond}
 use mathlib.Core.List.{List}
 use Prim.Native.Nat.{ℕ, _+_, _*_, _/_, _%_, _≤_, _<_}
-use lib.Dec.{eqb}
+use lib.Dec.{leb, eqb}
 use lib.ListN.{length, getD}
 use Rattle.lists.specs.Bits.{has}
-use Rattle.lists.specs.Mask.{maskOf}
-use Rattle.chart.specs.Region.{Role, plain, barrier, opens, closes, Region}
+use Rattle.lists.specs.Mask.{Has, maskOf}
+use Rattle.chart.specs.Region.{Role, plain, barrier, opens, closes, ordered, Region}
 use Rattle.chart.specs.Scope.{orderedByte, kindOf}
 use Rattle.theory_team.specs.State.{State}
+use Rattle.theory_traces.specs.Tests.{isKind, isSectionOf}
 use Rattle.theory_traces.specs.declared.Effect.{Effect}
 use Rattle.theory_traces.specs.declared.Effect.the-variants.{None, Moves, Leaves, Takes, TakesNext}
 
@@ -20,7 +22,7 @@ roleBy code number = cond (eqb code 1) barrier (cond (eqb code 2) (opens number)
 
 -- The table of a region. Nodes and threads come as bytes.
 pub record Tabled (R : Region) (table : List ℕ) : Type 0 where
-  pub long : length table ≡ 2037
+  pub long : length table ≡ 2133
   pub edge : (x y : ℕ) → x < 256 → y < 256 → R .edge x y ≡ has (getD table (4 * x + y / 64) 0) (y % 64)
   pub role : (x : ℕ) → x < 256 → R .role x ≡ roleBy (getD table (1024 + x) 0) (getD table (1280 + x) 0)
   pub number : (x : ℕ) → x < 256 → 2 ≤ getD table (1024 + x) 0 → getD table (1280 + x) 0 < R .constructs
@@ -41,6 +43,9 @@ pub record Tabled (R : Region) (table : List ℕ) : Type 0 where
   pub finish : R .finish ≡ getD table 2035 0
   pub nodes : R .nodes ≡ getD table 2036 0
   pub few-nodes : R .nodes ≤ 192
+  -- for a construct its sections, and the region's ordereds that stand in it
+  pub sections : (c : ℕ) → c < 48 → getD table (2037 + c) 0 ≡ maskOf (isSectionOf R c) (R .constructs)
+  pub ordereds : (d : ℕ) → d < 48 → getD table (2085 + d) 0 ≡ maskOf (λ o. (isKind (R .kind o) ordered && has (getD table 2032 0) o) && eqb (R .parent o) d) (R .constructs)
 
 -- The table of a team.
 pub record Shows (σ : State) (team : List ℕ) : Type 0 where
@@ -57,6 +62,14 @@ pub record Sound (table team : List ℕ) : Type 0 where
   pub tabled : Tabled region table
   pub shows : Shows state team
   pub low : (t c : ℕ) → t < 8 → c < 48 → getD team (97 * t + 1 + c) 0 + 1 < 18446744073709551616
+
+-- Thread t is not past the k-th instance of c, and has not taken the section x there.
+abbrev pub untakenBy : State → ℕ → ℕ → ℕ → ℕ → Bool
+untakenBy σ c k x t = leb (σ .encounters t c) k && (not (eqb (σ .encounters t c) k) || not (σ .taken t c x))
+
+-- Of the sections of c, the mask has those that are not untaken.
+abbrev pub TakenIn : Region → ℕ → ℕ → (ℕ → Bool) → Type 0
+TakenIn R c mask untaken = (x : ℕ) → x < R .constructs → isSectionOf R c x ≡ true → Has mask x ↔ (untaken x ≡ false)
 
 -- The constructs of an effect have columns.
 abbrev pub Numbered : Effect → Type 0

@@ -108,7 +108,7 @@ pub fn fill_nodes(
     which: usize,
     table: &mut RegionTable,
 )
-    requires { ⌜ Accepted (now s) chart × Above (decode (now s)) (chart .constructs) (now above) × (which < 3) × (length (now table) ≡ 2037) ⌝ }
+    requires { ⌜ Accepted (now s) chart × Above (decode (now s)) (chart .constructs) (now above) × (which < 3) × (length (now table) ≡ 2133) ⌝ }
     ensures { λ _. ⌜ Column (1024 + 256 * which) (chart .nodes) (nodeWord (decode (now (s .entry))) (chart .region) members which) (now (table .entry)) (now (table .exit)) ⌝ }
 {
     let n = chart.nodes;
@@ -156,7 +156,7 @@ pub fn fill_constructs(
     which: usize,
     table: &mut RegionTable,
 )
-    requires { ⌜ Accepted (now s) chart × (which < 5) × (length (now table) ≡ 2037) × ((k : ℕ) → getD (now begins) k 0 < 192) × ((k : ℕ) → getD (now ends) k 0 < 192) ⌝ }
+    requires { ⌜ Accepted (now s) chart × (which < 5) × (length (now table) ≡ 2133) × ((k : ℕ) → getD (now begins) k 0 < 192) × ((k : ℕ) → getD (now ends) k 0 < 192) ⌝ }
     ensures { λ _. ⌜ Column (1792 + 48 * which) (chart .constructs) (constructWord (decode (now (s .entry))) (now (begins .entry)) (now (ends .entry)) which) (now (table .entry)) (now (table .exit)) ⌝ }
 {
     let n = chart.constructs;

@@ -17,7 +17,7 @@ use search::edges::Parts;
 
 // Each of the first n edges, marked.
 fn mark_edges(edges: &[[u8; Chart::EDGES]; Parts::ROWS], n: usize, table: &mut RegionTable)
-    requires { ⌜ (n ≤ 1024) × (length (now edges) ≡ 6) × (length (now table) ≡ 2037) × ((j : ℕ) → getD (row (now edges) 0) j 0 < 192) × ((j : ℕ) → getD (row (now edges) 1) j 0 < 192) ⌝ }
+    requires { ⌜ (n ≤ 1024) × (length (now edges) ≡ 6) × (length (now table) ≡ 2133) × ((j : ℕ) → getD (row (now edges) 0) j 0 < 192) × ((j : ℕ) → getD (row (now edges) 1) j 0 < 192) ⌝ }
     requires { ⌜ ((j : ℕ) → j < 1024 → getD (now table) j 0 ≡ 0) ⌝ }
     ensures { λ _. ⌜ Marked (row (now (edges .entry)) 0) (row (now (edges .entry)) 1) n (now (table .exit)) × Beside 0 1024 (now (table .entry)) (now (table .exit)) ⌝ }
 {
@@ -33,7 +33,7 @@ fn mark_edges(edges: &[[u8; Chart::EDGES]; Parts::ROWS], n: usize, table: &mut R
 
 // The region's edges, marked in a table that has none. How they are parted is of no account here, so that no stop stands.
 pub fn fill_edges(s: &[u8], chart: Chart, table: &mut RegionTable)
-    requires { ⌜ Accepted (now s) chart × (length (now table) ≡ 2037) ⌝ }
+    requires { ⌜ Accepted (now s) chart × (length (now table) ≡ 2133) ⌝ }
     requires { ⌜ ((j : ℕ) → j < 1024 → getD (now table) j 0 ≡ 0) ⌝ }
     ensures { λ _. ⌜ ((x y : ℕ) → x < 256 → y < 256 → reading (now (s .entry)) chart .edge x y ≡ hasBit (getD (now (table .exit)) (4 * x + y / 64) 0) (y % 64)) × Beside 0 1024 (now (table .entry)) (now (table .exit)) ⌝ }
 {

@@ -9,6 +9,7 @@ ghost use Rattle.chart.specs.Checked.{reading};
 ghost use Rattle.mark_tables.specs.Tables.{Accepted};
 ghost use Rattle.answer_steps.specs.Tables.{Tabled};
 ghost use Rattle.answer_steps.specs.Words.{Beside};
+use crate::children::fill_children;
 use crate::columns::fill_above;
 use crate::columns::fill_constructs;
 use crate::columns::fill_nodes;
@@ -44,7 +45,7 @@ fn put_numbers(
     ends: &[u8; Chart::BARRIERS],
     table: &mut RegionTable,
 )
-    requires { ⌜ (1 ≤ chart .nodes) × ((chart .region ≡ outside → ⊥) → chart .region < 64) × (length (now table) ≡ 2037) × ((k : ℕ) → getD (now begins) k 0 < 192) × ((k : ℕ) → getD (now ends) k 0 < 192) ⌝ }
+    requires { ⌜ (1 ≤ chart .nodes) × ((chart .region ≡ outside → ⊥) → chart .region < 64) × (length (now table) ≡ 2133) × ((k : ℕ) → getD (now begins) k 0 < 192) × ((k : ℕ) → getD (now ends) k 0 < 192) ⌝ }
     ensures { λ _. ⌜ (getD (now (table .exit)) 2032 0 ≡ members) × (getD (now (table .exit)) 2033 0 ≡ chart .constructs) × (getD (now (table .exit)) 2036 0 ≡ chart .nodes) ⌝ }
     ensures { λ _. ⌜ (getD (now (table .exit)) 2034 0 ≡ cond (eqb (chart .region) outside) 0 (getD (now (begins .entry)) (chart .region) 0)) × (getD (now (table .exit)) 2035 0 ≡ cond (eqb (chart .region) outside) (chart .nodes - 1) (getD (now (ends .entry)) (chart .region) 0)) ⌝ }
     ensures { λ _. ⌜ Beside 2032 2037 (now (table .entry)) (now (table .exit)) ⌝ }
@@ -77,5 +78,7 @@ pub fn fill_table(s: &[u8], chart: Chart, table: &mut RegionTable)
     fill_constructs(s, chart, &begins, &ends, 3, table);
     fill_constructs(s, chart, &begins, &ends, 4, table);
     put_numbers(chart, members, &begins, &ends, table);
+    fill_children(0, table);
+    fill_children(1, table);
     fill_edges(s, chart, table);
 }

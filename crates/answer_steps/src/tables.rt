@@ -12,7 +12,7 @@ pub const BYTES: usize = 256;
 
 pub const WORDS: usize = BYTES / 64;
 
-// The table of a region: columns of the nodes, with a place for each byte, then columns of the constructs, then single numbers.
+// The table of a region: columns of the nodes, with a place for each byte, then columns of the constructs, then single numbers, then masks by construct.
 pub type RegionTable = [u64; REGION];
 
 // Four words of a node: the mask of the nodes that its edges lead to.
@@ -44,7 +44,12 @@ pub const FINISH: usize = START + 1;
 
 pub const NODES: usize = FINISH + 1;
 
-pub const REGION: usize = NODES + 1;
+// For each construct the masks of its sections, and of the region's ordereds that stand in it.
+pub const SECTIONS: usize = NODES + 1;
+
+pub const ORDEREDS: usize = SECTIONS + Chart::CONSTRUCTS;
+
+pub const REGION: usize = ORDEREDS + Chart::CONSTRUCTS;
 
 pub const BARRIER: usize = 1;
 
@@ -70,7 +75,7 @@ pub const TEAM: usize = PENDING + 1;
 
 // A number of the region's table.
 pub fn at(table: &RegionTable, place: usize) -> usize
-    requires { ⌜ (length (now table) ≡ 2037) × (place < 2037) ⌝ }
+    requires { ⌜ (length (now table) ≡ 2133) × (place < 2133) ⌝ }
     ensures { λ r. ⌜ r ≡ getD (now (table .entry)) place 0 ⌝ }
 {
     table[place] as usize
@@ -78,7 +83,7 @@ pub fn at(table: &RegionTable, place: usize) -> usize
 
 // Whether an edge leads from x to y.
 pub fn leads(table: &RegionTable, x: usize, y: usize) -> bool
-    requires { ⌜ (length (now table) ≡ 2037) × (x < 256) × (y < 256) ⌝ }
+    requires { ⌜ (length (now table) ≡ 2133) × (x < 256) × (y < 256) ⌝ }
     ensures { λ r. ⌜ r ≡ hasBit (getD (now (table .entry)) (4 * x + y / 64) 0) (y % 64) ⌝ }
 {
     has(table[WORDS * x + y / 64], y % 64)

@@ -8,17 +8,13 @@ ghost use Rattle.chart.specs.Region.{Region, ordered};
 ghost use Rattle.theory_team.specs.State.{State};
 ghost use Rattle.theory_answers.specs.Answer.{inOrderedOf, isIn};
 ghost use Rattle.theory_traces.specs.Tests.{isFirst, noneOrdered, isUntaken, isSectionOf, allTaken, mayEnter, mayPass, mayLeave};
-ghost use Rattle.answer_steps.specs.Tables.{Tabled, Shows, Sound};
-use crate::tables::BEGINS;
-use crate::tables::CONSTRUCTS;
+ghost use Rattle.answer_steps.specs.Tables.{Tabled, Shows, Sound, untakenBy, TakenIn};
 use crate::tables::INSIDES;
 use crate::tables::KINDS;
-use crate::tables::MEMBERS;
-use crate::tables::NUMBERS;
-use crate::tables::OPENS;
+use crate::tables::ORDEREDS;
 use crate::tables::PARENTS;
-use crate::tables::ROLES;
 use crate::tables::RegionTable;
+use crate::tables::SECTIONS;
 use crate::tables::THREADS;
 use crate::tables::TeamTable;
 use crate::tables::at;
@@ -27,6 +23,7 @@ use crate::tables::node_of;
 use crate::tables::taken_of;
 use chart::cursor::wide;
 use chart::format::Construct;
+use masks::bits::common;
 use masks::bits::has;
 
 // No thread has left the begin of c as often as t is about to.
@@ -45,37 +42,12 @@ fn is_first(team: &TeamTable, m: usize, t: usize, c: usize) -> bool
     true
 }
 
-// Node x is inside o, and o is an ordered of the do d.
-fn in_one(table: &RegionTable, x: usize, d: usize, o: usize) -> bool
-    requires { ⌜ ((R : Region) × Tabled R (now table) × (x < 256) × (o < getD (now table) 2033 0)) ⌝ }
-    ensures { λ r. ⌜ ((R : Region) → Tabled R (now (table .entry)) → r ≡ (isIn R ordered x o && eqb (R .parent o) d)) ⌝ }
-{
-    if at(table, KINDS + o) != wide(Construct::ORDERED) {
-        return false;
-    }
-    if at(table, PARENTS + o) != d {
-        return false;
-    }
-    if !has(table[INSIDES + x], o) {
-        return false;
-    }
-    has(table[MEMBERS], o)
-}
-
 // Node x is inside an ordered of the do d.
 fn in_ordered(table: &RegionTable, x: usize, d: usize) -> bool
-    requires { ⌜ ((R : Region) × Tabled R (now table) × (x < 256)) ⌝ }
+    requires { ⌜ ((R : Region) × Tabled R (now table) × (x < 256) × (d < 48)) ⌝ }
     ensures { λ r. ⌜ ((R : Region) → Tabled R (now (table .entry)) → r ≡ inOrderedOf R x d) ⌝ }
 {
-    let n = at(table, CONSTRUCTS);
-    let mut o = 0;
-    while o < n {
-        if in_one(table, x, d, o) {
-            return true;
-        }
-        o += 1;
-    }
-    false
+    common(table[INSIDES + x], table[ORDEREDS + d])
 }
 
 // Thread k is t, or not inside an ordered of the do d, or in another instance of d.
@@ -110,7 +82,7 @@ fn none_ordered(table: &RegionTable, team: &TeamTable, m: usize, t: usize, d: us
 // Thread t is not past the given instance of c, and has not taken the section x there.
 fn untaken_by(team: &TeamTable, c: usize, instance: u64, x: usize, t: usize) -> bool
     requires { ⌜ (length (now team) ≡ 785) × (c < 48) × (x < 48) × (t < 8) ⌝ }
-    ensures { λ r. ⌜ ((σ : State) → Shows σ (now (team .entry)) → r ≡ (leb (σ .encounters t c) instance && (not (eqb (σ .encounters t c) instance) || not (σ .taken t c x)))) ⌝ }
+    ensures { λ r. ⌜ ((σ : State) → Shows σ (now (team .entry)) → r ≡ untakenBy σ c instance x t) ⌝ }
 {
     let own = count_of(team, t, c);
     if instance < own {
@@ -137,40 +109,19 @@ pub fn is_untaken(team: &TeamTable, m: usize, c: usize, instance: u64, x: usize)
     true
 }
 
-// x is a section of the sections construct c.
-fn is_section_of(table: &RegionTable, c: usize, x: usize) -> bool
-    requires { ⌜ ((R : Region) × Tabled R (now table) × (x < getD (now table) 2033 0)) ⌝ }
-    ensures { λ r. ⌜ ((R : Region) → Tabled R (now (table .entry)) → r ≡ isSectionOf R c x) ⌝ }
+// Of the sections of c, those that thread t has taken in that instance, or in one before: all, if it is past that instance.
+fn taken_by(table: &RegionTable, team: &TeamTable, c: usize, instance: u64, t: usize) -> u64
+    requires { ⌜ Sound (now table) (now team) × (c < 48) × (t < 8) ⌝ }
+    ensures { λ r. ⌜ ((R : Region) (σ : State) → Tabled R (now (table .entry)) → Shows σ (now (team .entry)) → TakenIn R c r (λ x. untakenBy σ c instance x t)) ⌝ }
 {
-    let begin = at(table, BEGINS + x);
-    if at(table, ROLES + begin) != OPENS {
-        return false;
+    let own = count_of(team, t, c);
+    if instance < own {
+        return table[SECTIONS + c];
     }
-    if at(table, NUMBERS + begin) != x {
-        return false;
+    if own != instance {
+        return 0;
     }
-    if at(table, KINDS + x) != wide(Construct::SECTION) {
-        return false;
-    }
-    at(table, PARENTS + x) == c
-}
-
-// Where x is a section of c, it is taken in that instance.
-fn taken_if(
-    table: &RegionTable,
-    team: &TeamTable,
-    m: usize,
-    c: usize,
-    instance: u64,
-    x: usize,
-) -> bool
-    requires { ⌜ Sound (now table) (now team) × (m ≤ 8) × (c < 48) × (x < getD (now table) 2033 0) ⌝ }
-    ensures { λ r. ⌜ ((R : Region) (σ : State) → Tabled R (now (table .entry)) → Shows σ (now (team .entry)) → r ≡ (not (isSectionOf R c x) || not (isUntaken m σ c instance x))) ⌝ }
-{
-    if !is_section_of(table, c, x) {
-        return true;
-    }
-    !is_untaken(team, m, c, instance, x)
+    taken_of(team, t, c)
 }
 
 // All sections of c are taken in that instance.
@@ -178,15 +129,14 @@ fn all_taken(table: &RegionTable, team: &TeamTable, m: usize, c: usize, instance
     requires { ⌜ Sound (now table) (now team) × (m ≤ 8) × (c < 48) ⌝ }
     ensures { λ r. ⌜ ((R : Region) (σ : State) → Tabled R (now (table .entry)) → Shows σ (now (team .entry)) → r ≡ allTaken R m σ c instance) ⌝ }
 {
-    let n = at(table, CONSTRUCTS);
-    let mut x = 0;
-    while x < n {
-        if !taken_if(table, team, m, c, instance, x) {
-            return false;
-        }
-        x += 1;
+    let mut taken = 0;
+    let mut t = 0;
+    while t < m {
+        taken = taken | taken_by(table, team, c, instance, t);
+        t += 1;
     }
-    true
+    let sections = table[SECTIONS + c];
+    (taken & sections) == sections
 }
 
 // Thread t, at the begin of c, may take an edge.

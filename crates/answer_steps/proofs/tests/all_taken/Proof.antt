@@ -1,59 +1,86 @@
--- `answer_steps::tests::all_taken` meets its contract. The loop's invariant: the sections passed are taken.
+-- `answer_steps::tests::all_taken` meets its contract. The loop's invariant: the mask has what the threads passed have taken.
 -- Assumes nothing.
-use mathlib.Core.Path.{_≡_, refl, sym, _∙_}
-use mathlib.Core.Bool.{true, _||_, not}
-use Prim.Native.Nat.{_-_, _≤_}
+use mathlib.Core.Path.{_≡_, refl, _∙_, ap, sym}
+use mathlib.Core.Logic.{_⊎_, inl, inr, ⊎-elim, _↔_}
+use mathlib.Core.Bool.{Bool, true, false}
+use Prim.Native.Nat.{ℕ, _+_, _-_, _≤_}
 use native.Mathlib.Omega.{arith}
-use lib.ListN.{getD}
-use borrow.Author.Tests.{not-true, not-false}
-use Rattle.lists.specs.Range.{every}
+use lib.Bits.{bitAnd, bitOr}
+use lib.Dec.{eqb}
+use Rattle.lists.specs.Truth.{truth, clash, false-if}
+use Rattle.lists.specs.Mask.{Has, has-none, or-cases, or-left, or-right}
+use Rattle.lists.specs.Range.{every, every-at}
 use Rattle.chart.specs.Region.{Region}
 use Rattle.theory_team.specs.State.{State}
+use Rattle.theory_traces.specs.TestsLaws.{own, every-of}
 use Rattle.theory_traces.specs.Tests.{isUntaken, isSectionOf, allTaken}
-use Rattle.answer_steps.specs.Tables.{Tabled, Shows}
+use Rattle.answer_steps.specs.Tables.{Tabled, Shows, untakenBy, TakenIn}
 use Rattle.answer_steps.proofs.Laws.{every-more, every-fails}
+use Rattle.answer_steps.proofs.Sorts.{all-covered}
 use Rattle.answer_steps.proofs.tests.all_taken.Statement.{statement}
 use Rattle.answer_steps.proofs.tests.all_taken.Tie as tie
 
 abbrev Inv-loop : tie.InvT-loop
-Inv-loop table team m c instance n x₀ x =
-    (x ≤ n) × (n ≡ getD table 2033 0) × ((R : Region) (σ : State) → Tabled R table → Shows σ team → every x (λ j. not (isSectionOf R c j) || not (isUntaken m σ c instance j)) ≡ true)
+Inv-loop table team m c instance taken₀ t₀ taken t =
+    (t ≤ m) × ((R : Region) (σ : State) → Tabled R table → Shows σ team → TakenIn R c taken (λ x. every t (untakenBy σ c instance x)))
 
 abbrev μ-loop : tie.MeasureT-loop
-μ-loop table team m c instance n x₀ x = n - x
+μ-loop table team m c instance taken₀ t₀ taken t = m - t
 
-at-requires : tie.Need-at-requires Inv-loop μ-loop
-at-requires c κs = (c .pre .0 .tabled .long, omega arith)
+-- one thread more
+more : (f : ℕ → Bool) (n a b x : ℕ) → Has a x ↔ (every n f ≡ false) → Has b x ↔ (f n ≡ false) → Has (bitOr a b) x ↔ (every (n + 1) f ≡ false)
+more f n a b x p q = (
+  (λ h. ⊎-elim (λ g. false-if (λ e. clash (at-every-before e) (p .0 g))) (λ g. every-fails (n + 1) f n (omega arith) (q .0 g)) (or-cases a b x h)),
+  λ h. go h (truth (every n f)) (truth (f n)),
+)
+  where
+    at-every-before : every (n + 1) f ≡ true → every n f ≡ true
+    at-every-before e = every-of n (λ k. own (f k)) .1 (λ k l. every-at (n + 1) f e k (omega arith))
+
+    go : every (n + 1) f ≡ false → (every n f ≡ true) ⊎ (every n f ≡ false) → (f n ≡ true) ⊎ (f n ≡ false) → Has (bitOr a b) x
+    go h (inr g) t = or-left a b x (p .1 g)
+    go h (inl g) (inr t) = or-right a b x (q .1 t)
+    go h (inl g) (inl t) = absurd (clash (every-more n f g t) h)
 
 loop-holds : tie.Need-loop-holds Inv-loop μ-loop
 unfolding every
-loop-holds c = (omega arith, c .at .ensures, λ R σ T S. refl)
+loop-holds c = (omega arith, λ R σ T S x l h. ((λ g. absurd (has-none x g)), λ g. absurd (clash refl g)))
 
-taken-if-requires : tie.Need-taken-if-requires Inv-loop μ-loop
-taken-if-requires c κs = (c .before .before .before .pre .0, c .before .before .before .pre .1, c .before .before .before .pre .2, omega (arith, c .before .loop .inv .1))
+taken-by-requires : tie.Need-taken-by-requires Inv-loop μ-loop
+taken-by-requires c κs = (c .before .before .pre .0, c .before .before .pre .2, omega (arith, c .before .before .pre .1))
 
-returns : tie.Need-returns Inv-loop μ-loop
-unfolding allTaken
-returns c = λ R σ T S. sym (every-fails (R .constructs) _ (c .before .before .before .loop .x) (omega (arith, c .before .before .before .loop .inv .1, T .constructs)) (sym (c .before .taken-if .ensures R σ T S) ∙ not-true _ (c .if1 .taken)))
-
-add-x : tie.Need-add-x Inv-loop μ-loop
-add-x c = omega arith
+add-t : tie.Need-add-t Inv-loop μ-loop
+add-t c = omega arith
 
 loop-less : tie.Need-loop-less Inv-loop μ-loop
 loop-less c = omega arith
 
 loop-again : tie.Need-loop-again Inv-loop μ-loop
 loop-again c =
-    let l = c .before .before .before in
-    (omega arith, l .loop .inv .1, λ R σ T S. every-more (l .loop .x) _ (l .loop .inv .2 R σ T S) (sym (c .before .taken-if .ensures R σ T S) ∙ not-false _ (c .if1 .left)))
+    let a = c .before .before .before in
+    let l = c .before .before in (
+      omega arith,
+      λ R σ T S x k h. more (untakenBy σ (a .args .c) (a .args .instance) x) (l .loop .t) (l .loop .taken) (c .taken-by .result) x (l .loop .inv .1 R σ T S x k h) (c .taken-by .ensures R σ T S x k h),
+    )
 
-returns-2 : tie.Need-returns-2 Inv-loop μ-loop
-unfolding allTaken
-returns-2 c =
+add-sections : tie.Need-add-sections Inv-loop μ-loop
+add-sections c = omega (arith, c .before .before .pre .2)
+
+mul-sections : tie.Need-mul-sections Inv-loop μ-loop
+mul-sections c = omega (arith, c .before .before .pre .2)
+
+element-copy-out-sections : tie.Need-element-copy-out-sections Inv-loop μ-loop
+element-copy-out-sections c = omega (arith, c .before .before .pre .2, c .before .before .pre .0 .tabled .long)
+
+returns : tie.Need-returns Inv-loop μ-loop
+unfolding allTaken isUntaken
+returns c =
     λ R σ T S.
-    let l = c .before in
-    let q : l .loop .x ≡ R .constructs = omega (arith, l .loop .inv .1, T .constructs) in
-    sym (rw q at (l .loop .inv .2 R σ T S))
+    let a = c .before .before .before in
+    let l = c .before .before in
+    let q : l .loop .t ≡ a .args .m = omega arith in
+    ap (λ (w : ℕ). eqb (bitAnd (l .loop .taken) w) w) (T .sections (a .args .c) (a .pre .2))
+    ∙ all-covered (l .loop .taken) (isSectionOf R (a .args .c)) (R .constructs) (λ x. every (a .args .m) (untakenBy σ (a .args .c) (a .args .instance) x)) (rw q at (l .loop .inv .1 R σ T S))
 
 pub all-taken-spec : {M : Type 1} → statement M
 all-taken-spec =
@@ -61,11 +88,12 @@ all-taken-spec =
     (tie.spec
     Inv-loop
     μ-loop
-    at-requires
     loop-holds
-    taken-if-requires
-    returns
-    add-x
+    taken-by-requires
+    add-t
     loop-less
     loop-again
-    returns-2)
+    add-sections
+    mul-sections
+    element-copy-out-sections
+    returns)

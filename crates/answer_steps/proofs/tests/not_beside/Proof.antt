@@ -20,7 +20,7 @@ node-of-requires c κs = search needs
 in-ordered-requires : tie.Need-in-ordered-requires
 in-ordered-requires c κs =
     let a = c .before .before in
-    (a .pre .0 .region, a .pre .0 .tabled, omega (arith, c .node-of .ensures, a .pre .0 .shows .byte (a .args .k) (a .pre .3)))
+    (a .pre .0 .region, a .pre .0 .tabled, omega (arith, c .node-of .ensures, a .pre .0 .shows .byte (a .args .k) (a .pre .3)), a .pre .2)
 
 returns-2 : tie.Need-returns-2
 returns-2 c =
