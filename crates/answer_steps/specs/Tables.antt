@@ -4,7 +4,7 @@ use mathlib.Core.Path.{_≡_}
 use mathlib.Core.Logic.{_↔_}
 use mathlib.Core.Bool.{Bool, true, false, _&&_, _||_, not, cond}
 use mathlib.Core.List.{List}
-use Prim.Native.Nat.{ℕ, _+_, _*_, _/_, _%_, _≤_, _<_}
+use Prim.Native.Nat.{ℕ, _+_, _*_, _/_, _%_, _^_, _≤_, _<_}
 use lib.Dec.{leb, eqb}
 use lib.ListN.{length, getD}
 use Rattle.lists.specs.Bits.{has}
@@ -12,7 +12,9 @@ use Rattle.lists.specs.Mask.{Has, maskOf}
 use Rattle.chart.specs.Region.{Role, plain, barrier, opens, closes, ordered, Region}
 use Rattle.chart.specs.Scope.{orderedByte, kindOf}
 use Rattle.theory_team.specs.State.{State}
+use Rattle.theory_answers.specs.Answer.{inOrderedOf}
 use Rattle.theory_traces.specs.Tests.{isKind, isSectionOf}
+use Rattle.theory_traces.specs.Decide.{taking}
 use Rattle.theory_traces.specs.declared.Effect.{Effect}
 use Rattle.theory_traces.specs.declared.Effect.the-variants.{None, Moves, Leaves, Takes, TakesNext}
 
@@ -20,10 +22,14 @@ use Rattle.theory_traces.specs.declared.Effect.the-variants.{None, Moves, Leave
 unfoldable pub roleBy : ℕ → ℕ → Role
 roleBy code number = cond (eqb code 1) barrier (cond (eqb code 2) (opens number) (cond (eqb code 3) (closes number) plain))
 
+-- The masks of the nodes that edges lead to, in the first words of a table.
+abbrev pub Leads : (ℕ → ℕ → Bool) → List ℕ → Type 0
+Leads edge table = (x y : ℕ) → x < 256 → y < 256 → edge x y ≡ has (getD table (4 * x + y / 64) 0) (y % 64)
+
 -- The table of a region. Nodes and threads come as bytes.
 pub record Tabled (R : Region) (table : List ℕ) : Type 0 where
   pub long : length table ≡ 2133
-  pub edge : (x y : ℕ) → x < 256 → y < 256 → R .edge x y ≡ has (getD table (4 * x + y / 64) 0) (y % 64)
+  pub edge : Leads (R .edge) table
   pub role : (x : ℕ) → x < 256 → R .role x ≡ roleBy (getD table (1024 + x) 0) (getD table (1280 + x) 0)
   pub number : (x : ℕ) → x < 256 → 2 ≤ getD table (1024 + x) 0 → getD table (1280 + x) 0 < R .constructs
   pub numbers : (x : ℕ) → x < 256 → getD table (1280 + x) 0 < 48
@@ -49,11 +55,14 @@ pub record Tabled (R : Region) (table : List ℕ) : Type 0 where
 
 -- The table of a team.
 pub record Shows (σ : State) (team : List ℕ) : Type 0 where
-  pub long : length team ≡ 785
+  pub long : length team ≡ 786
   pub node : (t : ℕ) → t < 8 → getD team (97 * t) 0 ≡ σ .node t
   pub byte : (t : ℕ) → t < 8 → getD team (97 * t) 0 < 256
   pub count : (t c : ℕ) → t < 8 → c < 48 → getD team (97 * t + 1 + c) 0 ≡ σ .encounters t c
   pub taken : (t c : ℕ) → t < 8 → c < 48 → getD team (97 * t + 49 + c) 0 ≡ maskOf (σ .taken t c) 48
+  -- the constructs that a release sets back: of any other nothing is counted and nothing taken
+  pub left : getD team 785 0 < 2 ^ 48
+  pub others : (t c : ℕ) → t < 8 → c < 48 → (Has (getD team 785 0) c → ⊥) → (getD team (97 * t + 1 + c) 0 ≡ 0) × (getD team (97 * t + 49 + c) 0 ≡ 0)
 
 -- Some region and some state have these tables, and no count is so large that one more could not be held.
 pub record Sound (table team : List ℕ) : Type 0 where
@@ -62,6 +71,18 @@ pub record Sound (table team : List ℕ) : Type 0 where
   pub tabled : Tabled region table
   pub shows : Shows state team
   pub low : (t c : ℕ) → t < 8 → c < 48 → getD team (97 * t + 1 + c) 0 + 1 < 18446744073709551616
+
+-- What holds of every region and every state that have these tables.
+abbrev pub OfStates : List ℕ → List ℕ → (Region → State → Type 0) → Type 0
+OfStates table team X = (R : Region) (σ : State) → Tabled R table → Shows σ team → X R σ
+
+-- Thread k is t, or not inside an ordered of the do d, or in another instance of d.
+abbrev pub notBeside : Region → State → ℕ → ℕ → ℕ → Bool
+notBeside R σ t d k = eqb k t || (not (inOrderedOf R (σ .node k) d) || not (eqb (σ .encounters k d) (σ .encounters t d)))
+
+-- Whether a step from c to v takes the section x.
+abbrev pub TakesBy : Region → ℕ → State → ℕ → ℕ → ℕ → ℕ → Bool → Type 0
+TakesBy R m σ c k v x r = (effect : ℕ → Effect) → taking R m σ c k effect (R .role v) ≡ cond r (effect x) None
 
 -- Thread t is not past the k-th instance of c, and has not taken the section x there.
 abbrev pub untakenBy : State → ℕ → ℕ → ℕ → ℕ → Bool

@@ -10,7 +10,7 @@ use lib.ListN.{length, getD}
 use Rattle.lists.specs.Bits.{has}
 use Rattle.lists.specs.Mask.{Mask, maskOf}
 use Rattle.lists.specs.Range.{any}
-use Rattle.chart.specs.Format.{Decoded, nodeAt, constructAt}
+use Rattle.chart.specs.Format.{outside, Decoded, nodeAt, constructAt}
 use Rattle.chart.specs.Scope.{Encloses, parentOf}
 use Rattle.chart.specs.Reading.{insideAt}
 
@@ -41,6 +41,14 @@ unfoldable pub constructWord : Decoded → List ℕ → List ℕ → ℕ → ℕ
 constructWord D begins ends which c =
     let construct = constructAt (D .constructs) c in
     cond (eqb which 0) (construct .kind) (cond (eqb which 1) (construct .parent) (cond (eqb which 2) (construct .filter) (cond (eqb which 3) (getD begins c 0) (getD ends c 0))))
+
+-- All entries are nodes.
+abbrev pub Nodes : List ℕ → Type 0
+Nodes l = (k : ℕ) → getD l k 0 < 192
+
+-- The barrier at which the team of region p begins or ends: of the outermost region `outer`, of a parallel's region its frame.
+abbrev pub frameAt : ℕ → ℕ → List ℕ → ℕ
+frameAt p outer frames = cond (eqb p outside) outer (getD frames p 0)
 
 -- For each of the first n constructs, those around it and itself.
 pub record Above (D : Decoded) (n : ℕ) (above : List ℕ) : Type 0 where

@@ -6,7 +6,7 @@ ghost use Rattle.lists.specs.Bits.{has as hasBit};
 ghost use Rattle.chart.specs.Format.{decode};
 ghost use Rattle.chart.specs.Scope.{liesAt};
 ghost use Rattle.mark_tables.specs.Tables.{Accepted};
-ghost use Rattle.answer_steps.specs.Words.{Column, roleCode, nodeWord, constructWord, Above};
+ghost use Rattle.answer_steps.specs.Words.{Column, roleCode, nodeWord, constructWord, Nodes, Above};
 use crate::tables::BYTES;
 use crate::tables::KINDS;
 use crate::tables::ROLES;
@@ -128,7 +128,7 @@ fn construct_word(
     which: usize,
     c: usize,
 ) -> u64
-    requires { ⌜ Accepted (now s) chart × (c < chart .constructs) × ((k : ℕ) → getD (now begins) k 0 < 192) × ((k : ℕ) → getD (now ends) k 0 < 192) ⌝ }
+    requires { ⌜ Accepted (now s) chart × (c < chart .constructs) × Nodes (now begins) × Nodes (now ends) ⌝ }
     ensures { λ r. ⌜ r ≡ constructWord (decode (now (s .entry))) (now (begins .entry)) (now (ends .entry)) which c ⌝ }
 {
     let construct = Construct::read(s, chart, c);
@@ -156,8 +156,10 @@ pub fn fill_constructs(
     which: usize,
     table: &mut RegionTable,
 )
-    requires { ⌜ Accepted (now s) chart × (which < 5) × (length (now table) ≡ 2133) × ((k : ℕ) → getD (now begins) k 0 < 192) × ((k : ℕ) → getD (now ends) k 0 < 192) ⌝ }
-    ensures { λ _. ⌜ Column (1792 + 48 * which) (chart .constructs) (constructWord (decode (now (s .entry))) (now (begins .entry)) (now (ends .entry)) which) (now (table .entry)) (now (table .exit)) ⌝ }
+    requires { ⌜ Accepted (now s) chart × (which < 5) × (length (now table) ≡ 2133) × Nodes (now begins) × Nodes (now ends) ⌝ }
+    ensures { λ _.
+        let word = constructWord (decode (now (s .entry))) (now (begins .entry)) (now (ends .entry)) which in
+        ⌜ Column (1792 + 48 * which) (chart .constructs) word (now (table .entry)) (now (table .exit)) ⌝ }
 {
     let n = chart.constructs;
     let mut c = 0;

@@ -11,7 +11,7 @@ ghost use Rattle.theory_traces.specs.Tests.{isKind, mayEnter, mayPass, mayLeave
 ghost use Rattle.theory_traces.specs.Decide.{taking, fromBegin, fromEnd, decide};
 ghost use Rattle.theory_traces.specs.declared.Effect.{Effect as Effect·Effect};
 ghost use Rattle.theory_traces.specs.declared.Effect.the-variants.{None};
-ghost use Rattle.answer_steps.specs.Tables.{Tabled, Shows, Sound, Numbered};
+ghost use Rattle.answer_steps.specs.Tables.{Tabled, Sound, OfStates, TakesBy, Numbered};
 use crate::tables::BARRIER;
 use crate::tables::BEGINS;
 use crate::tables::CLOSES;
@@ -38,7 +38,7 @@ use theory_traces::Effect;
 // A step from the begin or the end of c to v takes the section that v begins.
 fn takes(table: &RegionTable, team: &TeamTable, m: usize, c: usize, instance: u64, v: usize) -> bool
     requires { ⌜ Sound (now table) (now team) × (m ≤ 8) × (c < getD (now table) 2033 0) × (v < 256) ⌝ }
-    ensures { λ r. ⌜ ((R : Region) (σ : State) → Tabled R (now (table .entry)) → Shows σ (now (team .entry)) → (effect : ℕ → Effect·Effect) → taking R m σ c instance effect (R .role v) ≡ cond r (effect (getD (now (table .entry)) (1280 + v) 0)) None) ⌝ }
+    ensures { λ r. ⌜ OfStates (now (table .entry)) (now (team .entry)) (λ R σ. TakesBy R m σ c instance v (getD (now (table .entry)) (1280 + v) 0) r) ⌝ }
 {
     if at(table, ROLES + v) != OPENS {
         return false;
@@ -67,7 +67,7 @@ fn goes(
     begin: bool,
 ) -> bool
     requires { ⌜ Sound (now table) (now team) × (m ≤ 8) × (t < 8) × (v < 256) × (c < getD (now table) 2033 0) ⌝ }
-    ensures { λ r. ⌜ ((R : Region) (σ : State) → Tabled R (now (table .entry)) → Shows σ (now (team .entry)) → r ≡ (R .edge (σ .node t) v && cond begin (mayEnter R m σ t c (R .kind c)) (mayLeave R m σ t c))) ⌝ }
+    ensures { λ r. ⌜ OfStates (now (table .entry)) (now (team .entry)) (λ R σ. r ≡ (R .edge (σ .node t) v && cond begin (mayEnter R m σ t c (R .kind c)) (mayLeave R m σ t c))) ⌝ }
 {
     if !leads(table, node_of(team, t), v) {
         return false;
@@ -81,7 +81,7 @@ fn goes(
 // v is the end of c, and the begin may be left for it.
 fn passes(table: &RegionTable, team: &TeamTable, m: usize, t: usize, v: usize, c: usize) -> bool
     requires { ⌜ Sound (now table) (now team) × (m ≤ 8) × (t < 8) × (v < 256) × (c < getD (now table) 2033 0) ⌝ }
-    ensures { λ r. ⌜ ((R : Region) (σ : State) → Tabled R (now (table .entry)) → Shows σ (now (team .entry)) → r ≡ (eqb v (R .end c) && mayPass R m σ t c (R .kind c))) ⌝ }
+    ensures { λ r. ⌜ OfStates (now (table .entry)) (now (team .entry)) (λ R σ. r ≡ (eqb v (R .end c) && mayPass R m σ t c (R .kind c))) ⌝ }
 {
     if v != at(table, ENDS + c) {
         return false;
@@ -109,7 +109,7 @@ fn from_begin(
     c: usize,
 ) -> Effect
     requires { ⌜ Sound (now table) (now team) × (m ≤ 8) × (t < 8) × (v < 256) × (c < getD (now table) 2033 0) ⌝ }
-    ensures { λ r. ⌜ ((R : Region) (σ : State) → Tabled R (now (table .entry)) → Shows σ (now (team .entry)) → r ≡ fromBegin R m σ t v c) ⌝ }
+    ensures { λ r. ⌜ OfStates (now (table .entry)) (now (team .entry)) (λ R σ. r ≡ fromBegin R m σ t v c) ⌝ }
     ensures { λ r. ⌜ Numbered r ⌝ }
 {
     if goes(table, team, m, t, v, c, true) {
@@ -126,7 +126,7 @@ fn from_begin(
 
 fn from_end(table: &RegionTable, team: &TeamTable, m: usize, t: usize, v: usize, c: usize) -> Effect
     requires { ⌜ Sound (now table) (now team) × (m ≤ 8) × (t < 8) × (v < 256) × (c < getD (now table) 2033 0) ⌝ }
-    ensures { λ r. ⌜ ((R : Region) (σ : State) → Tabled R (now (table .entry)) → Shows σ (now (team .entry)) → r ≡ fromEnd R m σ t v c) ⌝ }
+    ensures { λ r. ⌜ OfStates (now (table .entry)) (now (team .entry)) (λ R σ. r ≡ fromEnd R m σ t v c) ⌝ }
     ensures { λ r. ⌜ Numbered r ⌝ }
 {
     if goes(table, team, m, t, v, c, false) {
@@ -144,7 +144,7 @@ fn from_end(table: &RegionTable, team: &TeamTable, m: usize, t: usize, v: usize,
 // What a step of thread t to v does. No thread leaves a barrier by itself.
 pub fn decide(table: &RegionTable, team: &TeamTable, m: usize, t: usize, v: usize) -> Effect
     requires { ⌜ Sound (now table) (now team) × (m ≤ 8) × (v < 256) ⌝ }
-    ensures { λ r. ⌜ ((R : Region) (σ : State) → Tabled R (now (table .entry)) → Shows σ (now (team .entry)) → r ≡ decide R m σ t v) ⌝ }
+    ensures { λ r. ⌜ OfStates (now (table .entry)) (now (team .entry)) (λ R σ. r ≡ decide R m σ t v) ⌝ }
     ensures { λ r. ⌜ Numbered r ⌝ }
 {
     if m <= t {

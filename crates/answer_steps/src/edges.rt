@@ -1,12 +1,12 @@
 // The edges, as masks of the nodes that they lead to.
 ghost use mathlib.Core.Path.{_≡_};
-ghost use Prim.Native.Nat.{ℕ, _+_, _*_, _/_, _%_, _≤_, _<_};
+ghost use Prim.Native.Nat.{ℕ, _≤_, _<_};
 ghost use lib.ListN.{length, getD};
-ghost use Rattle.lists.specs.Bits.{has as hasBit};
 ghost use Rattle.chart.specs.Checked.{reading};
 ghost use Rattle.search.specs.Parts.{row};
 ghost use Rattle.mark_tables.specs.Tables.{Accepted};
-ghost use Rattle.answer_steps.specs.Words.{Beside, Marked};
+ghost use Rattle.answer_steps.specs.Tables.{Leads};
+ghost use Rattle.answer_steps.specs.Words.{Beside, Nodes, Marked};
 use crate::tables::RegionTable;
 use crate::tables::WORDS;
 use chart::cursor::wide;
@@ -17,7 +17,7 @@ use search::edges::Parts;
 
 // Each of the first n edges, marked.
 fn mark_edges(edges: &[[u8; Chart::EDGES]; Parts::ROWS], n: usize, table: &mut RegionTable)
-    requires { ⌜ (n ≤ 1024) × (length (now edges) ≡ 6) × (length (now table) ≡ 2133) × ((j : ℕ) → getD (row (now edges) 0) j 0 < 192) × ((j : ℕ) → getD (row (now edges) 1) j 0 < 192) ⌝ }
+    requires { ⌜ (n ≤ 1024) × (length (now edges) ≡ 6) × (length (now table) ≡ 2133) × Nodes (row (now edges) 0) × Nodes (row (now edges) 1) ⌝ }
     requires { ⌜ ((j : ℕ) → j < 1024 → getD (now table) j 0 ≡ 0) ⌝ }
     ensures { λ _. ⌜ Marked (row (now (edges .entry)) 0) (row (now (edges .entry)) 1) n (now (table .exit)) × Beside 0 1024 (now (table .entry)) (now (table .exit)) ⌝ }
 {
@@ -35,7 +35,7 @@ fn mark_edges(edges: &[[u8; Chart::EDGES]; Parts::ROWS], n: usize, table: &mut R
 pub fn fill_edges(s: &[u8], chart: Chart, table: &mut RegionTable)
     requires { ⌜ Accepted (now s) chart × (length (now table) ≡ 2133) ⌝ }
     requires { ⌜ ((j : ℕ) → j < 1024 → getD (now table) j 0 ≡ 0) ⌝ }
-    ensures { λ _. ⌜ ((x y : ℕ) → x < 256 → y < 256 → reading (now (s .entry)) chart .edge x y ≡ hasBit (getD (now (table .exit)) (4 * x + y / 64) 0) (y % 64)) × Beside 0 1024 (now (table .entry)) (now (table .exit)) ⌝ }
+    ensures { λ _. ⌜ Leads (reading (now (s .entry)) chart .edge) (now (table .exit)) × Beside 0 1024 (now (table .entry)) (now (table .exit)) ⌝ }
 {
     let mut edges = [[0u8; Chart::EDGES]; Parts::ROWS];
     let stops = [0u8; Chart::NODES];

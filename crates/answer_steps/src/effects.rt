@@ -6,6 +6,7 @@ ghost use Rattle.theory_team.specs.State.{State, moved, left, took};
 ghost use Rattle.theory_traces.specs.Decide.{apply};
 ghost use Rattle.answer_steps.specs.Tables.{Shows, Numbered};
 use crate::tables::COUNTS;
+use crate::tables::LEFT;
 use crate::tables::TAKEN;
 use crate::tables::THREAD;
 use crate::tables::TeamTable;
@@ -14,7 +15,7 @@ use theory_traces::Effect;
 
 // Thread t has gone to v.
 fn move_to(team: &mut TeamTable, t: usize, v: usize)
-    requires { ⌜ (length (now team) ≡ 785) × (t < 8) × (v < 256) ⌝ }
+    requires { ⌜ (length (now team) ≡ 786) × (t < 8) × (v < 256) ⌝ }
     ensures { λ _. ⌜ ((σ : State) → Shows σ (now (team .entry)) → Shows (moved σ t v) (now (team .exit))) ⌝ }
 {
     team[THREAD * t] = v as u64;
@@ -22,9 +23,10 @@ fn move_to(team: &mut TeamTable, t: usize, v: usize)
 
 // Thread t has left the begin of c and gone to v.
 fn leave(team: &mut TeamTable, t: usize, c: usize, v: usize)
-    requires { ⌜ (length (now team) ≡ 785) × (t < 8) × (c < 48) × (v < 256) × (getD (now team) (97 * t + 1 + c) 0 + 1 < 18446744073709551616) ⌝ }
+    requires { ⌜ (length (now team) ≡ 786) × (t < 8) × (c < 48) × (v < 256) × (getD (now team) (97 * t + 1 + c) 0 + 1 < 18446744073709551616) ⌝ }
     ensures { λ _. ⌜ ((σ : State) → Shows σ (now (team .entry)) → Shows (left σ t c v) (now (team .exit))) ⌝ }
 {
+    team[LEFT] = bit(c) | team[LEFT];
     team[THREAD * t] = v as u64;
     team[THREAD * t + COUNTS + c] += 1;
     team[THREAD * t + TAKEN + c] = 0;
@@ -32,9 +34,10 @@ fn leave(team: &mut TeamTable, t: usize, c: usize, v: usize)
 
 // Thread t has taken the section x of c.
 fn take_section(team: &mut TeamTable, t: usize, c: usize, x: usize)
-    requires { ⌜ (length (now team) ≡ 785) × (t < 8) × (c < 48) × (x < 48) ⌝ }
+    requires { ⌜ (length (now team) ≡ 786) × (t < 8) × (c < 48) × (x < 48) ⌝ }
     ensures { λ _. ⌜ ((σ : State) → Shows σ (now (team .entry)) → Shows (took σ t c x) (now (team .exit))) ⌝ }
 {
+    team[LEFT] = bit(c) | team[LEFT];
     team[THREAD * t + TAKEN + c] = bit(x) | team[THREAD * t + TAKEN + c];
 }
 

@@ -1,14 +1,12 @@
 // The whole table.
 ghost use mathlib.Core.Path.{_≡_};
-ghost use mathlib.Core.Bool.{cond};
-ghost use Prim.Native.Nat.{ℕ, _-_, _≤_, _<_};
-ghost use lib.Dec.{eqb};
+ghost use Prim.Native.Nat.{_-_, _≤_, _<_};
 ghost use lib.ListN.{length, getD};
 ghost use Rattle.chart.specs.Format.{outside};
 ghost use Rattle.chart.specs.Checked.{reading};
 ghost use Rattle.mark_tables.specs.Tables.{Accepted};
 ghost use Rattle.answer_steps.specs.Tables.{Tabled};
-ghost use Rattle.answer_steps.specs.Words.{Beside};
+ghost use Rattle.answer_steps.specs.Words.{Nodes, frameAt, Beside};
 use crate::children::fill_children;
 use crate::columns::fill_above;
 use crate::columns::fill_constructs;
@@ -27,8 +25,8 @@ use mark_tables::load::frames;
 
 // A barrier at which the team begins or ends: of the outermost region `outer`, of a parallel's region its frame.
 fn frame_of(chart: Chart, outer: usize, frames: &[u8; Chart::BARRIERS]) -> u64
-    requires { ⌜ ((chart .region ≡ outside → ⊥) → chart .region < 64) × ((k : ℕ) → getD (now frames) k 0 < 192) ⌝ }
-    ensures { λ r. ⌜ r ≡ cond (eqb (chart .region) outside) outer (getD (now (frames .entry)) (chart .region) 0) ⌝ }
+    requires { ⌜ ((chart .region ≡ outside → ⊥) → chart .region < 64) × Nodes (now frames) ⌝ }
+    ensures { λ r. ⌜ r ≡ frameAt (chart .region) outer (now (frames .entry)) ⌝ }
 {
     let region = chart.region;
     if region == Chart::OUTERMOST {
@@ -45,9 +43,12 @@ fn put_numbers(
     ends: &[u8; Chart::BARRIERS],
     table: &mut RegionTable,
 )
-    requires { ⌜ (1 ≤ chart .nodes) × ((chart .region ≡ outside → ⊥) → chart .region < 64) × (length (now table) ≡ 2133) × ((k : ℕ) → getD (now begins) k 0 < 192) × ((k : ℕ) → getD (now ends) k 0 < 192) ⌝ }
+    requires { ⌜ (1 ≤ chart .nodes) × ((chart .region ≡ outside → ⊥) → chart .region < 64) × (length (now table) ≡ 2133) × Nodes (now begins) × Nodes (now ends) ⌝ }
     ensures { λ _. ⌜ (getD (now (table .exit)) 2032 0 ≡ members) × (getD (now (table .exit)) 2033 0 ≡ chart .constructs) × (getD (now (table .exit)) 2036 0 ≡ chart .nodes) ⌝ }
-    ensures { λ _. ⌜ (getD (now (table .exit)) 2034 0 ≡ cond (eqb (chart .region) outside) 0 (getD (now (begins .entry)) (chart .region) 0)) × (getD (now (table .exit)) 2035 0 ≡ cond (eqb (chart .region) outside) (chart .nodes - 1) (getD (now (ends .entry)) (chart .region) 0)) ⌝ }
+    ensures { λ _.
+        let start = frameAt (chart .region) 0 (now (begins .entry)) in
+        let finish = frameAt (chart .region) (chart .nodes - 1) (now (ends .entry)) in
+        ⌜ (getD (now (table .exit)) 2034 0 ≡ start) × (getD (now (table .exit)) 2035 0 ≡ finish) ⌝ }
     ensures { λ _. ⌜ Beside 2032 2037 (now (table .entry)) (now (table .exit)) ⌝ }
 {
     table[MEMBERS] = members;

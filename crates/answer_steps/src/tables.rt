@@ -58,7 +58,7 @@ pub const OPENS: usize = 2;
 pub const CLOSES: usize = 3;
 
 // The table of a team: for each thread its node, its counts and the masks of the sections that it has taken; then the nodes chosen for a release
-// that is not yet whole, and how many they are.
+// that is not yet whole, how many they are, and what a release sets back.
 pub type TeamTable = [u64; TEAM];
 
 pub const COUNTS: usize = 1;
@@ -71,7 +71,10 @@ pub const CHOSEN: usize = Thread::MOST * THREAD;
 
 pub const PENDING: usize = CHOSEN + Thread::MOST;
 
-pub const TEAM: usize = PENDING + 1;
+// The mask of the constructs of which some thread has a count, or sections taken.
+pub const LEFT: usize = PENDING + 1;
+
+pub const TEAM: usize = LEFT + 1;
 
 // A number of the region's table.
 pub fn at(table: &RegionTable, place: usize) -> usize
@@ -91,7 +94,7 @@ pub fn leads(table: &RegionTable, x: usize, y: usize) -> bool
 
 // The node of a thread.
 pub fn node_of(team: &TeamTable, t: usize) -> usize
-    requires { ⌜ (length (now team) ≡ 785) × (t < 8) ⌝ }
+    requires { ⌜ (length (now team) ≡ 786) × (t < 8) ⌝ }
     ensures { λ r. ⌜ r ≡ getD (now (team .entry)) (97 * t) 0 ⌝ }
 {
     team[THREAD * t] as usize
@@ -99,7 +102,7 @@ pub fn node_of(team: &TeamTable, t: usize) -> usize
 
 // How often it has left the begin of c.
 pub fn count_of(team: &TeamTable, t: usize, c: usize) -> u64
-    requires { ⌜ (length (now team) ≡ 785) × (t < 8) × (c < 48) ⌝ }
+    requires { ⌜ (length (now team) ≡ 786) × (t < 8) × (c < 48) ⌝ }
     ensures { λ r. ⌜ r ≡ getD (now (team .entry)) (97 * t + 1 + c) 0 ⌝ }
 {
     team[THREAD * t + COUNTS + c]
@@ -107,7 +110,7 @@ pub fn count_of(team: &TeamTable, t: usize, c: usize) -> u64
 
 // The sections that it has taken of c.
 pub fn taken_of(team: &TeamTable, t: usize, c: usize) -> u64
-    requires { ⌜ (length (now team) ≡ 785) × (t < 8) × (c < 48) ⌝ }
+    requires { ⌜ (length (now team) ≡ 786) × (t < 8) × (c < 48) ⌝ }
     ensures { λ r. ⌜ r ≡ getD (now (team .entry)) (97 * t + 49 + c) 0 ⌝ }
 {
     team[THREAD * t + TAKEN + c]

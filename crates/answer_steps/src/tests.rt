@@ -8,7 +8,7 @@ ghost use Rattle.chart.specs.Region.{Region, ordered};
 ghost use Rattle.theory_team.specs.State.{State};
 ghost use Rattle.theory_answers.specs.Answer.{inOrderedOf, isIn};
 ghost use Rattle.theory_traces.specs.Tests.{isFirst, noneOrdered, isUntaken, isSectionOf, allTaken, mayEnter, mayPass, mayLeave};
-ghost use Rattle.answer_steps.specs.Tables.{Tabled, Shows, Sound, untakenBy, TakenIn};
+ghost use Rattle.answer_steps.specs.Tables.{Tabled, Shows, Sound, OfStates, notBeside, untakenBy, TakenIn};
 use crate::tables::INSIDES;
 use crate::tables::KINDS;
 use crate::tables::ORDEREDS;
@@ -28,7 +28,7 @@ use masks::bits::has;
 
 // No thread has left the begin of c as often as t is about to.
 fn is_first(team: &TeamTable, m: usize, t: usize, c: usize) -> bool
-    requires { ⌜ (length (now team) ≡ 785) × (m ≤ 8) × (t < 8) × (c < 48) ⌝ }
+    requires { ⌜ (length (now team) ≡ 786) × (m ≤ 8) × (t < 8) × (c < 48) ⌝ }
     ensures { λ r. ⌜ ((σ : State) → Shows σ (now (team .entry)) → r ≡ isFirst m σ t c) ⌝ }
 {
     let own = count_of(team, t, c);
@@ -53,7 +53,7 @@ fn in_ordered(table: &RegionTable, x: usize, d: usize) -> bool
 // Thread k is t, or not inside an ordered of the do d, or in another instance of d.
 fn not_beside(table: &RegionTable, team: &TeamTable, t: usize, d: usize, k: usize) -> bool
     requires { ⌜ Sound (now table) (now team) × (t < 8) × (d < 48) × (k < 8) ⌝ }
-    ensures { λ r. ⌜ ((R : Region) (σ : State) → Tabled R (now (table .entry)) → Shows σ (now (team .entry)) → r ≡ (eqb k t || (not (inOrderedOf R (σ .node k) d) || not (eqb (σ .encounters k d) (σ .encounters t d))))) ⌝ }
+    ensures { λ r. ⌜ OfStates (now (table .entry)) (now (team .entry)) (λ R σ. r ≡ notBeside R σ t d k) ⌝ }
 {
     if k == t {
         return true;
@@ -67,7 +67,7 @@ fn not_beside(table: &RegionTable, team: &TeamTable, t: usize, d: usize, k: usiz
 // No thread but t is inside an ordered of the do d in the same instance of d.
 fn none_ordered(table: &RegionTable, team: &TeamTable, m: usize, t: usize, d: usize) -> bool
     requires { ⌜ Sound (now table) (now team) × (m ≤ 8) × (t < 8) × (d < 48) ⌝ }
-    ensures { λ r. ⌜ ((R : Region) (σ : State) → Tabled R (now (table .entry)) → Shows σ (now (team .entry)) → r ≡ noneOrdered R m σ t d) ⌝ }
+    ensures { λ r. ⌜ OfStates (now (table .entry)) (now (team .entry)) (λ R σ. r ≡ noneOrdered R m σ t d) ⌝ }
 {
     let mut k = 0;
     while k < m {
@@ -81,7 +81,7 @@ fn none_ordered(table: &RegionTable, team: &TeamTable, m: usize, t: usize, d: us
 
 // Thread t is not past the given instance of c, and has not taken the section x there.
 fn untaken_by(team: &TeamTable, c: usize, instance: u64, x: usize, t: usize) -> bool
-    requires { ⌜ (length (now team) ≡ 785) × (c < 48) × (x < 48) × (t < 8) ⌝ }
+    requires { ⌜ (length (now team) ≡ 786) × (c < 48) × (x < 48) × (t < 8) ⌝ }
     ensures { λ r. ⌜ ((σ : State) → Shows σ (now (team .entry)) → r ≡ untakenBy σ c instance x t) ⌝ }
 {
     let own = count_of(team, t, c);
@@ -96,7 +96,7 @@ fn untaken_by(team: &TeamTable, c: usize, instance: u64, x: usize, t: usize) -> 
 
 // No thread is past that instance of c, and none has taken the section x there.
 pub fn is_untaken(team: &TeamTable, m: usize, c: usize, instance: u64, x: usize) -> bool
-    requires { ⌜ (length (now team) ≡ 785) × (m ≤ 8) × (c < 48) × (x < 48) ⌝ }
+    requires { ⌜ (length (now team) ≡ 786) × (m ≤ 8) × (c < 48) × (x < 48) ⌝ }
     ensures { λ r. ⌜ ((σ : State) → Shows σ (now (team .entry)) → r ≡ isUntaken m σ c instance x) ⌝ }
 {
     let mut t = 0;
@@ -112,7 +112,7 @@ pub fn is_untaken(team: &TeamTable, m: usize, c: usize, instance: u64, x: usize)
 // Of the sections of c, those that thread t has taken in that instance, or in one before: all, if it is past that instance.
 fn taken_by(table: &RegionTable, team: &TeamTable, c: usize, instance: u64, t: usize) -> u64
     requires { ⌜ Sound (now table) (now team) × (c < 48) × (t < 8) ⌝ }
-    ensures { λ r. ⌜ ((R : Region) (σ : State) → Tabled R (now (table .entry)) → Shows σ (now (team .entry)) → TakenIn R c r (λ x. untakenBy σ c instance x t)) ⌝ }
+    ensures { λ r. ⌜ OfStates (now (table .entry)) (now (team .entry)) (λ R σ. TakenIn R c r (λ x. untakenBy σ c instance x t)) ⌝ }
 {
     let own = count_of(team, t, c);
     if instance < own {
@@ -127,7 +127,7 @@ fn taken_by(table: &RegionTable, team: &TeamTable, c: usize, instance: u64, t: u
 // All sections of c are taken in that instance.
 fn all_taken(table: &RegionTable, team: &TeamTable, m: usize, c: usize, instance: u64) -> bool
     requires { ⌜ Sound (now table) (now team) × (m ≤ 8) × (c < 48) ⌝ }
-    ensures { λ r. ⌜ ((R : Region) (σ : State) → Tabled R (now (table .entry)) → Shows σ (now (team .entry)) → r ≡ allTaken R m σ c instance) ⌝ }
+    ensures { λ r. ⌜ OfStates (now (table .entry)) (now (team .entry)) (λ R σ. r ≡ allTaken R m σ c instance) ⌝ }
 {
     let mut taken = 0;
     let mut t = 0;
@@ -142,7 +142,7 @@ fn all_taken(table: &RegionTable, team: &TeamTable, m: usize, c: usize, instance
 // Thread t, at the begin of c, may take an edge.
 pub fn may_enter(table: &RegionTable, team: &TeamTable, m: usize, t: usize, c: usize) -> bool
     requires { ⌜ Sound (now table) (now team) × (m ≤ 8) × (t < 8) × (c < getD (now table) 2033 0) ⌝ }
-    ensures { λ r. ⌜ ((R : Region) (σ : State) → Tabled R (now (table .entry)) → Shows σ (now (team .entry)) → r ≡ mayEnter R m σ t c (R .kind c)) ⌝ }
+    ensures { λ r. ⌜ OfStates (now (table .entry)) (now (team .entry)) (λ R σ. r ≡ mayEnter R m σ t c (R .kind c)) ⌝ }
 {
     let kind = at(table, KINDS + c);
     if kind == wide(Construct::SINGLE) {
@@ -163,7 +163,7 @@ pub fn may_enter(table: &RegionTable, team: &TeamTable, m: usize, t: usize, c: u
 // It may go straight to the end of c. A single or a master is passed by whoever may not enter it.
 pub fn may_pass(table: &RegionTable, team: &TeamTable, m: usize, t: usize, c: usize) -> bool
     requires { ⌜ Sound (now table) (now team) × (m ≤ 8) × (t < 8) × (c < getD (now table) 2033 0) ⌝ }
-    ensures { λ r. ⌜ ((R : Region) (σ : State) → Tabled R (now (table .entry)) → Shows σ (now (team .entry)) → r ≡ mayPass R m σ t c (R .kind c)) ⌝ }
+    ensures { λ r. ⌜ OfStates (now (table .entry)) (now (team .entry)) (λ R σ. r ≡ mayPass R m σ t c (R .kind c)) ⌝ }
 {
     let kind = at(table, KINDS + c);
     if kind == wide(Construct::SINGLE) {
@@ -181,7 +181,7 @@ pub fn may_pass(table: &RegionTable, team: &TeamTable, m: usize, t: usize, c: us
 // Thread t, at the end of c, may take an edge.
 pub fn may_leave(table: &RegionTable, team: &TeamTable, m: usize, t: usize, c: usize) -> bool
     requires { ⌜ Sound (now table) (now team) × (m ≤ 8) × (t < 8) × (c < getD (now table) 2033 0) ⌝ }
-    ensures { λ r. ⌜ ((R : Region) (σ : State) → Tabled R (now (table .entry)) → Shows σ (now (team .entry)) → r ≡ mayLeave R m σ t c) ⌝ }
+    ensures { λ r. ⌜ OfStates (now (table .entry)) (now (team .entry)) (λ R σ. r ≡ mayLeave R m σ t c) ⌝ }
 {
     if at(table, KINDS + c) != wide(Construct::SECTIONS) {
         return true;

@@ -24,15 +24,18 @@ same-at (suc n) zero v l = refl
 same-at (suc n) (suc i) v l = same-at n i v (omega arith)
 
 -- every thread is at start
-pub shows-begun : (R : Region) {v : ℕ} {fresh : List ℕ} → v ≡ R .start → v < 256 → Fresh 8 8 (replicate 785 v) fresh → Shows (initial R) fresh
+pub shows-begun : (R : Region) {v : ℕ} {fresh : List ℕ} → v ≡ R .start → v < 256 → Fresh 8 8 (replicate 786 v) fresh → Shows (initial R) fresh
 unfolding initial
 shows-begun R {v} {fresh} q b F = record {
   long = F .long;
-  node = λ t l. F .went t l l ∙ same-at 785 (776 + t) v (omega arith) ∙ q;
-  byte = λ t l. rw (F .went t l l ∙ same-at 785 (776 + t) v (omega arith)) b;
+  node = λ t l. F .went t l l ∙ same-at 786 (776 + t) v (omega arith) ∙ q;
+  byte = λ t l. rw (F .went t l l ∙ same-at 786 (776 + t) v (omega arith)) b;
   count = λ t c l k. F .counts t c l (omega arith);
   taken = λ t c l k. let e : 97 * t + 49 + c ≡ 97 * t + 1 + (48 + c) = omega arith in
       ap (λ (j : ℕ). getD fresh j 0) e ∙ F .counts t (48 + c) l (omega arith) ∙ sym (mask-empty (λ x. false) 48 (λ b j. refl));
+  left = rw (F .left) (omega arith);
+  others = λ t c l k n. let e : 97 * t + 49 + c ≡ 97 * t + 1 + (48 + c) = omega arith in
+      (F .counts t c l (omega arith), ap (λ (j : ℕ). getD fresh j 0) e ∙ F .counts t (48 + c) l (omega arith));
 }
 
 -- no pair is met

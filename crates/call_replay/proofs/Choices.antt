@@ -1,6 +1,7 @@
 -- What an entry does to what the replay keeps.
 -- Assumes nothing.
 use mathlib.Core.Path.{_≡_, refl, sym, _∙_, ap, subst}
+use mathlib.Core.Logic.{_⊎_, inl, inr}
 use mathlib.Core.Bool.{Bool, true, false, _||_}
 use mathlib.Core.List.{List, [], _∷_, _++_}
 use mathlib.Core.Option.{Option, none, some}
@@ -11,7 +12,7 @@ use lib.ListN.{length, getD, set, length-set, length-append, List·getD-append}
 use lib.Seq.{getD-append-seam, getD-set-same}
 use borrow.Author.Tests.{eq-eqb, ne-eqb, le-ltb}
 use Rattle.lists.specs.Truth.{bad, clash, and-false, or-right}
-use Rattle.lists.specs.Mask.{maskOf}
+use Rattle.lists.specs.Mask.{Has, maskOf}
 use Rattle.lists.specs.Store.{at-set}
 use Rattle.chart.specs.Region.{Region}
 use Rattle.theory_team.specs.State.{State, released}
@@ -19,6 +20,7 @@ use Rattle.theory_traces.specs.Decide.{decide, apply, allowed}
 use Rattle.theory_traces.specs.Replay.{Play, together, reached, gathered, chosenNow, choose, stepped, feed}
 use Rattle.theory_traces.specs.ReplayLaws.{together-of}
 use Rattle.answer_steps.specs.Tables.{Shows}
+use Rattle.answer_steps.proofs.Stores.{left-kept, others-kept}
 use Rattle.call_replay.specs.PairsMet.{Sheet}
 use Rattle.call_replay.specs.declared.pairs_met.Rows.{Rows}
 use Rattle.call_replay.specs.Playing.{Playing, After, forbidden, fed}
@@ -78,7 +80,13 @@ shows-past {σ} {team} j w l h S =
       byte = λ t k. at-set (λ n. n < 256) team j w (97 * t) at (λ q. absurd (omega arith)) (λ d. S .byte t k);
       count = λ t c k i. at-set (λ n. n ≡ σ .encounters t c) team j w (97 * t + 1 + c) at (λ q. absurd (omega arith)) (λ d. S .count t c k i);
       taken = λ t c k i. at-set (λ n. n ≡ maskOf (σ .taken t c) 48) team j w (97 * t + 49 + c) at (λ q. absurd (omega arith)) (λ d. S .taken t c k i);
+      left = left-kept S j w h;
+      others = others-kept S j w h none;
     }
+  where
+    none : (t c : ℕ) → t < 8 → c < 48 → (97 * t + 1 + c ≡ j) ⊎ (97 * t + 49 + c ≡ j) → Has (getD team 785 0) c
+    none t c k i (inl q) = absurd (omega arith)
+    none t c k i (inr q) = absurd (omega arith)
 
 module _ {n m : ℕ} {rows : Rows} {P : Play} {team out : List ℕ} (L : Playing n m rows P team out) (few : m ≤ 8) (p v : ℕ) (q : p ≡ length (P .chosen)) where
   -- the node that is chosen last

@@ -1,4 +1,5 @@
 pub mod PairsMet
+pub mod Release
 pub mod Playing
 pub mod Team
 pub mod Stored

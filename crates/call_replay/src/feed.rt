@@ -10,6 +10,7 @@ ghost use Rattle.theory_team.specs.State.{State, released};
 ghost use Rattle.theory_traces.specs.Decide.{allowed};
 ghost use Rattle.theory_traces.specs.Replay.{gathered as isGathered, choose as chosenBy, feed as fedBy, atFinish};
 ghost use Rattle.answer_steps.specs.Tables.{Tabled, Shows};
+ghost use Rattle.call_replay.specs.Release.{SetBack, AllBack};
 ghost use Rattle.call_replay.specs.Playing.{Ready, OfPlays, Fed};
 use crate::pairs_met::Rows;
 use crate::pairs_met::mark_state;
@@ -18,23 +19,26 @@ use answer_steps::decide::decide;
 use answer_steps::effects::apply;
 use answer_steps::tables::BARRIER;
 use answer_steps::tables::CHOSEN;
+use answer_steps::tables::COUNTS;
 use answer_steps::tables::FINISH;
+use answer_steps::tables::LEFT;
 use answer_steps::tables::NODES;
 use answer_steps::tables::PENDING;
 use answer_steps::tables::ROLES;
 use answer_steps::tables::RegionTable;
-use answer_steps::tables::TEAM;
+use answer_steps::tables::TAKEN;
 use answer_steps::tables::THREAD;
 use answer_steps::tables::TeamTable;
 use answer_steps::tables::at;
 use answer_steps::tables::leads;
 use answer_steps::tables::node_of;
+use masks::bits::lowest;
 use theory_traces::Effect;
 use theory_traces::Thread;
 
 // Every thread is at x.
 fn all_at(team: &TeamTable, m: usize, x: usize) -> bool
-    requires { ⌜ (length (now team) ≡ 785) × (m ≤ 8) ⌝ }
+    requires { ⌜ (length (now team) ≡ 786) × (m ≤ 8) ⌝ }
     ensures { λ r. ⌜ ((σ : State) → Shows σ (now (team .entry)) → r ≡ every m (λ k. eqb (σ .node k) x)) ⌝ }
 {
     let mut k = 0;
@@ -49,7 +53,7 @@ fn all_at(team: &TeamTable, m: usize, x: usize) -> bool
 
 // All threads are at finish.
 pub fn at_finish(table: &RegionTable, team: &TeamTable, m: usize) -> bool
-    requires { ⌜ ((R : Region) × Tabled R (now table) × (length (now team) ≡ 785) × (m ≤ 8)) ⌝ }
+    requires { ⌜ ((R : Region) × Tabled R (now table) × (length (now team) ≡ 786) × (m ≤ 8)) ⌝ }
     ensures { λ r. ⌜ ((R : Region) (σ : State) → Tabled R (now (table .entry)) → Shows σ (now (team .entry)) → r ≡ atFinish R m σ) ⌝ }
 {
     all_at(team, m, at(table, FINISH))
@@ -70,31 +74,46 @@ fn gathered(table: &RegionTable, team: &TeamTable, m: usize) -> bool
     all_at(team, m, x)
 }
 
-// Where thread t goes in a release: to the node chosen, if it is one of the team.
-fn next_node(team: &TeamTable, m: usize, t: usize) -> u64
-    requires { ⌜ (length (now team) ≡ 785) × (m ≤ 8) × (t < 8) ⌝ }
-    ensures { λ r. ⌜ (t < m → r ≡ getD (now (team .entry)) (776 + t) 0) × (m ≤ t → r ≡ getD (now (team .entry)) (97 * t) 0) ⌝ }
+// Of construct c no thread has a count any more, and none has taken a section.
+fn set_back(team: &mut TeamTable, c: usize)
+    requires { ⌜ (length (now team) ≡ 786) × (c < 48) ⌝ }
+    ensures { λ _. ⌜ SetBack 8 c (now (team .entry)) (now (team .exit)) ⌝ }
 {
-    if t < m {
-        return team[CHOSEN + t];
+    let mut t = 0;
+    while t < Thread::MOST {
+        team[THREAD * t + COUNTS + c] = 0;
+        team[THREAD * t + TAKEN + c] = 0;
+        t += 1;
     }
-    team[THREAD * t]
+}
+
+// Every count is 0 again and nothing is taken: only what is not 0 is set back.
+fn set_all_back(team: &mut TeamTable)
+    requires { ⌜ ((σ : State) × Shows σ (now team)) ⌝ }
+    ensures { λ _. ⌜ AllBack (now (team .entry)) (now (team .exit)) ⌝ }
+{
+    let mut rest = team[LEFT];
+    while rest != 0 {
+        set_back(team, lowest(rest));
+        rest = rest & (rest - 1);
+    }
+    team[LEFT] = 0;
 }
 
 // The release: each thread goes to the node chosen for it, every count is 0 again and nothing is taken.
 fn release(team: &mut TeamTable, m: usize)
-    requires { ⌜ (length (now team) ≡ 785) × (m ≤ 8) ⌝ }
+    requires { ⌜ ((σ : State) × Shows σ (now team) × (m ≤ 8)) ⌝ }
     requires { ⌜ ((t : ℕ) → t < m → getD (now team) (776 + t) 0 < 256) ⌝ }
     ensures { λ _. ⌜ ((σ : State) → Shows σ (now (team .entry)) → Shows (released m σ (λ t. getD (now (team .entry)) (776 + t) 0)) (now (team .exit))) ⌝ }
     ensures { λ _. ⌜ getD (now (team .exit)) 784 0 ≡ 0 ⌝ }
 {
-    let mut fresh = [0u64; TEAM];
+    set_all_back(team);
     let mut t = 0;
-    while t < Thread::MOST {
-        fresh[THREAD * t] = next_node(team, m, t);
+    while t < m {
+        team[THREAD * t] = team[CHOSEN + t];
         t += 1;
     }
-    *team = fresh;
+    team[PENDING] = 0;
 }
 
 // An entry of a release: the next thread's, along an edge. With the last the release takes effect.

@@ -42,7 +42,7 @@ fn mark(n: usize, rows: Rows, a: usize, b: usize, out: &mut [u8])
 
 // Threads t and k, where they are two, have met, both ways round.
 fn mark_pair(team: &TeamTable, n: usize, rows: Rows, t: usize, k: usize, out: &mut [u8])
-    requires { ⌜ (length (now team) ≡ 785) × (t < 8) × (k < 8) × (rows .count * n ≤ length (now out)) ⌝ }
+    requires { ⌜ (length (now team) ≡ 786) × (t < 8) × (k < 8) × (rows .count * n ≤ length (now out)) ⌝ }
     ensures { λ _. ⌜ Marks (λ σ. meet σ t k) n rows (now (team .entry)) (now (out .entry)) (now (out .exit)) ⌝ }
 {
     if t != k {
@@ -55,7 +55,7 @@ fn mark_pair(team: &TeamTable, n: usize, rows: Rows, t: usize, k: usize, out: &m
 
 // Thread t has met the first m threads.
 pub fn mark_thread(team: &TeamTable, m: usize, n: usize, rows: Rows, t: usize, out: &mut [u8])
-    requires { ⌜ (length (now team) ≡ 785) × (m ≤ 8) × (t < 8) × (rows .count * n ≤ length (now out)) ⌝ }
+    requires { ⌜ (length (now team) ≡ 786) × (m ≤ 8) × (t < 8) × (rows .count * n ≤ length (now out)) ⌝ }
     ensures { λ _. ⌜ Marks (λ σ. meets m σ t) n rows (now (team .entry)) (now (out .entry)) (now (out .exit)) ⌝ }
 {
     let mut k = 0;
@@ -67,7 +67,7 @@ pub fn mark_thread(team: &TeamTable, m: usize, n: usize, rows: Rows, t: usize, o
 
 // All threads have met.
 pub fn mark_state(team: &TeamTable, m: usize, n: usize, rows: Rows, out: &mut [u8])
-    requires { ⌜ (length (now team) ≡ 785) × (m ≤ 8) × (rows .count * n ≤ length (now out)) ⌝ }
+    requires { ⌜ (length (now team) ≡ 786) × (m ≤ 8) × (rows .count * n ≤ length (now out)) ⌝ }
     ensures { λ _. ⌜ Marks (together m) n rows (now (team .entry)) (now (out .entry)) (now (out .exit)) ⌝ }
 {
     let mut t = 0;

@@ -26,7 +26,7 @@ pub fn blank() -> Thread {
 
 // The record of thread t.
 fn record(team: &TeamTable, t: usize) -> Thread
-    requires { ⌜ (length (now team) ≡ 785) × (t < 8) ⌝ }
+    requires { ⌜ (length (now team) ≡ 786) × (t < 8) ⌝ }
     ensures { λ r. ⌜ ((σ : State) → Shows σ (now (team .entry)) → r ≡ recordOf σ t) ⌝ }
 {
     let mut counts = [0u64; Chart::CONSTRUCTS];
@@ -47,7 +47,7 @@ fn record(team: &TeamTable, t: usize) -> Thread
 
 // All records, with the answer.
 pub fn team_of(team: &TeamTable, count: usize, answer: Replayed) -> Team
-    requires { ⌜ length (now team) ≡ 785 ⌝ }
+    requires { ⌜ length (now team) ≡ 786 ⌝ }
     ensures { λ r. ⌜ ((σ : State) → Shows σ (now (team .entry)) → r .threads ≡ tab 8 (recordOf σ)) × (r .count ≡ count) × (r .answer ≡ answer) ⌝ }
 {
     let mut threads = [blank(); Thread::MOST];

@@ -51,7 +51,7 @@ release-requires : tie.Need-release-requires
 release-requires c κs =
     let a = c .before .before .before .before .before .before .before .before .before in
     let L = a .pre .3 in
-    ((shows-chosen L (a .pre .4) _ (a .args .v) (L .pending) .long, a .pre .4), λ t l. bytes-more L (a .pre .4) _ (a .args .v) (L .pending) (a .pre .5) t (omega (arith, L .pending, c .before .if3 .taken)))
+    ((a .pre .1 .state, shows-chosen L (a .pre .4) _ (a .args .v) (L .pending), a .pre .4), λ t l. bytes-more L (a .pre .4) _ (a .args .v) (L .pending) (a .pre .5) t (omega (arith, L .pending, c .before .if3 .taken)))
 
 at-requires : tie.Need-at-requires
 at-requires c κs = (c .before .before .before .before .before .before .before .before .before .before .before .pre .2 .long, omega arith)

@@ -1,32 +1,44 @@
 -- `call_replay::feed::release` meets its contract. The loop's invariant: the threads passed have gone.
 -- Assumes nothing.
-use Prim.Native.Nat.{_-_, _≤_}
+use mathlib.Core.Path.{_≡_, refl}
+use mathlib.Core.List.{List}
+use Prim.Native.Nat.{ℕ, _-_, _≤_}
 use native.Mathlib.Omega.{arith}
-use Rattle.call_replay.proofs.Releases.{Fresh, fresh-none, fresh-more, shows-released}
-use mathlib.Core.Path.{_≡_, subst}
+use lib.ListN.{length}
+use Rattle.call_replay.specs.Release.{AllBack}
+use Rattle.call_replay.proofs.Releases.{Going, going-none, going-more, going-all, shows-released}
 use Rattle.call_replay.proofs.feed.release.Statement.{statement}
 use Rattle.call_replay.proofs.feed.release.Tie as tie
 
 abbrev Inv-loop : tie.InvT-loop
-Inv-loop team m fresh₀ t₀ fresh t = (t ≤ 8) × Fresh m t team fresh
+Inv-loop team₀ m t₀ team t = (t ≤ m) × ((old : List ℕ) → length old ≡ 786 → AllBack old team₀ → Going t old team)
 
 abbrev μ-loop : tie.MeasureT-loop
-μ-loop team m fresh₀ t₀ fresh t = 8 - t
+μ-loop team₀ m t₀ team t = m - t
+
+set-all-back-requires : tie.Need-set-all-back-requires Inv-loop μ-loop
+set-all-back-requires c κs = (c .before .pre .0 .0, c .before .pre .0 .1)
 
 loop-holds : tie.Need-loop-holds Inv-loop μ-loop
-loop-holds c = (omega arith, fresh-none _ _)
+loop-holds c = (omega arith, λ old l B. going-none l B)
 
-next-node-requires : tie.Need-next-node-requires Inv-loop μ-loop
-next-node-requires c κs = (c .before .before .before .pre .0 .0, c .before .before .before .pre .0 .1, omega arith)
+add-team : tie.Need-add-team Inv-loop μ-loop
+add-team c = omega (arith, c .before .before .before .before .pre .0 .2)
 
-mul-fresh : tie.Need-mul-fresh Inv-loop μ-loop
-mul-fresh c = omega arith
+mul-team : tie.Need-mul-team Inv-loop μ-loop
+mul-team c = omega (arith, c .before .before .before .before .pre .0 .2)
 
-mul-fresh-2 : tie.Need-mul-fresh-2 Inv-loop μ-loop
-mul-fresh-2 c = omega arith
+element-copy-out-team : tie.Need-element-copy-out-team Inv-loop μ-loop
+element-copy-out-team c = let G = c .before .loop .inv .1 _ (c .before .before .before .before .pre .0 .1 .long) (c .before .before .set-all-back .ensures) in omega (arith, c .before .before .before .before .pre .0 .2, G .long)
 
-array-write-fresh : tie.Need-array-write-fresh Inv-loop μ-loop
-array-write-fresh c = omega (arith, c .before .before .before .loop .inv .1 .long)
+mul-team-2 : tie.Need-mul-team-2 Inv-loop μ-loop
+mul-team-2 c = omega (arith, c .before .before .before .before .before .pre .0 .2)
+
+mul-team-3 : tie.Need-mul-team-3 Inv-loop μ-loop
+mul-team-3 c = omega (arith, c .before .before .before .before .before .pre .0 .2)
+
+element-write-team : tie.Need-element-write-team Inv-loop μ-loop
+element-write-team c = let G = c .before .before .loop .inv .1 _ (c .before .before .before .before .before .pre .0 .1 .long) (c .before .before .before .set-all-back .ensures) in omega (arith, c .before .before .before .before .before .pre .0 .2, G .long)
 
 add-t : tie.Need-add-t Inv-loop μ-loop
 add-t c = omega arith
@@ -35,15 +47,17 @@ loop-less : tie.Need-loop-less Inv-loop μ-loop
 loop-less c = omega arith
 
 loop-again : tie.Need-loop-again Inv-loop μ-loop
-loop-again c = (omega arith, fresh-more (omega arith) _ (c .next-node .ensures .0) (c .next-node .ensures .1) (c .before .before .before .loop .inv .1))
+loop-again c = (omega arith, λ old l B. going-more (omega (arith, c .before .before .before .before .before .pre .0 .2)) refl (c .before .before .loop .inv .1 old l B))
+
+element-write-team-2 : tie.Need-element-write-team-2 Inv-loop μ-loop
+element-write-team-2 c = let G = c .before .loop .inv .1 _ (c .before .before .before .before .pre .0 .1 .long) (c .before .before .set-all-back .ensures) in omega (arith, G .long)
 
 returns : tie.Need-returns Inv-loop μ-loop
 returns c =
-    let a = c .before .before in
-    let l = c .before in
-    let q : l .loop .t ≡ 8 = omega arith in
-    let F = subst (λ t. Fresh (a .args .m) t (a .args .team .now) (l .loop .fresh)) q (l .loop .inv .1) in
-    (λ σ S. shows-released σ S (a .pre .0 .1) (a .pre .1) F, F .none)
+    let a = c .before .before .before .before in
+    let q : c .before .loop .t ≡ a .args .m = omega arith in
+    let F = going-all (rw q at (c .before .loop .inv .1 (a .args .team .now) (a .pre .0 .1 .long) (c .before .before .set-all-back .ensures))) in
+    ((λ σ S. shows-released σ S (a .pre .0 .2) (a .pre .1) F), F .none)
 
 pub release-spec : {M : Type 1} → statement M
 release-spec =
@@ -51,12 +65,16 @@ release-spec =
     (tie.spec
     Inv-loop
     μ-loop
+    set-all-back-requires
     loop-holds
-    next-node-requires
-    mul-fresh
-    mul-fresh-2
-    array-write-fresh
+    add-team
+    mul-team
+    element-copy-out-team
+    mul-team-2
+    mul-team-3
+    element-write-team
     add-t
     loop-less
     loop-again
+    element-write-team-2
     returns)

@@ -11,7 +11,7 @@ use Rattle.call_replay.proofs.start.set_team.Statement.{statement}
 use Rattle.call_replay.proofs.start.set_team.Tie as tie
 
 abbrev Inv-loop : tie.InvT-loop
-Inv-loop table team start fresh₀ t₀ fresh t = (t ≤ 8) × (start ≡ getD table 2034 0) × Fresh 8 t (replicate 785 start) fresh
+Inv-loop table team start fresh₀ t₀ fresh t = (t ≤ 8) × (start ≡ getD table 2034 0) × Fresh 8 t (replicate 786 start) fresh
 
 abbrev μ-loop : tie.MeasureT-loop
 μ-loop table team start fresh₀ t₀ fresh t = 8 - t
@@ -38,13 +38,13 @@ loop-less : tie.Need-loop-less Inv-loop μ-loop
 loop-less c = omega arith
 
 loop-again : tie.Need-loop-again Inv-loop μ-loop
-loop-again c = (omega arith, c .before .loop .inv .1, fresh-more (omega arith) _ (λ l. sym (same-at 785 (776 + c .before .loop .t) _ (omega arith))) (λ l. absurd (omega arith)) (c .before .loop .inv .2))
+loop-again c = (omega arith, c .before .loop .inv .1, fresh-more (omega arith) _ (λ l. sym (same-at 786 (776 + c .before .loop .t) _ (omega arith))) (λ l. absurd (omega arith)) (c .before .loop .inv .2))
 
 returns : tie.Need-returns Inv-loop μ-loop
 returns c =
     let l = c .before in
     let q : l .loop .t ≡ 8 = omega arith in
-    let F = subst (λ (k : ℕ). Fresh 8 k (replicate 785 (getD (c .before .before .before .args .table .now) 2034 0)) (l .loop .fresh)) q (l .loop .inv .2) in
+    let F = subst (λ (k : ℕ). Fresh 8 k (replicate 786 (getD (c .before .before .before .args .table .now) 2034 0)) (l .loop .fresh)) q (l .loop .inv .2) in
     (λ R T. shows-begun R (l .loop .inv .1 ∙ sym (T .start)) (omega (arith, l .loop .inv .1, T .start, T .starts)) F, F .none)
 
 pub set-team-spec : {M : Type 1} → statement M
