@@ -43,7 +43,7 @@ pub sheet-blank : (n : ℕ) (rows : Rows) {out : List ℕ} → ((j : ℕ) → j 
 sheet-blank n rows z = record { at = λ i b l k. z (i * n + b) (omega (arith, row-fits i n (rows .count) l)) }
 
 pub playing-begun : (R : Region) {m : ℕ} {rows : Rows} {team out : List ℕ} → 1 ≤ m → Shows (initial R) team → getD team 784 0 ≡ 0
-    → Sheet (R .nodes) rows (λ a b. false || together m (initial R) a b) out → Playing (R .nodes) m rows (begun R m) team out
+    → Sheet (R .nodes) rows (λ a b. false || together m (initial R) a b) out → Playing R m rows (begun R m) team out
 unfolding begun
 playing-begun R l S z H = playing-reached (λ a b. false) (initial R) (omega arith) S z H
 

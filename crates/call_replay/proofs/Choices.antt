@@ -26,8 +26,8 @@ use Rattle.call_replay.specs.declared.pairs_met.Rows.{Rows}
 use Rattle.call_replay.specs.Playing.{Playing, After, forbidden, fed}
 
 -- what an entry leads to, by an equation
-pub after-by : {n m : ℕ} {rows : Rows} {P : Play} {o q : Option Play} {b : Bool} {team out : List ℕ} → o ≡ q → After n m rows P q b team out → After n m rows P o b team out
-after-by {n} {m} {rows} {P} {b = b} {team = team} {out = out} e A = subst (λ (o : Option Play). After n m rows P o b team out) (sym e) A
+pub after-by : {R : Region} {m : ℕ} {rows : Rows} {P : Play} {o q : Option Play} {b : Bool} {team out : List ℕ} → o ≡ q → After R m rows P q b team out → After R m rows P o b team out
+after-by {R} {m} {rows} {P} {b = b} {team = team} {out = out} e A = subst (λ (o : Option Play). After R m rows P o b team out) (sym e) A
 
 module _ (R : Region) (m : ℕ) (P : Play) (t v : ℕ) where
   pub choose-other : (t ≡ length (P .chosen) → ⊥) → choose R m P t v ≡ none
@@ -88,7 +88,7 @@ shows-past {σ} {team} j w l h S =
     none t c k i (inl q) = absurd (omega arith)
     none t c k i (inr q) = absurd (omega arith)
 
-module _ {n m : ℕ} {rows : Rows} {P : Play} {team out : List ℕ} (L : Playing n m rows P team out) (few : m ≤ 8) (p v : ℕ) (q : p ≡ length (P .chosen)) where
+module _ {R : Region} {m : ℕ} {rows : Rows} {P : Play} {team out : List ℕ} (L : Playing R m rows P team out) (few : m ≤ 8) (p v : ℕ) (q : p ≡ length (P .chosen)) where
   -- the node that is chosen last
   at : 776 + p < length team
   at = omega (arith, L .state .long, L .fewer)
@@ -111,9 +111,9 @@ module _ {n m : ℕ} {rows : Rows} {P : Play} {team out : List ℕ} (L : Playing
   shows-chosen = shows-past (776 + p) v (omega arith) (omega (arith, L .state .long, at)) (L .state)
 
   -- one entry of a release, not its last
-  pub playing-chosen : v < 256 → (length (P .chosen) + 1 ≡ m → ⊥) → (w : ℕ) → w ≡ p + 1
-      → Playing n m rows (record { state = P .state; chosen = P .chosen ++ (v ∷ []); met = P .met }) (set (set team (776 + p) v) 784 w) out
-  playing-chosen b d w e =
+  pub playing-chosen : gathered R m (P .state) ≡ true → v < 256 → (length (P .chosen) + 1 ≡ m → ⊥) → (w : ℕ) → w ≡ p + 1
+      → Playing R m rows (record { state = P .state; chosen = P .chosen ++ (v ∷ []); met = P .met }) (set (set team (776 + p) v) 784 w) out
+  playing-chosen g b d w e =
       let long = length-append (P .chosen) (v ∷ []) in
       let inside : 784 < length (set team (776 + p) v) = omega (arith, length-set team (776 + p) v, L .state .long) in
       record {
@@ -123,6 +123,7 @@ module _ {n m : ℕ} {rows : Rows} {P : Play} {team out : List ℕ} (L : Playing
         choice = λ t l. at-set (λ i. i ≡ getD (P .chosen ++ (v ∷ [])) t 0) (set team (776 + p) v) 784 w (776 + t) inside
             (λ h. absurd (omega (arith, long, L .fewer))) (λ h. choice-more t (omega (arith, long)));
         bytes = λ t l. at-set (λ i. i < 256) (set team (776 + p) v) 784 w (776 + t) inside (λ h. absurd (omega (arith, long, L .fewer))) (λ h. bytes-more b t (omega (arith, long)));
+        due = λ l. g;
         marks = L .marks;
         own = L .own;
       }
@@ -131,8 +132,8 @@ module _ {n m : ℕ} {rows : Rows} {P : Play} {team out : List ℕ} (L : Playing
       fits long = elim (ℕ-discrete (length (P .chosen) + 1) m) [ yes h ↦ absurd (d h) | no h ↦ omega (arith, L .fewer) ]
 
 -- a state is reached
-pub playing-reached : {n m : ℕ} {rows : Rows} {team out : List ℕ} (met : ℕ → ℕ → Bool) (σ : State) → 0 < m → Shows σ team → getD team 784 0 ≡ 0
-    → Sheet n rows (λ a b. met a b || together m σ a b) out → Playing n m rows (reached m met σ) team out
+pub playing-reached : {R : Region} {m : ℕ} {rows : Rows} {team out : List ℕ} (met : ℕ → ℕ → Bool) (σ : State) → 0 < m → Shows σ team → getD team 784 0 ≡ 0
+    → Sheet (R .nodes) rows (λ a b. met a b || together m σ a b) out → Playing R m rows (reached m met σ) team out
 unfolding reached
 playing-reached {m = m} met σ l S z H = record {
   state = S;
@@ -140,17 +141,18 @@ playing-reached {m = m} met σ l S z H = record {
   fewer = l;
   choice = λ t k. absurd (omega arith);
   bytes = λ t k. absurd (omega arith);
+  due = λ k. absurd (omega arith);
   marks = H;
   own = λ a b h. or-right (met a b) _ (together-of m σ a b .1 h);
 }
 
 -- whether an entry was fed tells which of the two it led to
-pub after-none : {n m : ℕ} {rows : Rows} {P : Play} {o : Option Play} {b : Bool} {team out : List ℕ} → After n m rows P o b team out → b ≡ false → (o ≡ none) × Playing n m rows P team out
+pub after-none : {R : Region} {m : ℕ} {rows : Rows} {P : Play} {o : Option Play} {b : Bool} {team out : List ℕ} → After R m rows P o b team out → b ≡ false → (o ≡ none) × Playing R m rows P team out
 after-none (forbidden L) h = (refl, L)
 after-none (fed L) h = absurd (clash refl h)
 
-pub after-some : {n m : ℕ} {rows : Rows} {P : Play} {o : Option Play} {b : Bool} {team out : List ℕ} → After n m rows P o b team out → b ≡ true
-    → (Q : Play) × (o ≡ some Q) × Playing n m rows Q team out
+pub after-some : {R : Region} {m : ℕ} {rows : Rows} {P : Play} {o : Option Play} {b : Bool} {team out : List ℕ} → After R m rows P o b team out → b ≡ true
+    → (Q : Play) × (o ≡ some Q) × Playing R m rows Q team out
 after-some (forbidden L) h = absurd (clash h refl)
 after-some (fed {Q} L) h = (Q, refl, L)
 

@@ -1,6 +1,7 @@
 // One entry of a trace.
 ghost use mathlib.Core.Path.{_≡_};
 ghost use mathlib.Core.Bool.{true, false};
+ghost use mathlib.Core.List.{List};
 ghost use Prim.Native.Nat.{ℕ, _+_, _*_, _≤_, _<_};
 ghost use lib.Dec.{eqb};
 ghost use lib.ListN.{length, getD};
@@ -8,10 +9,11 @@ ghost use Rattle.lists.specs.Range.{every};
 ghost use Rattle.chart.specs.Region.{Region};
 ghost use Rattle.theory_team.specs.State.{State, released};
 ghost use Rattle.theory_traces.specs.Decide.{allowed};
-ghost use Rattle.theory_traces.specs.Replay.{gathered as isGathered, choose as chosenBy, feed as fedBy, atFinish};
+ghost use Rattle.theory_traces.specs.Replay.{gathered as isGathered, atFinish};
 ghost use Rattle.answer_steps.specs.Tables.{Tabled, Shows};
+ghost use Rattle.call_replay.specs.declared.pairs_met.Rows.{Rows};
 ghost use Rattle.call_replay.specs.Release.{SetBack, AllBack};
-ghost use Rattle.call_replay.specs.Playing.{Ready, OfPlays, Fed};
+ghost use Rattle.call_replay.specs.Playing.{Ready, OfPlays, Feeds, FeedsIf};
 use crate::pairs_met::Rows;
 use crate::pairs_met::mark_state;
 use crate::pairs_met::mark_thread;
@@ -59,7 +61,7 @@ pub fn at_finish(table: &RegionTable, team: &TeamTable, m: usize) -> bool
     all_at(team, m, at(table, FINISH))
 }
 
-// All threads are at one barrier, not finish: the next entry belongs to a release.
+// All threads are at one barrier, not finish.
 fn gathered(table: &RegionTable, team: &TeamTable, m: usize) -> bool
     requires { ⌜ ((R : Region) × (σ : State) × Tabled R (now table) × Shows σ (now team) × (m ≤ 8)) ⌝ }
     ensures { λ r. ⌜ ((R : Region) (σ : State) → Tabled R (now (table .entry)) → Shows σ (now (team .entry)) → r ≡ isGathered R m σ) ⌝ }
@@ -72,6 +74,17 @@ fn gathered(table: &RegionTable, team: &TeamTable, m: usize) -> bool
         return false;
     }
     all_at(team, m, x)
+}
+
+// The next entry belongs to a release: one has begun, or all threads are at one barrier, not finish.
+fn is_due(table: &RegionTable, team: &TeamTable, m: usize) -> bool
+    requires { ⌜ ((R : Region) × (σ : State) × Tabled R (now table) × Shows σ (now team) × (m ≤ 8)) ⌝ }
+    ensures { λ r. ⌜ ((rows : Rows) (out : List ℕ) → OfPlays m rows (now (table .entry)) (now (team .entry)) out (λ R P. r ≡ isGathered R m (P .state))) ⌝ }
+{
+    if team[PENDING] != 0 {
+        return true;
+    }
+    gathered(table, team, m)
 }
 
 // Of construct c no thread has a count any more, and none has taken a section.
@@ -127,7 +140,7 @@ fn choose(
     out: &mut [u8],
 ) -> bool
     requires { ⌜ Ready (now table) (now team) m v rows (now out) ⌝ }
-    ensures { λ r. ⌜ OfPlays m rows (now (table .entry)) (now (team .entry)) (now (out .entry)) (λ R P. Fed R m rows P (chosenBy R m P t v) r (now (team .exit)) (now (out .entry)) (now (out .exit))) ⌝ }
+    ensures { λ r. ⌜ FeedsIf true m rows t v r (now (table .entry)) (now (team .entry)) (now (out .entry)) (now (team .exit)) (now (out .exit)) ⌝ }
 {
     let pending = team[PENDING] as usize;
     if t != pending {
@@ -171,7 +184,7 @@ fn step(
 ) -> bool
     requires { ⌜ Ready (now table) (now team) m v rows (now out) ⌝ }
     requires { ⌜ ((t c : ℕ) → t < 8 → c < 48 → getD (now team) (97 * t + 1 + c) 0 + 1 < 18446744073709551616) ⌝ }
-    ensures { λ r. ⌜ OfPlays m rows (now (table .entry)) (now (team .entry)) (now (out .entry)) (λ R P. isGathered R m (P .state) ≡ false → Fed R m rows P (fedBy R m P t v) r (now (team .exit)) (now (out .entry)) (now (out .exit))) ⌝ }
+    ensures { λ r. ⌜ FeedsIf false m rows t v r (now (table .entry)) (now (team .entry)) (now (out .entry)) (now (team .exit)) (now (out .exit)) ⌝ }
 {
     let effect = decide(table, team, m, t, v);
     if !is_allowed(effect) {
@@ -195,9 +208,9 @@ pub fn feed(
 ) -> bool
     requires { ⌜ Ready (now table) (now team) m v rows (now out) ⌝ }
     requires { ⌜ ((t c : ℕ) → t < 8 → c < 48 → getD (now team) (97 * t + 1 + c) 0 + 1 < 18446744073709551616) ⌝ }
-    ensures { λ r. ⌜ OfPlays m rows (now (table .entry)) (now (team .entry)) (now (out .entry)) (λ R P. Fed R m rows P (fedBy R m P t v) r (now (team .exit)) (now (out .entry)) (now (out .exit))) ⌝ }
+    ensures { λ r. ⌜ Feeds m rows t v r (now (table .entry)) (now (team .entry)) (now (out .entry)) (now (team .exit)) (now (out .exit)) ⌝ }
 {
-    if gathered(table, team, m) {
+    if is_due(table, team, m) {
         return choose(table, team, m, t, v, rows, out);
     }
     step(table, team, m, t, v, rows, out)

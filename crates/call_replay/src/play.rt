@@ -4,7 +4,7 @@ ghost use lib.ListN.{length};
 ghost use Rattle.chart.specs.Region.{Region};
 ghost use Rattle.theory_traces.specs.Replay.{begun};
 ghost use Rattle.answer_steps.specs.Tables.{Tabled};
-ghost use Rattle.call_replay.specs.Playing.{Playing, Played};
+ghost use Rattle.call_replay.specs.Playing.{Playing, Plays};
 use crate::feed::at_finish;
 use crate::feed::feed;
 use crate::pairs_met::Rows;
@@ -22,8 +22,8 @@ pub fn play(
     rows: Rows,
     out: &mut [u8],
 ) -> Replayed
-    requires { ⌜ ((R : Region) × Tabled R (now table) × Playing (R .nodes) m rows (begun R m) (now team) (now out) × (m ≤ 8) × (rows .count * R .nodes ≤ length (now out))) ⌝ }
-    ensures { λ r. ⌜ ((R : Region) → Tabled R (now (table .entry)) → Playing (R .nodes) m rows (begun R m) (now (team .entry)) (now (out .entry)) → Played R m rows (now (trace .entry)) r (now (team .exit)) (now (out .entry)) (now (out .exit))) ⌝ }
+    requires { ⌜ ((R : Region) × Tabled R (now table) × Playing R m rows (begun R m) (now team) (now out) × (m ≤ 8) × (rows .count * R .nodes ≤ length (now out))) ⌝ }
+    ensures { λ r. ⌜ Plays m rows (now (trace .entry)) r (now (table .entry)) (now (team .entry)) (now (out .entry)) (now (team .exit)) (now (out .exit)) ⌝ }
 {
     let n = trace.len() / 2;
     let mut i = 0;

@@ -30,7 +30,7 @@ pub fn replay_rows(
 ) -> Replayed
     requires { ⌜ Accepted (now s) chart × (1 ≤ m) × (m ≤ 8) × (rows .count * chart .nodes ≤ length (now out)) ⌝ }
     ensures { λ r. let R = reading (now (s .entry)) chart in ⌜ r ≡ outcomeOf R m (replayed R m (now (trace .entry))) ⌝ }
-    ensures { λ _. let R = reading (now (s .entry)) chart in ⌜ Playing (R .nodes) m rows (playOf (replayed R m (now (trace .entry)))) (now (team .exit)) (now (out .exit)) ⌝ }
+    ensures { λ _. let R = reading (now (s .entry)) chart in ⌜ Playing R m rows (playOf (replayed R m (now (trace .entry)))) (now (team .exit)) (now (out .exit)) ⌝ }
     ensures { λ _. let R = reading (now (s .entry)) chart in ⌜ Kept (rows .count * R .nodes) (now (out .entry)) (now (out .exit)) ⌝ }
 {
     let mut table = [0u64; REGION];

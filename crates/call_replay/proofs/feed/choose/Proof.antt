@@ -10,7 +10,7 @@ use Rattle.theory_team.specs.State.{released}
 use Rattle.call_replay.specs.Playing.{forbidden, fed}
 use Rattle.call_replay.proofs.Sheets.{kept-same, sheet-size, kept-size}
 use Rattle.call_replay.proofs.Releases.{released-same}
-use Rattle.call_replay.proofs.Choices.{after-by, choose-other, choose-off, choose-last, choose-next, shows-chosen, choice-more, bytes-more, playing-chosen, playing-reached}
+use Rattle.call_replay.proofs.Choices.{after-by, fed-choose, choose-other, choose-off, choose-last, choose-next, shows-chosen, choice-more, bytes-more, playing-chosen, playing-reached}
 use borrow.Author.Needs.{needs}
 use Rattle.call_replay.proofs.feed.choose.Statement.{statement}
 use Rattle.call_replay.proofs.feed.choose.Tie as tie
@@ -19,7 +19,7 @@ element-copy-out-pending : tie.Need-element-copy-out-pending
 element-copy-out-pending c = search needs
 
 returns : tie.Need-returns
-returns c = λ R P T L. (after-by (choose-other R (c .before .before .before .args .m) P (c .before .before .before .args .t) (c .before .before .before .args .v) (λ z. c .if1 .taken (z ∙ sym (L .pending)))) (forbidden L), kept-same _ _)
+returns c = λ R P T L g. (after-by (fed-choose R (c .before .before .before .args .m) P (c .before .before .before .args .t) (c .before .before .before .args .v) g ∙ choose-other R (c .before .before .before .args .m) P (c .before .before .before .args .t) (c .before .before .before .args .v) (λ z. c .if1 .taken (z ∙ sym (L .pending)))) (forbidden L), kept-same _ _)
 
 node-of-requires : tie.Need-node-of-requires
 node-of-requires c κs = (c .before .before .before .before .pre .3 .state .long, omega arith)
@@ -29,11 +29,11 @@ leads-requires c κs = (c .before .before .before .before .before .pre .2 .long,
 
 returns-2 : tie.Need-returns-2
 returns-2 c =
-    λ R P T L.
+    λ R P T L g.
     let a = c .before .before .before .before .before .before .before in
     let x = c .before .before .node-of .ensures in
     let edge = ap (λ (n : ℕ). R .edge n (a .args .v)) (sym (x ∙ L .state .node 0 (omega arith))) ∙ T .edge _ (a .args .v) (omega (arith, x, L .state .byte 0 (omega arith))) (a .pre .5) ∙ sym (c .before .leads .ensures) in
-    (after-by (choose-off R (a .args .m) P (a .args .t) (a .args .v) (edge ∙ not-true _ (c .if2 .taken))) (forbidden L), kept-same _ _)
+    (after-by (fed-choose R (a .args .m) P (a .args .t) (a .args .v) g ∙ choose-off R (a .args .m) P (a .args .t) (a .args .v) (edge ∙ not-true _ (c .if2 .taken))) (forbidden L), kept-same _ _)
 
 add-team : tie.Need-add-team
 add-team c = omega (arith, c .before .before .before .before .before .before .before .pre .3 .pending, c .before .before .before .before .before .before .before .pre .3 .fewer, c .before .before .before .before .before .before .before .pre .4)
@@ -72,7 +72,7 @@ same-length c = c .before .before .mark-state .ensures .1 .long
 
 returns-3 : tie.Need-returns-3
 returns-3 c =
-    λ R P T L.
+    λ R P T L g.
     let a = c .before .before .before .before .before .before .before .before .before .before .before .before .before .before .before .before in
     let x = c .before .before .before .before .before .before .before .before .before .before .before .node-of .ensures in
     let edge = ap (λ (n : ℕ). R .edge n (a .args .v)) (sym (x ∙ L .state .node 0 (omega arith))) ∙ T .edge _ (a .args .v) (omega (arith, x, L .state .byte 0 (omega arith))) (a .pre .5) ∙ sym (c .before .before .before .before .before .before .before .before .before .before .leads .ensures) in
@@ -83,7 +83,7 @@ returns-3 c =
     let marked = c .before .before .mark-state .ensures in
     let sheet = sheet-size (sym n) (L .marks) in (
       after-by
-          (choose-last R (a .args .m) P (a .args .t) (a .args .v) (c .before .before .before .before .before .before .before .before .before .before .before .before .before .if1 .left ∙ L .pending) (edge ∙ not-false _ (c .before .before .before .before .before .before .before .before .before .if2 .left)) last)
+          (fed-choose R (a .args .m) P (a .args .t) (a .args .v) g ∙ choose-last R (a .args .m) P (a .args .t) (a .args .v) (c .before .before .before .before .before .before .before .before .before .before .before .before .before .if1 .left ∙ L .pending) (edge ∙ not-false _ (c .before .before .before .before .before .before .before .before .before .if2 .left)) last)
           (fed (playing-reached (P .met) _ (omega (arith, L .fewer)) to (c .before .before .before .before .before .before .release .ensures .1) (sheet-size n (marked .0 _ (P .met) to sheet)))),
       kept-size _ n (marked .1),
     )
@@ -96,14 +96,14 @@ element-write-team-2 c = search needs
 
 returns-4 : tie.Need-returns-4
 returns-4 c =
-    λ R P T L.
+    λ R P T L g.
     let a = c .before .before .before .before .before .before .before .before in
     let x = c .before .before .before .node-of .ensures in
     let edge = ap (λ (n : ℕ). R .edge n (a .args .v)) (sym (x ∙ L .state .node 0 (omega arith))) ∙ T .edge _ (a .args .v) (omega (arith, x, L .state .byte 0 (omega arith))) (a .pre .5) ∙ sym (c .before .before .leads .ensures) in
     let more : length (P .chosen) + 1 ≡ a .args .m → ⊥ = λ e. c .if3 .left (ap (λ (k : ℕ). k + 1) (L .pending) ∙ e) in (
       after-by
-          (choose-next R (a .args .m) P (a .args .t) (a .args .v) (c .before .before .before .before .before .if1 .left ∙ L .pending) (edge ∙ not-false _ (c .before .if2 .left)) more)
-          (fed (playing-chosen L (a .pre .4) _ (a .args .v) (L .pending) (a .pre .5) more _ refl)),
+          (fed-choose R (a .args .m) P (a .args .t) (a .args .v) g ∙ choose-next R (a .args .m) P (a .args .t) (a .args .v) (c .before .before .before .before .before .if1 .left ∙ L .pending) (edge ∙ not-false _ (c .before .if2 .left)) more)
+          (fed (playing-chosen L (a .pre .4) _ (a .args .v) (L .pending) g (a .pre .5) more _ refl)),
       kept-same _ _,
     )
 

@@ -1,40 +1,39 @@
 -- `call_replay::feed::feed` meets its contract.
 -- Assumes nothing.
 use mathlib.Core.Path.{sym, _∙_}
-use Rattle.call_replay.proofs.Choices.{after-by, fed-choose}
 use Rattle.call_replay.proofs.feed.feed.Statement.{statement}
 use Rattle.call_replay.proofs.feed.feed.Tie as tie
 
-gathered-requires : tie.Need-gathered-requires
-gathered-requires c κs = let a = c .before .before in (a .pre .0 .0, a .pre .0 .1 .state, a .pre .0 .2, a .pre .0 .3 .state, a .pre .0 .4)
+is-due-requires : tie.Need-is-due-requires
+is-due-requires c κs = let a = c .before .before in (a .pre .0 .0, a .pre .0 .1 .state, a .pre .0 .2, a .pre .0 .3 .state, a .pre .0 .4)
 
 choose-requires : tie.Need-choose-requires
 choose-requires c κs = c .before .before .before .before .before .before .pre .0
 
 same-length : tie.Need-same-length
-same-length c = c .before .before .choose .ensures (c .before .before .before .before .before .before .before .before .before .pre .0 .0) (c .before .before .before .before .before .before .before .before .before .pre .0 .1) (c .before .before .before .before .before .before .before .before .before .pre .0 .2) (c .before .before .before .before .before .before .before .before .before .pre .0 .3) .1 .long
+same-length c =
+    let (R, P, T, L, few, low, room) = c .before .before .before .before .before .before .before .before .before .pre .0 in
+    c .before .before .choose .ensures R P T L (sym (c .before .before .before .before .before .before .is-due .ensures _ _ R P T L) ∙ c .before .before .before .before .before .if1 .taken) .1 .long
 
 returns : tie.Need-returns
-returns c =
-    λ R P T L.
-    let a = c .before .before .before .before .before .before .before .before .before in
-    let r = c .before .before .choose .ensures R P T L in
-    (after-by (fed-choose R (a .args .m) P (a .args .t) (a .args .v) (sym (c .before .before .before .before .before .before .gathered .ensures R (P .state) T (L .state)) ∙ c .before .before .before .before .before .if1 .taken)) (r .0), r .1)
+returns c = λ R P T L. c .before .before .choose .ensures R P T L (sym (c .before .before .before .before .before .before .is-due .ensures _ _ R P T L) ∙ c .before .before .before .before .before .if1 .taken)
 
 step-requires : tie.Need-step-requires
 step-requires c κs = c .before .before .before .before .before .before .pre
 
 same-length-2 : tie.Need-same-length-2
-same-length-2 c = c .before .before .step .ensures (c .before .before .before .before .before .before .before .before .before .pre .0 .0) (c .before .before .before .before .before .before .before .before .before .pre .0 .1) (c .before .before .before .before .before .before .before .before .before .pre .0 .2) (c .before .before .before .before .before .before .before .before .before .pre .0 .3) (sym (c .before .before .before .before .before .before .gathered .ensures (c .before .before .before .before .before .before .before .before .before .pre .0 .0) (c .before .before .before .before .before .before .before .before .before .pre .0 .1 .state) (c .before .before .before .before .before .before .before .before .before .pre .0 .2) (c .before .before .before .before .before .before .before .before .before .pre .0 .3 .state)) ∙ c .before .before .before .before .before .if1 .left) .1 .long
+same-length-2 c =
+    let (R, P, T, L, few, low, room) = c .before .before .before .before .before .before .before .before .before .pre .0 in
+    c .before .before .step .ensures R P T L (sym (c .before .before .before .before .before .before .is-due .ensures _ _ R P T L) ∙ c .before .before .before .before .before .if1 .left) .1 .long
 
 returns-2 : tie.Need-returns-2
-returns-2 c = λ R P T L. c .before .before .step .ensures R P T L (sym (c .before .before .before .before .before .before .gathered .ensures R (P .state) T (L .state)) ∙ c .before .before .before .before .before .if1 .left)
+returns-2 c = λ R P T L. c .before .before .step .ensures R P T L (sym (c .before .before .before .before .before .before .is-due .ensures _ _ R P T L) ∙ c .before .before .before .before .before .if1 .left)
 
 pub feed-spec : {M : Type 1} → statement M
 feed-spec =
     tie.close
     (tie.spec
-    gathered-requires
+    is-due-requires
     choose-requires
     same-length
     returns

@@ -23,8 +23,8 @@ abbrev Inv-loop : tie.InvT-loop
 Inv-loop table team₀ m trace rows out₀ n i₀ team out i =
     (i ≤ n)
     × (n ≡ length trace / 2)
-    × ((R : Region) → Tabled R table → Playing (R .nodes) m rows (begun R m) team₀ out₀
-    → (P : Play) × (progress R m trace i ≡ going P) × (Playing (R .nodes) m rows P team out × (Few i (P .state) × Kept (rows .count * R .nodes) out₀ out)))
+    × ((R : Region) → Tabled R table → Playing R m rows (begun R m) team₀ out₀
+    → (P : Play) × (progress R m trace i ≡ going P) × (Playing R m rows P team out × (Few i (P .state) × Kept (rows .count * R .nodes) out₀ out)))
 
 abbrev μ-loop : tie.MeasureT-loop
 μ-loop table team₀ m trace rows out₀ n i₀ team out i = n - i

@@ -65,7 +65,7 @@ module _ (c : tie.After-mark-state) where
   abbrev e : tie.Start
   e = start cleared
 
-  begins : Playing (R cleared .nodes) (e .args .m) (e .args .rows) (begun (R cleared) (e .args .m)) (set cleared .set-team .last .1 .0) (c .mark-state .last .1 .1 .1 .1 .0)
+  begins : Playing (R cleared) (e .args .m) (e .args .rows) (begun (R cleared) (e .args .m)) (set cleared .set-team .last .1 .0) (c .mark-state .last .1 .1 .1 .1 .0)
   begins = playing-begun (R cleared) (e .pre .1) (shown cleared) (set cleared .set-team .ensures .1)
       (sheet-size (sym (nodes cleared)) (c .mark-state .ensures .0 (initial (R cleared)) (λ a b. false) (shown cleared) (sheet-blank _ (e .args .rows) (cleared .clear .ensures .1))))
 
