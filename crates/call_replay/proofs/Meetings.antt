@@ -1,11 +1,12 @@
 -- The pairs of the team that have met, by those of each thread: all of them, and after a step those of the thread that stepped.
 -- Assumes nothing.
-use mathlib.Core.Path.{_≡_, refl, sym, _∙_}
+use mathlib.Core.Path.{_≡_, refl, sym, _∙_, subst}
 use mathlib.Core.Logic.{_⊎_, inl, inr, _≢_, _↔_}
-use mathlib.Core.Bool.{Bool, true, _||_}
-use Prim.Native.Nat.{ℕ, _<_}
+use mathlib.Core.Bool.{Bool, true, false, _||_}
+use Prim.Native.Nat.{ℕ, _+_, _-_, _≤_, _<_}
 use native.Mathlib.Omega.{arith}
 use native.Mathlib.Decide.{ℕ-discrete, decLt}
+use borrow.Author.Tests.{eq-eqb, lt-ltb, le-ltb}
 use Rattle.lists.specs.Truth.{same-truth, or-left, or-right, or-cases}
 use Rattle.lists.specs.Means.{both-of, either-of, not-of, equal-of}
 use Rattle.lists.specs.Range.{any, any-at, at-any}
@@ -17,7 +18,7 @@ use Rattle.theory_traces.specs.Replay.{together}
 use Rattle.theory_traces.specs.ReplayLaws.{together-of}
 use Rattle.theory_traces.specs.declared.Effect.{Effect}
 use Rattle.theory_traces.specs.declared.Effect.the-variants.{None, Moves, Leaves, Takes, TakesNext}
-use Rattle.call_replay.specs.PairsMet.{meet, meets}
+use Rattle.call_replay.specs.PairsMet.{meet, meets, nextThread}
 
 meet-of : (σ : State) (t k a b : ℕ) → (meet σ t k a b ≡ true) ↔ ((t ≢ k) × (((σ .node t ≡ a) × (σ .node k ≡ b)) ⊎ ((σ .node k ≡ a) × (σ .node t ≡ b))))
 meet-of σ t k a b =
@@ -44,6 +45,42 @@ module _ (m : ℕ) (σ : State) (a b : ℕ) where
         where
           before : t ≢ k → (k < t → ⊥) → t < k
           before d l = elim (decLt t k) [ yes g ↦ g | no g ↦ absurd (let e : t ≡ k = omega arith in d e) ]
+
+-- the threads after t, round the team, are the others
+module _ (m t : ℕ) (in-team : t < m) where
+  next-up : (k : ℕ) → t + k < m → nextThread m t k ≡ t + k
+  next-up k l = rw (lt-ltb (t + k) m l)
+
+  next-round : (k : ℕ) → m ≤ t + k → nextThread m t k ≡ t + k - m
+  next-round k l = rw (le-ltb (t + k) m l)
+
+  pub next-below : (k : ℕ) → k < m → nextThread m t k < m
+  next-below k l = elim (decLt (t + k) m) [ yes h ↦ rw (next-up k h) h | no h ↦ rw (next-round k (omega arith)) (omega arith) ]
+
+  pub next-other : (k : ℕ) → 0 < k → k < m → t ≢ nextThread m t k
+  next-other k p l = elim (decLt (t + k) m) [ yes h ↦ (λ e. omega (arith, next-up k h)) | no h ↦ (λ e. omega (arith, next-round k (omega arith))) ]
+
+  next-none : nextThread m t 0 ≡ t
+  next-none = let l : t + 0 < m = omega arith in next-up 0 l ∙ (let e : t + 0 ≡ t = omega arith in e)
+
+  module _ (σ : State) (a b : ℕ) where
+    -- t itself meets nobody
+    pub round-first : any 1 (λ k. meet σ t (nextThread m t k) a b) ≡ false
+    unfolding any
+    round-first = rw (next-none, eq-eqb t t refl)
+
+    pub round-all : any m (λ k. meet σ t (nextThread m t k) a b) ≡ meets m σ t a b
+    round-all = same-truth _ _
+        (λ h. let (k, l, g) = any-at m _ h in at-any m _ (nextThread m t k) (next-below k l) g)
+        (λ h. let (j, l, g) = any-at m _ h in back j l g (decLt j t))
+      where
+        back : (j : ℕ) → j < m → meet σ t j a b ≡ true → Dec (j < t) → any m (λ k. meet σ t (nextThread m t k) a b) ≡ true
+        back j l g (yes h) =
+            let e : nextThread m t (j + m - t) ≡ j = next-round (j + m - t) (omega arith) ∙ (let q : t + (j + m - t) - m ≡ j = omega arith in q) in
+            at-any m _ (j + m - t) (omega arith) (subst (λ (i : ℕ). meet σ t i a b ≡ true) (sym e) g)
+        back j l g (no h) =
+            let e : nextThread m t (j - t) ≡ j = next-up (j - t) (omega arith) ∙ (let q : t + (j - t) ≡ j = omega arith in q) in
+            at-any m _ (j - t) (omega arith) (subst (λ (i : ℕ). meet σ t i a b ≡ true) (sym e) g)
 
 -- a step moves one thread
 pub apply-others : (σ : State) (t v : ℕ) (e : Effect) (k : ℕ) → k ≢ t → apply σ t v e .node k ≡ σ .node k

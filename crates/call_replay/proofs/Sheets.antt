@@ -90,14 +90,11 @@ or-assoc : (a b c : Bool) → ((a || b) || c) ≡ (a || (b || c))
 or-assoc true b c = refl
 or-assoc false b c = refl
 
--- two threads at a pair of nodes, and one
+-- two threads at a pair of nodes
 module _ {n : ℕ} {rows : Rows} {out : List ℕ} (met : ℕ → ℕ → Bool) (σ : State) (t k : ℕ) where
   pub sheet-pair : {x y : ℕ} → (t ≡ k → ⊥) → x ≡ σ .node t → y ≡ σ .node k → Sheet n rows (λ a b. (met a b || (eqb x a && eqb y b)) || (eqb y a && eqb x b)) out
       → Sheet n rows (λ a b. met a b || meet σ t k a b) out
   sheet-pair {x} {y} d p q = sheet-same (λ a b. or-assoc (met a b) (eqb x a && eqb y b) (eqb y a && eqb x b) ∙ (rw (p, q, ne-eqb t k d)))
-
-  pub sheet-one : t ≡ k → Sheet n rows met out → Sheet n rows (λ a b. met a b || meet σ t k a b) out
-  sheet-one q = sheet-same (λ a b. or-none (met a b) _ (rw (eq-eqb t k q)))
 
 pub met-none : (t : Bool) (f : ℕ → Bool) → t ≡ (t || any 0 f)
 unfolding any

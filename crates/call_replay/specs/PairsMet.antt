@@ -3,8 +3,8 @@
 use mathlib.Core.Path.{_≡_}
 use mathlib.Core.Bool.{Bool, _&&_, _||_, not, cond}
 use mathlib.Core.List.{List}
-use Prim.Native.Nat.{ℕ, _+_, _*_, _≤_, _<_}
-use lib.Dec.{eqb}
+use Prim.Native.Nat.{ℕ, _+_, _-_, _*_, _≤_, _<_}
+use lib.Dec.{eqb, ltb}
 use lib.ListN.{length, getD}
 use Rattle.lists.specs.Range.{any}
 use Rattle.theory_team.specs.State.{State}
@@ -18,6 +18,10 @@ meet σ t k a b = not (eqb t k) && ((eqb (σ .node t) a && eqb (σ .node k) b) |
 -- Thread t, and one of the first m.
 abbrev pub meets : ℕ → State → ℕ → ℕ → ℕ → Bool
 meets m σ t a b = any m (λ k. meet σ t k a b)
+
+-- The k-th thread after t, round a team of m.
+abbrev pub nextThread : ℕ → ℕ → ℕ → ℕ
+nextThread m t k = cond (ltb (t + k) m) (t + k) (t + k - m)
 
 -- The rows kept, one after the other, of n entries each.
 pub record Sheet (n : ℕ) (rows : Rows) (met : ℕ → ℕ → Bool) (out : List ℕ) : Type 0 where

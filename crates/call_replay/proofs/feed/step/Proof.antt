@@ -54,7 +54,7 @@ mark-thread-requires c κs =
     let n = c .before .at .ensures ∙ sym (T .nodes) in (
       shows-past 784 0 (omega arith) (omega arith) (c .before .before .before .apply .ensures (P .state) (L .state)) .long,
       few,
-      omega (arith, allowed-in R (a .args .m) P (a .args .t) (a .args .v) al, few),
+      allowed-in R (a .args .m) P (a .args .t) (a .args .v) al,
       subst (λ (k : ℕ). a .args .rows .count * k ≤ length (a .args .out .now)) (sym n) room,
     )
 

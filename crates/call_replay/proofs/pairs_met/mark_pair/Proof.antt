@@ -3,7 +3,7 @@
 use mathlib.Core.Path.{_∙_}
 use native.Mathlib.Omega.{arith}
 use borrow.Author.Needs.{needs}
-use Rattle.call_replay.proofs.Sheets.{sheet-pair, sheet-one, kept-same, kept-then}
+use Rattle.call_replay.proofs.Sheets.{sheet-pair, kept-then}
 use Rattle.call_replay.proofs.pairs_met.mark_pair.Statement.{statement}
 use Rattle.call_replay.proofs.pairs_met.mark_pair.Tie as tie
 
@@ -17,23 +17,20 @@ mark-requires : tie.Need-mark-requires
 mark-requires c κs = search needs
 
 mark-requires-2 : tie.Need-mark-requires-2
-mark-requires-2 c κs = omega (arith, c .before .before .before .before .before .before .before .before .before .pre .3, c .before .before .before .mark .ensures .1 .long)
+mark-requires-2 c κs = omega (arith, c .before .before .before .before .before .before .before .before .pre .4, c .before .before .before .mark .ensures .1 .long)
 
 same-length : tie.Need-same-length
 same-length c = c .before .before .mark2 .ensures .1 .long ∙ c .before .before .before .before .before .before .mark .ensures .1 .long
 
 returns : tie.Need-returns
 returns c =
-    let a = c .before .before .before .before .before .before .before .before .before .before .before .before in
+    let a = c .before .before .before .before .before .before .before .before .before .before .before in
     let one = c .before .before .before .before .before .before .mark .ensures in
     let two = c .before .before .mark2 .ensures in (
-      (λ σ met S H. sheet-pair met σ (a .args .t) (a .args .k) (c .before .before .before .before .before .before .before .before .before .before .if1 .taken) (c .before .before .before .before .before .before .before .before .before .node-of .ensures ∙ S .node (a .args .t) (a .pre .1))
+      (λ σ met S H. sheet-pair met σ (a .args .t) (a .args .k) (a .pre .3) (c .before .before .before .before .before .before .before .before .before .node-of .ensures ∙ S .node (a .args .t) (a .pre .1))
           (c .before .before .before .before .before .before .before .before .node-of2 .ensures ∙ S .node (a .args .k) (a .pre .2)) (two .0 _ (one .0 met H))),
       kept-then (one .1) (two .1),
     )
-
-returns-2 : tie.Need-returns-2
-returns-2 c = ((λ σ met S H. sheet-one met σ (c .before .before .args .t) (c .before .before .args .k) (c .if1 .left) H), kept-same _ _)
 
 pub mark-pair-spec : {M : Type 1} → statement M
 mark-pair-spec =
@@ -44,5 +41,4 @@ mark-pair-spec =
     mark-requires
     mark-requires-2
     same-length
-    returns
-    returns-2)
+    returns)

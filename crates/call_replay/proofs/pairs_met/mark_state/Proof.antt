@@ -20,10 +20,10 @@ abbrev μ-loop : tie.MeasureT-loop
 loop-holds : tie.Need-loop-holds Inv-loop μ-loop
 loop-holds c = (omega arith, ((λ σ met S H. sheet-same (λ a b. met-none (met a b) (λ j. meets j σ j a b)) H), kept-same _ _))
 
-mark-thread-requires : tie.Need-mark-thread-requires Inv-loop μ-loop
-mark-thread-requires c κs =
+mark-before-requires : tie.Need-mark-before-requires Inv-loop μ-loop
+mark-before-requires c κs =
     let pre = c .before .before .before .before .pre in
-    (pre .0, omega (arith, pre .1), omega (arith, pre .1), omega (arith, pre .2, c .before .before .loop .inv .1 .1 .long))
+    (pre .0, omega (arith, pre .1), omega (arith, pre .2, c .before .before .loop .inv .1 .1 .long))
 
 add-t : tie.Need-add-t Inv-loop μ-loop
 add-t c = omega arith
@@ -34,7 +34,7 @@ loop-less c = omega arith
 loop-again : tie.Need-loop-again Inv-loop μ-loop
 loop-again c =
     let l = c .before .before .before .before .before in
-    let marked = c .before .before .mark-thread .ensures in (
+    let marked = c .before .before .mark-before .ensures in (
       omega arith,
       (
         (λ σ met S H. sheet-same (λ a b. met-more (met a b) (l .loop .t) (λ j. meets j σ j a b)) (marked .0 σ _ S (l .loop .inv .1 .0 σ met S H))),
@@ -60,7 +60,7 @@ mark-state-spec =
     Inv-loop
     μ-loop
     loop-holds
-    mark-thread-requires
+    mark-before-requires
     add-t
     loop-less
     loop-again
