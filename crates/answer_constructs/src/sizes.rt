@@ -25,10 +25,6 @@ use output::Written;
 use output::room_for;
 use theory_answers::Size;
 
-const LEAST: usize = 1;
-
-const MOST: usize = 1024;
-
 // Row 21.
 pub fn bad_size(size: Size) -> bool
     ensures { λ r. ⌜ firstOf (sizeRows size) ≡ cond r (some 21) none ⌝ }
@@ -36,10 +32,10 @@ pub fn bad_size(size: Size) -> bool
     match size {
         Size::Any => false,
         Size::Of(threads) => {
-            if threads < LEAST {
+            if threads < Size::LEAST {
                 return true;
             }
-            threads > MOST
+            threads > Size::MOST
         }
     }
 }

@@ -4,16 +4,7 @@ ghost use Prim.Native.Nat.{_≤_, _<_};
 ghost use lib.ListN.{length};
 ghost use Rattle.answer_locks.specs.Bytes.{byteBy, Put};
 use masks::bits::has;
-
-// The lock is needed; it can be dropped as far as finished runs go; in every run.
-const NEEDED: u8 = 0;
-
-const FINISHED: u8 = 1;
-
-const ALWAYS: u8 = 2;
-
-// No critical of the region.
-const OTHER: u8 = 255;
+use theory_calls::LockByte;
 
 // The byte of construct c, where some pair needs the locks of `ever`, and those of `needed` in finished runs.
 fn lock_byte(c: usize, criticals: u64, ever: u64, needed: u64) -> u8
@@ -21,15 +12,15 @@ fn lock_byte(c: usize, criticals: u64, ever: u64, needed: u64) -> u8
     ensures { λ r. ⌜ r ≡ byteBy criticals ever needed c ⌝ }
 {
     if !has(criticals, c) {
-        return OTHER;
+        return LockByte::NO_CRITICAL;
     }
     if has(needed, c) {
-        return NEEDED;
+        return LockByte::NEEDED;
     }
     if has(ever, c) {
-        return FINISHED;
+        return LockByte::DROPPABLE_FINISHED;
     }
-    ALWAYS
+    LockByte::DROPPABLE_ALWAYS
 }
 
 // The bytes of the first n constructs.

@@ -4,7 +4,7 @@ use mathlib.Core.Bool.{cond}
 use mathlib.Core.List.{List}
 use Prim.Native.Nat.{ℕ, _+_, _/_, _%_, _^_}
 use lib.ListN.{getD}
-use Rattle.theory_calls.specs.Access.{Access}
+use Rattle.theory_calls.specs.declared.Access.{Access}
 use Rattle.theory_calls.specs.Races.{harmless}
 
 -- By the nodes alone, the other one b.

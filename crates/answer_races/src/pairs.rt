@@ -10,9 +10,9 @@ ghost use Rattle.answer_races.specs.PairsLines.{lineByte};
 use crate::lines::Lines;
 use crate::rows::fill_row;
 use crate::same_variable::PLACES;
-use crate::same_variable::RECORD;
 use crate::same_variable::link;
 use chart::cursor::wide;
+use theory_calls::Access;
 
 // All rows fill the front of `out`: row i is the part after the rows before it.
 pub fn fill_races(accesses: &[u8], lines: &Lines, out: &mut [u8])
@@ -27,11 +27,11 @@ pub fn fill_races(accesses: &[u8], lines: &Lines, out: &mut [u8])
     let mut all = [0u16; PLACES];
     let mut writes = [0u16; PLACES];
     link(accesses, &mut all, &mut writes);
-    let n = accesses.len() / RECORD;
+    let n = accesses.len() / Access::BYTES;
     let mut at = 0;
     let mut i = 0;
     while i < n {
-        let node = wide(accesses[RECORD * i]);
+        let node = wide(accesses[Access::BYTES * i]);
         let end = at + (n - i);
         fill_row(accesses, i, &all, &writes, &lines[node], &mut out[at..end]);
         at = end;

@@ -9,16 +9,18 @@ ghost use Rattle.answer_races.specs.Linked.{Linked};
 ghost use Rattle.answer_races.specs.Bytes.{lineRace, byLine};
 ghost use Rattle.answer_races.specs.Walked.{Walked};
 use crate::same_variable::Links;
-use crate::same_variable::RECORD;
 use crate::same_variable::place;
 use chart::cursor::wide;
+use theory_calls::Access;
+use theory_calls::RaceByte;
 
 // Two sets of nodes, three words each.
 pub type Line = [u64; WORDS];
 
 pub const WORDS: usize = 6;
 
-// What the row's node is to node b: 0 where they never meet, 1 where they have a name in common, 2 where they have none.
+// What the row's node is to node b: no race where they never meet, synchronization where they have a name in common, data where they have none. The numbers
+// of these are how many of the two sets b is in.
 fn race_at(line: &Line, b: usize) -> u8
     requires { ⌜ b < 192 ⌝ }
     ensures { λ r. ⌜ r ≡ lineRace (now (line .entry)) b ⌝ }
@@ -33,7 +35,7 @@ fn race_of(accesses: &[u8], k: usize, line: &Line) -> u8
     requires { ⌜ (4 * k + 3 < length (now accesses)) × (accessAt (now accesses) k .node < 192) ⌝ }
     ensures { λ r. ⌜ r ≡ lineRace (now (line .entry)) (accessAt (now (accesses .entry)) k .node) ⌝ }
 {
-    race_at(line, wide(accesses[RECORD * k]))
+    race_at(line, wide(accesses[Access::BYTES * k]))
 }
 
 // No race with any.
@@ -43,7 +45,7 @@ fn clear(out: &mut [u8])
     let n = out.len();
     let mut k = 0;
     while k < n {
-        out[k] = 0;
+        out[k] = RaceByte::NONE;
         k += 1;
     }
 }
@@ -90,7 +92,7 @@ pub fn fill_row(accesses: &[u8], i: usize, all: &Links, writes: &Links, line: &L
         ⌜ now (out .exit) ≡ tab (length (now (out .entry))) (λ x. byLine (now (line .entry)) (accessAt list i) (accessAt list (i + x))) ⌝ }
 {
     clear(out);
-    if accesses[RECORD * i + 1] == 0 {
+    if accesses[Access::BYTES * i + 1] == Access::READ {
         walk(accesses, i, writes, line, out);
         return;
     }

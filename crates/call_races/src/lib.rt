@@ -16,11 +16,11 @@ use answer_masks::Surveyed;
 use answer_masks::survey;
 use answer_races::bytes::put_races;
 use answer_races::list::bad_accesses;
-use answer_races::same_variable::RECORD;
 use chart::format::Chart;
 use chart::format::Refusal;
 use output::Written;
 use output::room_for;
+use theory_calls::Access;
 
 // Rows 20 and 11 and the bytes, of a chart whose nodes are marked.
 fn write_races(
@@ -45,7 +45,7 @@ fn write_races(
     if bad_accesses(s, chart, accesses) {
         return Written::Refused(Refusal::ACCESSES);
     }
-    let n = accesses.len() / RECORD;
+    let n = accesses.len() / Access::BYTES;
     match room_for(n * (n + 1) / 2, out.len()) {
         Written::Refused(refusal) => Written::Refused(refusal),
         Written::Bytes(size) => {

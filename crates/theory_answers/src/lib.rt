@@ -9,6 +9,12 @@ pub enum Size {
     Of(usize),
 }
 
+impl Size {
+    pub const LEAST: usize = 1;
+
+    pub const MOST: usize = 1024;
+}
+
 // An answer is the number of the first rule that makes the nodes nonconcurrent, 0 where none does; a sheet also says where a barrier is.
 pub struct Answer {
     pub number: u8,

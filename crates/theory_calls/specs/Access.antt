@@ -10,12 +10,7 @@ use Rattle.chart.specs.Format.{field}
 use Rattle.chart.specs.Region.{Region}
 use Rattle.chart.specs.Refusal.{Row}
 use Rattle.theory_answers.specs.Numbers.{badNumber}
-
-pub record Access : Type 0 where
-  pub node : ℕ
-  -- 1 for a write, 0 for a read
-  pub write : ℕ
-  pub variable : ℕ
+use Rattle.theory_calls.specs.declared.Access.{Access}
 
 -- How many accesses there are; and access i, from 0: bytes 4i to 4i + 3.
 unfoldable pub total : List ℕ → ℕ

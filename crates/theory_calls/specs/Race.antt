@@ -6,7 +6,7 @@ use Prim.Native.Nat.{ℕ}
 use Rattle.chart.specs.Region.{Region}
 use Rattle.theory_team.specs.Run.{Concurrent}
 use Rattle.theory_team.specs.Locks.{InCritical}
-use Rattle.theory_calls.specs.Access.{Access}
+use Rattle.theory_calls.specs.declared.Access.{Access}
 
 -- 02: "Two accesses have no race if the variables differ, both read, or the nodes never meet".
 abbrev pub NoRace : Region → Access → Access → Type 0

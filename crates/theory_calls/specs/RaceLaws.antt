@@ -27,7 +27,8 @@ use Rattle.theory_team.specs.Run.{Concurrent}
 use Rattle.theory_team.specs.Locks.{LockedIn}
 use Rattle.theory_exact.specs.Answered.{answer-exact}
 use Rattle.theory_exact.specs.Synchronized.{synchronized}
-use Rattle.theory_calls.specs.Access.{Access, total, accessAt, badAccess, badAccesses}
+use Rattle.theory_calls.specs.declared.Access.{Access}
+use Rattle.theory_calls.specs.Access.{total, accessAt, badAccess, badAccesses}
 use Rattle.theory_calls.specs.Races.{shareName, harmless, raceAt, race, races}
 use Rattle.theory_calls.specs.Race.{NoRace, Racing, CommonName, Race, no-race, synchronization, data-race}
 

@@ -16,7 +16,8 @@ use Rattle.theory_paths.specs.Admission.{regionRows}
 use Rattle.theory_answers.specs.Answer.{isIn, answer}
 use Rattle.output.specs.Output.{outputRows, writtenBy, leftBy}
 use Rattle.output.specs.declared.Written.{Written}
-use Rattle.theory_calls.specs.Access.{Access, total, accessAt, accessesRow}
+use Rattle.theory_calls.specs.declared.Access.{Access}
+use Rattle.theory_calls.specs.Access.{total, accessAt, accessesRow}
 
 -- Each is inside some critical, at any depth, the two of one name. 0 (01: unnamed) is a name too.
 unfoldable pub shareName : Region → ℕ → ℕ → Bool
