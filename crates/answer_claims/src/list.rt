@@ -1,16 +1,15 @@
 // One list of claims against a chart whose nodes are marked: rows 12, 13 (`numbers`) and 21, and the first false claim.
 ghost use mathlib.Core.Path.{_≡_};
-ghost use mathlib.Core.Bool.{false};
 ghost use Prim.Native.Nat.{ℕ, _+_, _*_, _<_};
 ghost use lib.ListN.{getD, length};
-ghost use Rattle.chart.specs.Region.{Region};
 ghost use Rattle.chart.specs.Refusal.{firstOf};
 ghost use Rattle.chart.specs.Checked.{reading};
 ghost use Rattle.mark_tables.specs.Tables.{Accepted};
 ghost use Rattle.theory_answers.specs.Answer.{answerFor};
-ghost use Rattle.answer_constructs.specs.Marks.{Sized, Marks};
-ghost use Rattle.theory_calls.specs.Claims.{badNumbers, isFalse};
+ghost use Rattle.answer_constructs.specs.Marks.{Marks};
+ghost use Rattle.theory_calls.specs.Claims.{isFalse};
 ghost use Rattle.theory_calls.specs.Judged.{claimRows, verdict, answered};
+ghost use Rattle.answer_claims.specs.OfMarks.{OfMarks};
 use crate::numbers::bad_numbers;
 use answer_constructs::chains::Sets;
 use answer_constructs::marks::MaskTable;
@@ -27,7 +26,7 @@ use theory_calls::Verdict;
 // Whether claim k is false.
 fn is_false(claims: &[u8], k: usize, marks: &MaskTable, sets: Sets) -> bool
     requires { ⌜ (2 * k + 1 < length (now claims)) × ((j : ℕ) → getD (now claims) j 0 < 192) ⌝ }
-    ensures { λ r. ⌜ ((R : Region) (size : Size) → Marks R (now (marks .entry)) sets → Sized R size sets → badNumbers R (now (claims .entry)) ≡ false → r ≡ isFalse (answerFor R size) (now (claims .entry)) k) ⌝ }
+    ensures { λ r. ⌜ OfMarks (now (marks .entry)) sets (now (claims .entry)) (λ R size. r ≡ isFalse (answerFor R size) (now (claims .entry)) k) ⌝ }
 {
     let a = wide(claims[2 * k]);
     let b = wide(claims[2 * k + 1]);
@@ -37,7 +36,7 @@ fn is_false(claims: &[u8], k: usize, marks: &MaskTable, sets: Sets) -> bool
 // The verdict on a list that is not refused.
 fn first_false(claims: &[u8], marks: &MaskTable, sets: Sets) -> Verdict
     requires { ⌜ ((j : ℕ) → getD (now claims) j 0 < 192) ⌝ }
-    ensures { λ r. ⌜ ((R : Region) (size : Size) → Marks R (now (marks .entry)) sets → Sized R size sets → badNumbers R (now (claims .entry)) ≡ false → r ≡ verdict (answerFor R size) (now (claims .entry))) ⌝ }
+    ensures { λ r. ⌜ OfMarks (now (marks .entry)) sets (now (claims .entry)) (λ R size. r ≡ verdict (answerFor R size) (now (claims .entry))) ⌝ }
 {
     let n = claims.len() / 2;
     let mut k = 0;

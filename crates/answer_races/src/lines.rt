@@ -5,10 +5,9 @@ ghost use mathlib.Core.List.{List, []};
 ghost use Prim.Native.Nat.{ℕ, _≤_, _<_};
 ghost use lib.ListN.{length, getD};
 ghost use Rattle.answer_pairs.specs.Rules.{profileAt};
-ghost use Rattle.answer_pairs.specs.declared.rules.Profile.{Profile as Masks};
 ghost use Rattle.answer_nodes.specs.NodeSets.{InSets};
 ghost use Rattle.answer_met.specs.Meets.{meets, NodeSet, Named};
-ghost use Rattle.answer_races.specs.Lines.{LineOf};
+ghost use Rattle.answer_races.specs.Lines.{LineOf, MetOf, LineBy};
 use crate::rows::Line;
 use answer_constructs::marks::MaskTable;
 use answer_met::NameSets;
@@ -41,7 +40,7 @@ fn kept_of(own: Profile, nodes: &NodeSets) -> Kept
 
 // Those that are kept, or those of a node with these masks, unless that is closed. Neighbours often have the same masks.
 fn keep(own: Profile, closed: u8, kept: Kept, nodes: &NodeSets) -> Kept
-    ensures { λ r. ⌜ (closed ≡ 0 → r .own ≡ own) × ((shut : List ℕ) (marks : List (List ℕ)) → InSets shut marks (now (nodes .entry)) → NodeSet shut (meets (kept .own) marks) (kept .met) → NodeSet shut (meets (r .own) marks) (r .met)) ⌝ }
+    ensures { λ r. ⌜ (closed ≡ 0 → r .own ≡ own) × ((shut : List ℕ) (marks : List (List ℕ)) → InSets shut marks (now (nodes .entry)) → MetOf shut marks kept → MetOf shut marks r) ⌝ }
 {
     if closed != 0 {
         return kept;
@@ -55,7 +54,7 @@ fn keep(own: Profile, closed: u8, kept: Kept, nodes: &NodeSets) -> Kept
 
 // The line of a node that meets these and has these names around it.
 fn line_of(met: Words, around: u64, named: &NameSets) -> Line
-    ensures { λ r. ⌜ ((closed : List ℕ) (marks : List (List ℕ)) (names : List ℕ) (own : Masks) → NodeSet closed (meets own marks) met → Named closed names (now (named .entry)) → LineOf closed marks names own around r) ⌝ }
+    ensures { λ r. ⌜ LineBy met (now (named .entry)) around r ⌝ }
 {
     let shared = join(around, &named[0], &named[1], &named[2]);
     [

@@ -16,6 +16,7 @@ use Rattle.theory_paths.specs.Phases.{forward, nearest}
 use Rattle.theory_answers.specs.Numbers.{asked, asked-node}
 use Rattle.mark_tables.specs.Tables.{Closed, Levels}
 use Rattle.theory_calls.specs.Distances.{distanceByte, distancesResult}
+use Rattle.call_distances.specs.OfLevels.{OfLevels}
 
 -- the byte of node x, by the tables
 abbrev pub byteAt : List ℕ → List ℕ → ℕ → ℕ
@@ -47,7 +48,7 @@ told R closed levels C L x l = go (truth (asked R x))
     go (inr h) = rw (C .at x l, h)
 
 pub filled-all : (closed levels : List ℕ) {old new : List ℕ} {n : ℕ} → n ≤ length old → Filled (byteAt closed levels) n old new
-    → (R : Region) → R .nodes ≡ n → Closed R closed → Levels forward R levels → new ≡ distancesResult R ++ drop (length (distancesResult R)) old
+    → OfLevels n closed levels (λ R. new ≡ distancesResult R ++ drop (length (distancesResult R)) old)
 unfolding distancesResult
 filled-all closed levels {old} {new} room f R q C L =
     rw (tab-length (R .nodes) (distanceByte R))

@@ -5,12 +5,12 @@ ghost use mathlib.Core.List.{[], _++_};
 ghost use Prim.Native.Nat.{_≤_, _<_};
 ghost use lib.Dec.{eqb};
 ghost use lib.ListN.{length, drop};
-ghost use Rattle.chart.specs.Region.{Region};
 ghost use Rattle.chart.specs.Checked.{reading};
 ghost use Rattle.theory_paths.specs.Phases.{forward};
-ghost use Rattle.mark_tables.specs.Tables.{Accepted, Closed, Levels};
+ghost use Rattle.mark_tables.specs.Tables.{Accepted, Levels};
 ghost use Rattle.output.specs.Output.{outputRows, writtenBy, leftBy};
 ghost use Rattle.theory_calls.specs.Distances.{distancesResult, distancesWritten, distancesLeft};
+ghost use Rattle.call_distances.specs.OfLevels.{OfLevels};
 use chart::format::Chart;
 use mark_regions::entrance::enter;
 use mark_regions::outermost::Entered;
@@ -37,7 +37,7 @@ fn fill_distances(
     levels: &[u8; Chart::NODES],
 )
     requires { ⌜ (n ≤ 192) × (n ≤ length (now out)) ⌝ }
-    ensures { λ _. ⌜ ((R : Region) → R .nodes ≡ n → Closed R (now (closed .entry)) → Levels forward R (now (levels .entry)) → now (out .exit) ≡ distancesResult R ++ drop (length (distancesResult R)) (now (out .entry))) ⌝ }
+    ensures { λ _. ⌜ OfLevels n (now (closed .entry)) (now (levels .entry)) (λ R. now (out .exit) ≡ distancesResult R ++ drop (length (distancesResult R)) (now (out .entry))) ⌝ }
 {
     let mut x = 0;
     while x < n {

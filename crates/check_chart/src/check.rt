@@ -1,12 +1,11 @@
 // Rows 1 to 9 of the refusals over any bytes.
 ghost use mathlib.Core.Path.{_≡_};
 ghost use Rattle.chart.specs.Format.{decode};
-ghost use Rattle.chart.specs.Scope.{beginNode, endNode};
 ghost use Rattle.chart.specs.Refusal.{firstOf, tableRows};
 ghost use Rattle.chart.specs.Checked.{Laid, answer, checked};
 ghost use Rattle.chart.specs.declared.format.Chart.{Chart};
 ghost use Rattle.chart.specs.declared.format.Checked.the-variants.{Passed};
-ghost use Rattle.check_nodes.specs.Framed.{Framed};
+ghost use Rattle.check_nodes.specs.Framed.{BothFramed};
 use chart::format::Chart;
 use chart::format::Checked;
 use chart::format::Refusal;
@@ -26,7 +25,7 @@ fn check_tables(
 ) -> Checked
     requires { ⌜ Laid (now s) chart ⌝ }
     ensures { λ r. ⌜ r ≡ answer (firstOf (tableRows (decode (now (s .entry))))) chart ⌝ }
-    ensures { λ r. ⌜ ((counts : Chart) → r ≡ Passed counts → Framed (decode (now (s .entry))) beginNode (now (begins .exit)) × Framed (decode (now (s .entry))) endNode (now (ends .exit))) ⌝ }
+    ensures { λ r. ⌜ ((counts : Chart) → r ≡ Passed counts → BothFramed (decode (now (s .entry))) (now (begins .exit)) (now (ends .exit))) ⌝ }
 {
     if bad_nodes(s, chart) {
         return Checked::Refused(Refusal::NODES);
@@ -53,7 +52,7 @@ pub fn check(
     ends: &mut [u8; Chart::BARRIERS],
 ) -> Checked
     ensures { λ r. ⌜ r ≡ checked (now (s .entry)) ⌝ }
-    ensures { λ r. ⌜ ((chart : Chart) → r ≡ Passed chart → Framed (decode (now (s .entry))) beginNode (now (begins .exit)) × Framed (decode (now (s .entry))) endNode (now (ends .exit))) ⌝ }
+    ensures { λ r. ⌜ ((chart : Chart) → r ≡ Passed chart → BothFramed (decode (now (s .entry))) (now (begins .exit)) (now (ends .exit))) ⌝ }
 {
     match read_trailer(s) {
         Checked::Refused(refusal) => Checked::Refused(refusal),

@@ -7,6 +7,7 @@ use Prim.Native.Nat.{ℕ, _+_, _<_}
 use lib.Dec.{eqb}
 use lib.ListN.{length, getD, set}
 use Rattle.chart.specs.Format.{Decoded, nodeAt}
+use Rattle.chart.specs.Scope.{beginNode, endNode}
 use Rattle.chart.specs.Reading.{frameOf}
 use Rattle.chart.proofs.Facts.{FrameAt}
 use Rattle.check_nodes.specs.Counted.{Counted, isFrame}
@@ -16,6 +17,10 @@ pub record Framed (D : Decoded) (kind : ℕ) (frames : List ℕ) : Type 0 where
   pub at : (c : ℕ) → c < length (D .constructs) → getD frames c 0 ≡ frameOf (D .nodes) kind c
   pub node : (c : ℕ) → getD frames c 0 < 192
   pub there : (c : ℕ) → c < length (D .constructs) → nodeAt (D .nodes) (frameOf (D .nodes) kind c) .kind ≡ kind
+
+-- For each construct its begin, and its end.
+abbrev pub BothFramed : Decoded → List ℕ → List ℕ → Type 0
+BothFramed D begins ends = Framed D beginNode begins × Framed D endNode ends
 
 -- Counts and places that one node more can be noted in.
 pub record Room (found places : List ℕ) : Type 0 where
@@ -35,3 +40,7 @@ pub record Noted (D : Decoded) (kind x : ℕ) (found places : List ℕ) : Type 0
   pub long : length places ≡ 64
   pub node : (c : ℕ) → getD places c 0 < 192
   pub at : (c y : ℕ) → y < x → FrameAt (D .nodes) kind c y → (getD places c 0 < x) × FrameAt (D .nodes) kind c (getD places c 0)
+
+-- The begins among the first x, and the ends.
+abbrev pub BothNoted : Decoded → ℕ → List ℕ → List ℕ → List ℕ → List ℕ → Type 0
+BothNoted D x begun ended begins ends = Noted D beginNode x begun begins × Noted D endNode x ended ends

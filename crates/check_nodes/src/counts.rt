@@ -11,7 +11,7 @@ ghost use Rattle.chart.specs.Nested.{isParallel};
 ghost use Rattle.chart.specs.Refusal.{badNodes, badFrames, barrierOf, tooManyIn, badBarriers};
 ghost use Rattle.chart.specs.Checked.{Laid};
 ghost use Rattle.check_nodes.specs.Counted.{Counted};
-ghost use Rattle.check_nodes.specs.Framed.{Room, Turn, Noted, Framed};
+ghost use Rattle.check_nodes.specs.Framed.{Room, Turn, BothNoted, BothFramed};
 use chart::cursor::wide;
 use chart::format::Chart;
 use chart::format::Construct;
@@ -78,8 +78,8 @@ fn count_frames(
     ends: &mut [u8; Chart::BARRIERS],
 )
     requires { ⌜ Laid (now s) chart × (badNodes (decode (now s)) ≡ false) ⌝ }
-    requires { ⌜ Noted (decode (now s)) beginNode 0 (now begun) (now begins) × Noted (decode (now s)) endNode 0 (now ended) (now ends) ⌝ }
-    ensures { λ _. ⌜ Noted (decode (now (s .entry))) beginNode (chart .nodes) (now (begun .exit)) (now (begins .exit)) × Noted (decode (now (s .entry))) endNode (chart .nodes) (now (ended .exit)) (now (ends .exit)) ⌝ }
+    requires { ⌜ BothNoted (decode (now s)) 0 (now begun) (now ended) (now begins) (now ends) ⌝ }
+    ensures { λ _. ⌜ BothNoted (decode (now (s .entry))) (chart .nodes) (now (begun .exit)) (now (ended .exit)) (now (begins .exit)) (now (ends .exit)) ⌝ }
 {
     let n = chart.nodes;
     let mut x = 0;
@@ -113,7 +113,7 @@ pub fn bad_frames(
 ) -> bool
     requires { ⌜ Laid (now s) chart × (badNodes (decode (now s)) ≡ false) ⌝ }
     ensures { λ r. ⌜ r ≡ badFrames (decode (now (s .entry))) ⌝ }
-    ensures { λ r. ⌜ (r ≡ false → Framed (decode (now (s .entry))) beginNode (now (begins .exit)) × Framed (decode (now (s .entry))) endNode (now (ends .exit))) ⌝ }
+    ensures { λ r. ⌜ (r ≡ false → BothFramed (decode (now (s .entry))) (now (begins .exit)) (now (ends .exit))) ⌝ }
 {
     *begins = [0u8; Chart::BARRIERS];
     *ends = [0u8; Chart::BARRIERS];

@@ -5,9 +5,8 @@ ghost use Prim.Native.Nat.{_+_, _≤_, _<_};
 ghost use lib.Dec.{eqb, leb};
 ghost use Rattle.lists.specs.Range.{any, count};
 ghost use Rattle.chart.specs.Format.{decode};
-ghost use Rattle.chart.specs.Scope.{beginNode, endNode};
 ghost use Rattle.chart.specs.Checked.{reading};
-ghost use Rattle.check_nodes.specs.Framed.{Framed};
+ghost use Rattle.check_nodes.specs.Framed.{BothFramed};
 ghost use Rattle.mark_tables.specs.Tables.{Accepted, Stops, Barriers, Noted, hasStop, stopFrom, Listing};
 use chart::format::Chart;
 use chart::format::Node;
@@ -126,7 +125,7 @@ pub fn frames(
     ends: &mut [u8; Sources::MOST],
 )
     requires { ⌜ Accepted (now s) chart ⌝ }
-    ensures { λ _. ⌜ Framed (decode (now (s .entry))) beginNode (now (begins .exit)) × Framed (decode (now (s .entry))) endNode (now (ends .exit)) ⌝ }
+    ensures { λ _. ⌜ BothFramed (decode (now (s .entry))) (now (begins .exit)) (now (ends .exit)) ⌝ }
 {
     bad_frames(s, chart, begins, ends);
 }

@@ -6,18 +6,16 @@ use Prim.Native.Nat.{ℕ, _-_, _/_, _≤_}
 use native.Mathlib.Omega.{arith}
 use lib.ListN.{length}
 use Rattle.lists.specs.Range.{any, at-any, any-more, first-is}
-use Rattle.chart.specs.Region.{Region}
 use Rattle.theory_answers.specs.Answer.{answerFor}
-use Rattle.theory_answers.specs.declared.Size.{Size}
-use Rattle.answer_constructs.specs.Marks.{Sized, Marks}
-use Rattle.theory_calls.specs.Claims.{total, badNumbers, isFalse}
+use Rattle.theory_calls.specs.Claims.{total, isFalse}
 use Rattle.theory_calls.specs.Judged.{verdict}
+use Rattle.answer_claims.specs.OfMarks.{OfMarks}
 use Rattle.answer_claims.proofs.list.first_false.Statement.{statement}
 use Rattle.answer_claims.proofs.list.first_false.Tie as tie
 
 abbrev Inv-loop : tie.InvT-loop
 Inv-loop claims marks sets n k₀ k =
-    (k ≤ length claims / 2) × ((R : Region) (size : Size) → Marks R marks sets → Sized R size sets → badNumbers R claims ≡ false → any k (isFalse (answerFor R size) claims) ≡ false)
+    (k ≤ length claims / 2) × OfMarks marks sets claims (λ R size. any k (isFalse (answerFor R size) claims) ≡ false)
 
 abbrev μ-loop : tie.MeasureT-loop
 μ-loop claims marks sets n k₀ k = length claims / 2 - k
