@@ -117,7 +117,12 @@ impl Construct {
     pub const NO_KIND: u8 = 0;
     // The number that stands for no construct.
     pub const NONE: u8 = 255;
+    // A place for each bit of a mask: a search starts from such a list of nodes.
+    pub const FRAMES: usize = 64;
 }
+
+// For each construct the node where it begins, or that where it ends.
+pub type Frames = [u8; Construct::FRAMES];
 
 // A refusal is its number alone.
 pub struct Refusal {

@@ -8,6 +8,7 @@ ghost use Rattle.chart.specs.declared.format.Checked.the-variants.{Passed};
 ghost use Rattle.check_nodes.specs.Framed.{BothFramed};
 use chart::format::Chart;
 use chart::format::Checked;
+use chart::format::Frames;
 use chart::format::Refusal;
 use check_constructs::nesting::bad_constructs;
 use check_edges::bad_edges;
@@ -17,12 +18,7 @@ use check_nodes::nodes::bad_nodes;
 use check_trailer::read_trailer;
 
 // Rows 5 to 9. Row 7 finds where the constructs begin and end; row 9 reads it.
-fn check_tables(
-    s: &[u8],
-    chart: Chart,
-    begins: &mut [u8; Chart::BARRIERS],
-    ends: &mut [u8; Chart::BARRIERS],
-) -> Checked
+fn check_tables(s: &[u8], chart: Chart, begins: &mut Frames, ends: &mut Frames) -> Checked
     requires { ⌜ Laid (now s) chart ⌝ }
     ensures { λ r. ⌜ r ≡ answer (firstOf (tableRows (decode (now (s .entry))))) chart ⌝ }
     ensures { λ r. ⌜ ((counts : Chart) → r ≡ Passed counts → BothFramed (decode (now (s .entry))) (now (begins .exit)) (now (ends .exit))) ⌝ }
@@ -46,11 +42,7 @@ fn check_tables(
 }
 
 // The first of rows 1 to 9 that applies, or the counts of the chart, and where its constructs begin and end.
-pub fn check(
-    s: &[u8],
-    begins: &mut [u8; Chart::BARRIERS],
-    ends: &mut [u8; Chart::BARRIERS],
-) -> Checked
+pub fn check(s: &[u8], begins: &mut Frames, ends: &mut Frames) -> Checked
     ensures { λ r. ⌜ r ≡ checked (now (s .entry)) ⌝ }
     ensures { λ r. ⌜ ((chart : Chart) → r ≡ Passed chart → BothFramed (decode (now (s .entry))) (now (begins .exit)) (now (ends .exit))) ⌝ }
 {

@@ -13,6 +13,7 @@ use chart::cursor::wide;
 use chart::format::Chart;
 use chart::format::Construct;
 use chart::format::Edge;
+use chart::format::Frames;
 use chart::format::Node;
 
 // The scope of node x: where it lies, or its own construct where its kind is `own`.
@@ -72,8 +73,8 @@ fn fill_numbers(s: &[u8], chart: Chart, leave: &mut [u16; BYTES], arrive: &mut [
 fn fill_scopes(
     s: &[u8],
     chart: Chart,
-    begins: &[u8; Chart::BARRIERS],
-    ends: &[u8; Chart::BARRIERS],
+    begins: &Frames,
+    ends: &Frames,
     leave: &mut [u16; BYTES],
     arrive: &mut [u16; BYTES],
 )
@@ -181,12 +182,7 @@ fn joins_sections(s: &[u8], chart: Chart) -> bool
 // Row 9 but for sections. The order is asked of all edges at once, so that one comparison of scopes is all that is left of each, and it is
 // asked after the scopes are filled, which need not be read at once then. They are noted once for each node, not looked up for each edge.
 // No edge may come to start or leave finish: there too stand scopes that no other has.
-fn bad_scopes(
-    s: &[u8],
-    chart: Chart,
-    begins: &[u8; Chart::BARRIERS],
-    ends: &[u8; Chart::BARRIERS],
-) -> bool
+fn bad_scopes(s: &[u8], chart: Chart, begins: &Frames, ends: &Frames) -> bool
     requires { ⌜ FramesKnown (now s) chart (now begins) (now ends) ⌝ }
     ensures { λ r. ⌜ r ≡ any (length (decode (now (s .entry)) .edges)) (badEdgeAt (decode (now (s .entry)))) ⌝ }
 {
@@ -203,12 +199,7 @@ fn bad_scopes(
 }
 
 // Row 9. Edges are asked for sections only where there is one, and for scopes only where there is a construct.
-pub fn bad_edges(
-    s: &[u8],
-    chart: Chart,
-    begins: &[u8; Chart::BARRIERS],
-    ends: &[u8; Chart::BARRIERS],
-) -> bool
+pub fn bad_edges(s: &[u8], chart: Chart, begins: &Frames, ends: &Frames) -> bool
     requires { ⌜ FramesKnown (now s) chart (now begins) (now ends) ⌝ }
     ensures { λ r. ⌜ r ≡ badEdges (decode (now (s .entry))) ⌝ }
 {

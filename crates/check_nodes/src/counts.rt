@@ -15,6 +15,7 @@ ghost use Rattle.check_nodes.specs.Framed.{Room, Turn, BothNoted, BothFr
 use chart::cursor::wide;
 use chart::format::Chart;
 use chart::format::Construct;
+use chart::format::Frames;
 use chart::format::Node;
 
 // How many numbers a node may have.
@@ -32,13 +33,7 @@ fn count_if(holds: bool, number: u8, found: &mut [u8; NUMBERS])
 }
 
 // Where the node is of this kind, it counts for its number, and x is noted as the number's place.
-fn note_frame(
-    node: Node,
-    kind: u8,
-    x: usize,
-    found: &mut [u8; NUMBERS],
-    places: &mut [u8; Chart::BARRIERS],
-)
+fn note_frame(node: Node, kind: u8, x: usize, found: &mut [u8; NUMBERS], places: &mut Frames)
     requires { ⌜ (x < 192) × (node .kind ≡ kind → node .number < 64) × Room (now found) (now places) ⌝ }
     ensures { λ _. ⌜ Turn kind (node .kind) (node .number) x (now (found .entry)) (now (places .entry)) (now (found .exit)) (now (places .exit)) ⌝ }
 {
@@ -55,8 +50,8 @@ fn count_frame(
     x: usize,
     begun: &mut [u8; NUMBERS],
     ended: &mut [u8; NUMBERS],
-    begins: &mut [u8; Chart::BARRIERS],
-    ends: &mut [u8; Chart::BARRIERS],
+    begins: &mut Frames,
+    ends: &mut Frames,
 )
     requires { ⌜ (x < 192) × (beginNode ≤ node .kind → node .number < 64) × Room (now begun) (now begins) × Room (now ended) (now ends) ⌝ }
     ensures { λ _. ⌜ Turn beginNode (node .kind) (node .number) x (now (begun .entry)) (now (begins .entry)) (now (begun .exit)) (now (begins .exit)) ⌝ }
@@ -74,8 +69,8 @@ fn count_frames(
     chart: Chart,
     begun: &mut [u8; NUMBERS],
     ended: &mut [u8; NUMBERS],
-    begins: &mut [u8; Chart::BARRIERS],
-    ends: &mut [u8; Chart::BARRIERS],
+    begins: &mut Frames,
+    ends: &mut Frames,
 )
     requires { ⌜ Laid (now s) chart × (badNodes (decode (now s)) ≡ false) ⌝ }
     requires { ⌜ BothNoted (decode (now s)) 0 (now begun) (now ended) (now begins) (now ends) ⌝ }
@@ -105,18 +100,13 @@ fn not_ones(found: &[u8; NUMBERS], c: usize) -> bool
 }
 
 // Row 7, and for each construct its begin and its end where the row does not apply. Without constructs there is none that could lack a frame.
-pub fn bad_frames(
-    s: &[u8],
-    chart: Chart,
-    begins: &mut [u8; Chart::BARRIERS],
-    ends: &mut [u8; Chart::BARRIERS],
-) -> bool
+pub fn bad_frames(s: &[u8], chart: Chart, begins: &mut Frames, ends: &mut Frames) -> bool
     requires { ⌜ Laid (now s) chart × (badNodes (decode (now s)) ≡ false) ⌝ }
     ensures { λ r. ⌜ r ≡ badFrames (decode (now (s .entry))) ⌝ }
     ensures { λ r. ⌜ (r ≡ false → BothFramed (decode (now (s .entry))) (now (begins .exit)) (now (ends .exit))) ⌝ }
 {
-    *begins = [0u8; Chart::BARRIERS];
-    *ends = [0u8; Chart::BARRIERS];
+    *begins = [0u8; Construct::FRAMES];
+    *ends = [0u8; Construct::FRAMES];
     if chart.constructs == 0 {
         return false;
     }

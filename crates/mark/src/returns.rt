@@ -15,6 +15,7 @@ ghost use Rattle.mark.specs.Joined.{ArrangedBy};
 use chart::cursor::wide;
 use chart::format::Chart;
 use chart::format::Construct;
+use chart::format::Frames;
 use masks::bits::has;
 use search::edges::Parts;
 use search::search::ahead;
@@ -47,7 +48,7 @@ fn diagonal(masks: &[u64; Chart::NODES], nodes: &[u8; Sources::MOST], n: usize) 
 }
 
 // Whether each of the first n constructs begins before it ends, by the numbers of the nodes.
-fn all_before(begins: &[u8; Sources::MOST], ends: &[u8; Sources::MOST], n: usize) -> bool
+fn all_before(begins: &Frames, ends: &Frames, n: usize) -> bool
     requires { ⌜ n ≤ 64 ⌝ }
     ensures { λ r. ⌜ (r ≡ true → (c : ℕ) → c < n → getD (now (begins .entry)) c 0 < getD (now (ends .entry)) c 0) ⌝ }
 {
@@ -95,8 +96,8 @@ fn any_asked(s: &[u8], chart: Chart) -> bool
 pub fn returns(
     s: &[u8],
     chart: Chart,
-    begins: &[u8; Sources::MOST],
-    ends: &[u8; Sources::MOST],
+    begins: &Frames,
+    ends: &Frames,
     edges: &[[u8; Chart::EDGES]; Parts::ROWS],
     places: &[usize; Chart::PLACES],
     parts: Parts,

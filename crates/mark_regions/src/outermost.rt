@@ -13,12 +13,12 @@ ghost use Rattle.mark_regions.specs.Entered.{admitted, marked, Entry};
 ghost use Rattle.mark_regions.specs.declared.outermost.Entered.the-variants.{Marked};
 use chart::format::Chart;
 use chart::format::Checked;
+use chart::format::Construct;
 use chart::format::Refusal;
 use check_chart::check::check;
 use mark::boundaries::fill;
 use mark_tables::tables::load_tables;
 use search::edges::Parts;
-use search::sources::Sources;
 
 // A chart whose nodes are marked and how many barriers it has, or the first row that applies.
 pub enum Entered {
@@ -72,8 +72,8 @@ pub fn enter_outermost(
     ensures { λ r. ⌜ r ≡ admitted (now (s .entry)) ⌝ }
     ensures { λ r. ⌜ ((chart : Chart) (total : ℕ) → r ≡ Marked chart total → Entry (now (s .entry)) chart total (now (starts .exit)) (now (ends .exit)) (now (levels .exit))) ⌝ }
 {
-    let mut begin_nodes = [0u8; Sources::MOST];
-    let mut end_nodes = [0u8; Sources::MOST];
+    let mut begin_nodes = [0u8; Construct::FRAMES];
+    let mut end_nodes = [0u8; Construct::FRAMES];
     match check(s, &mut begin_nodes, &mut end_nodes) {
         Checked::Refused(refusal) => Entered::Refused(refusal),
         Checked::Passed(chart) => enter_region(s, chart, starts, ends, levels),

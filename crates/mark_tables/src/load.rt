@@ -9,9 +9,9 @@ ghost use Rattle.chart.specs.Checked.{reading};
 ghost use Rattle.check_nodes.specs.Framed.{BothFramed};
 ghost use Rattle.mark_tables.specs.Tables.{Accepted, Stops, Barriers, Noted, hasStop, stopFrom, Listing};
 use chart::format::Chart;
+use chart::format::Frames;
 use chart::format::Node;
 use check_nodes::counts::bad_frames;
-use search::sources::Sources;
 
 // The region by the byte that its nodes have for a number: on bytes alone the compiler takes several nodes at a time.
 pub fn region_byte(chart: Chart) -> u8
@@ -118,12 +118,7 @@ pub fn barriers(
 }
 
 // For each construct its begin, and its end: row 7, which does not apply, finds them.
-pub fn frames(
-    s: &[u8],
-    chart: Chart,
-    begins: &mut [u8; Sources::MOST],
-    ends: &mut [u8; Sources::MOST],
-)
+pub fn frames(s: &[u8], chart: Chart, begins: &mut Frames, ends: &mut Frames)
     requires { ⌜ Accepted (now s) chart ⌝ }
     ensures { λ _. ⌜ BothFramed (decode (now (s .entry))) (now (begins .exit)) (now (ends .exit)) ⌝ }
 {
