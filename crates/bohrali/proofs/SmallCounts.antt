@@ -19,7 +19,7 @@ use Rattle.chart.proofs.Records.{nodes-length}
 use Rattle.chart.proofs.Rows.{both-pass}
 use Rattle.theory_paths.specs.Admission.{admitRows}
 use Rattle.theory_paths.specs.Phases.{barriers, phase, phaseCount}
-use Rattle.theory_calls.specs.Admission.{countsIn, answer}
+use Rattle.theory_calls.specs.Admission.{regionCounts, answer}
 use Rattle.theory_calls.specs.declared.Counts.{Counts}
 use Rattle.theory_calls.specs.declared.Admission.the-variants.{Admitted}
 use Rattle.mark_tables.proofs.Accepted.{accepted}
@@ -31,15 +31,15 @@ unfolding countPairs
 pairs-most zero k f = omega arith
 pairs-most (suc n) k f = omega (arith, pairs-most n k f, count-most k (f n), suc-mul n k)
 
-pub small-counts : (s : List ℕ) (counts : Counts) → answer (firstOf (admitRows s)) (countsIn (region (decode s))) ≡ Admitted counts → SmallCounts counts
-unfolding answer countsIn admitRows phaseCount checked Checked·answer countsOf
+pub small-counts : (s : List ℕ) (counts : Counts) → answer (firstOf (admitRows s)) (regionCounts (region (decode s))) ≡ Admitted counts → SmallCounts counts
+unfolding answer regionCounts admitRows phaseCount checked Checked·answer countsOf
 small-counts s counts h = go (firstOf (admitRows s)) refl h
   where
-    go : (o : Option ℕ) → firstOf (admitRows s) ≡ o → answer o (countsIn (region (decode s))) ≡ Admitted counts → SmallCounts counts
+    go : (o : Option ℕ) → firstOf (admitRows s) ≡ o → answer o (regionCounts (region (decode s))) ≡ Admitted counts → SmallCounts counts
     go none q e =
         let A = accepted s (countsOf s) (ap (λ (o : Option ℕ). Checked·answer o (countsOf s)) (both-pass (chartRows s) _ q .0)) in
         let few = barriers-most s (countsOf s) A in
-        let same : countsIn (region (decode s)) ≡ counts = cc in
+        let same : regionCounts (region (decode s)) ≡ counts = cc in
         subst SmallCounts same (record {
           nodes = omega (arith, nodes-length s (countsOf s) (A .laid), A .laid .nodes-most);
           barriers = few;

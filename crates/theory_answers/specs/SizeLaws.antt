@@ -14,20 +14,20 @@ use Rattle.lists.specs.Means.{both-of, some-of}
 use Rattle.chart.specs.Region.{master, Region}
 use Rattle.chart.specs.WellFormed.{WellFormed}
 use Rattle.theory_answers.specs.Answer.{lacksThread, answerIn, answerFor}
-use Rattle.theory_answers.specs.Unexcluded.{In, Rule, by-phase, by-master, by-single, by-ordered, by-section, First, first, none, Answers, Lacks, Has, AnswersIn, alone, lacking, fitting, AnswersFor, Unexcluded}
+use Rattle.theory_answers.specs.Unexcluded.{In, Rule, by-phase, by-master, by-single, by-ordered, by-section, First, first, none, Answers, Lacks, HasThreads, AnswersIn, alone, lacking, fitting, AnswersFor, Unexcluded}
 use Rattle.theory_answers.specs.AnswerLaws.{in-of, first-unique, first-swap, answer-first, answer-unexcluded, answer-symmetric, cond-most, answer-most}
 use Rattle.theory_answers.specs.declared.Size.{Size}
 use Rattle.theory_answers.specs.declared.Size.the-variants.{Any, Of}
 
 -- a team has the threads that it needs exactly when it lacks none
 module _ (R : Region) (m x : ℕ) where
-  pub has-all : Has R m x → Lacks R m x → ⊥
+  pub has-all : HasThreads R m x → Lacks R m x → ⊥
   has-all f (c, ((k, i), l)) = over (f c k i) l
     where
       over : {i j : ℕ} → j < i → i ≤ j → ⊥
       over a b = omega arith
 
-  has-none : (Lacks R m x → ⊥) → Has R m x
+  has-none : (Lacks R m x → ⊥) → HasThreads R m x
   has-none f c k i = below (λ l. f (c, ((k, i), l)))
     where
       below : {i j : ℕ} → (i ≤ j → ⊥) → j < i
@@ -77,7 +77,7 @@ module _ {R : Region} (W : WellFormed R) (m : ℕ) where
   lacks-of x = some-of (R .constructs) _ (λ c. In R master x c × (m ≤ R .thread c))
       (λ c. both-of (in-of R master x c) (leb-true m (R .thread c), le-leb m (R .thread c))) (λ c h. W .inside-below (h .0 .1))
 
-  has-of : (x : ℕ) → (lacksThread R m x ≡ false) ↔ Has R m x
+  has-of : (x : ℕ) → (lacksThread R m x ≡ false) ↔ HasThreads R m x
   has-of x = ((λ h. has-none R m x (λ l. clash (lacks-of x .1 l) h)), λ f. false-if (λ h. has-all R m x f (lacks-of x .0 h)))
 
   module _ (a b : ℕ) where
@@ -93,13 +93,13 @@ module _ {R : Region} (W : WellFormed R) (m : ℕ) where
         go (inr h) (inr x) (inr y) = rw (h, x, y) (fitting (leb-false m 1 h) (has-of a .0 x) (has-of b .0 y) (answer-first W a b))
 
     -- The answer for teams of m is 0 exactly when the team has two threads and those that it needs, and no rule excludes the pair.
-    pub answer-in : (answerIn R m a b ≡ 0) ↔ ((2 ≤ m) × Has R m a × Has R m b × Unexcluded R a b)
+    pub answer-in : (answerIn R m a b ≡ 0) ↔ ((2 ≤ m) × HasThreads R m a × HasThreads R m b × Unexcluded R a b)
     answer-in = (
       (λ e. to in-first e),
       λ (two, f, g, D). in-unique R a b m in-first (fitting two f g (subst (Answers R a b) (answer-unexcluded W a b .1 D) (answer-first W a b))),
     )
       where
-        to : {k : ℕ} → AnswersIn R m a b k → k ≡ 0 → (2 ≤ m) × Has R m a × Has R m b × Unexcluded R a b
+        to : {k : ℕ} → AnswersIn R m a b k → k ≡ 0 → (2 ≤ m) × HasThreads R m a × HasThreads R m b × Unexcluded R a b
         to (alone l) e = absurd (omega arith)
         to (lacking l x) e = absurd (omega arith)
         to (fitting two f g A) e = (two, f, g, answer-unexcluded W a b .0 (first-unique (answer-first W a b) A ∙ e))

@@ -58,14 +58,14 @@ Answers R a b k = First (Excludes R a b) k
 abbrev pub Lacks : Region → ℕ → ℕ → Type 0
 Lacks R m x = (c : ℕ) × (In R master x c × (m ≤ R .thread c))
 
-abbrev pub Has : Region → ℕ → ℕ → Type 0
-Has R m x = (c : ℕ) → R .kind c ≡ master → R .inside x c ≡ true → R .thread c < m
+abbrev pub HasThreads : Region → ℕ → ℕ → Type 0
+HasThreads R m x = (c : ℕ) → R .kind c ≡ master → R .inside x c ≡ true → R .thread c < m
 
 -- k is the answer for a and b in teams of m threads (02, Note 10): 6 and 7 go ahead of all other rules.
 pub data AnswersIn (R : Region) (m a b : ℕ) : ℕ → Type 0 where
   alone : m ≤ 1 → AnswersIn R m a b 6
   lacking : 2 ≤ m → Lacks R m a ⊎ Lacks R m b → AnswersIn R m a b 7
-  fitting : {k : ℕ} → 2 ≤ m → Has R m a → Has R m b → Answers R a b k → AnswersIn R m a b k
+  fitting : {k : ℕ} → 2 ≤ m → HasThreads R m a → HasThreads R m b → Answers R a b k → AnswersIn R m a b k
 
 -- k is the answer for a and b in the teams of a size, or in all.
 abbrev pub AnswersFor : Region → Size → ℕ → ℕ → ℕ → Type 0

@@ -12,7 +12,7 @@ use Rattle.chart.specs.Region.{Region}
 use Rattle.chart.specs.WellFormed.{WellFormed}
 use Rattle.theory_paths.specs.Phases.{forward, Boundary, isBoundary}
 use Rattle.theory_paths.specs.PhasesLaws.{boundary-means, returns-means}
-use Rattle.theory_answers.specs.Unexcluded.{Common, Rule, by-phase, by-master, by-single, by-ordered, by-section, Excludes, first, none, Answers, Lacks, Has, alone, lacking, fitting, AnswersFor}
+use Rattle.theory_answers.specs.Unexcluded.{Common, Rule, by-phase, by-master, by-single, by-ordered, by-section, Excludes, first, none, Answers, Lacks, HasThreads, alone, lacking, fitting, AnswersFor}
 use Rattle.theory_answers.specs.AnswerLaws.{no-common-of, masters-of, single-of, ordereds-of, section-of}
 use Rattle.theory_answers.specs.SizeLaws.{lacks-of}
 use Rattle.theory_answers.specs.declared.Size.{Size}
@@ -49,10 +49,10 @@ unbarred-not U (by-rule by-single l (c, (((k, i), (h, j)), n))) = n (U .singles 
 unbarred-not U (by-rule by-ordered l (d, ((x, y), n))) = n (U .ordereds d x y)
 unbarred-not U (by-rule by-section l (s, ((x, y), n))) = n (U .sections s x y)
 
-lacks-has : (R : Region) (m x : ℕ) → Lacks R m x → Has R m x → ⊥
+lacks-has : (R : Region) (m x : ℕ) → Lacks R m x → HasThreads R m x → ⊥
 lacks-has R m x (c, ((k, i), l)) f = omega (arith, f c k i)
 
-pub fitting-not : {R : Region} {m a b : ℕ} → 2 ≤ m → Has R m a → Has R m b → Unbarred R a b → BarredIn R m a b → ⊥
+pub fitting-not : {R : Region} {m a b : ℕ} → 2 ≤ m → HasThreads R m a → HasThreads R m b → Unbarred R a b → BarredIn R m a b → ⊥
 fitting-not two fa fb U (one-thread l) = omega arith
 fitting-not {R} {m} {a} two fa fb U (no-thread (inl h)) = lacks-has R m a h fa
 fitting-not {R} {m} {b = b} two fa fb U (no-thread (inr h)) = lacks-has R m b h fb

@@ -14,7 +14,7 @@ use Rattle.theory_paths.specs.Connected.{Connected}
 use Rattle.theory_team.specs.Run.{ConcurrentIn, Concurrent}
 use Rattle.theory_team.specs.Meets.{Meets, concurrent-meets}
 use Rattle.theory_team.specs.Laws.{two-threads}
-use Rattle.theory_answers.specs.Unexcluded.{Has, Unexcluded}
+use Rattle.theory_answers.specs.Unexcluded.{HasThreads, Unexcluded}
 use Rattle.theory_exact.specs.Barred.{Unbarred, unexcluded-unbarred}
 use Rattle.theory_exact.specs.Nesting.{Within, Without, within}
 use Rattle.theory_exact.specs.Invariant.{MasterOf}
@@ -34,7 +34,7 @@ module _ {R : Region} (W : WellFormed R) where
   another : {m : ℕ} → 2 ≤ m → (n : ℕ) → (t : ℕ) × (t < m) × (n ≢ t)
   another two n = elim (ℕ-discrete n 0) [ yes z ↦ (1, omega arith, omega arith) | no z ↦ (0, omega arith, z) ]
 
-  chosen : {m a b : ℕ} → Unbarred R a b → 2 ≤ m → Has R m a → Has R m b → Within R master a ⊎ Without R master a → Within R master b ⊎ Without R master b
+  chosen : {m a b : ℕ} → Unbarred R a b → 2 ≤ m → HasThreads R m a → HasThreads R m b → Within R master a ⊎ Without R master a → Within R master b ⊎ Without R master b
       → Chosen R m a b
   chosen D two fa fb (inl x) (inl y) = record {
     p = R .thread (x .0);
@@ -74,12 +74,12 @@ module _ {R : Region} (W : WellFormed R) where
   }
 
   -- every team that is large enough fits
-  size-for : {x : ℕ} → Within R master x ⊎ Without R master x → (n : ℕ) × ((m : ℕ) → n ≤ m → Has R m x)
+  size-for : {x : ℕ} → Within R master x ⊎ Without R master x → (n : ℕ) × ((m : ℕ) → n ≤ m → HasThreads R m x)
   size-for (inl h) = (suc (R .thread (h .0)), λ m l c k i. subst (λ (n : ℕ). n < m) (its-master h c k i) l)
   size-for (inr h) = (0, λ m l c k i. absurd (h c k i))
 
 module _ {R : Region} (W : WellFormed R) (C : Connected R) {a b : ℕ} (oa : Open R a) (ob : Open R b) where
-  pub soundness : {m : ℕ} → ConcurrentIn R m a b → (2 ≤ m) × Has R m a × Has R m b × Unexcluded R a b
+  pub soundness : {m : ℕ} → ConcurrentIn R m a b → (2 ≤ m) × HasThreads R m a × HasThreads R m b × Unexcluded R a b
   soundness {m} M = (
     two-threads M,
     met-has-a W C (concurrent-meets M),
@@ -87,18 +87,18 @@ module _ {R : Region} (W : WellFormed R) (C : Connected R) {a b : ℕ} (oa : Ope
     sound W C M oa ob,
   )
 
-  pub completeness : {m : ℕ} → 2 ≤ m → Has R m a → Has R m b → Unexcluded R a b → ConcurrentIn R m a b
+  pub completeness : {m : ℕ} → 2 ≤ m → HasThreads R m a → HasThreads R m b → Unexcluded R a b → ConcurrentIn R m a b
   completeness two fa fb D = complete W C (chosen W (unexcluded-unbarred D) two fa fb (within W master a) (within W master b)) oa ob D
 
   -- teams of m threads
-  pub exactness-in : (m : ℕ) → ((2 ≤ m) × Has R m a × Has R m b × Unexcluded R a b) ↔ ConcurrentIn R m a b
+  pub exactness-in : (m : ℕ) → ((2 ≤ m) × HasThreads R m a × HasThreads R m b × Unexcluded R a b) ↔ ConcurrentIn R m a b
   exactness-in m = ((λ h. completeness (h .0) (h .1) (h .2) (h .3)), λ M. soundness M)
 
   -- some team is large enough
-  some-team : (m : ℕ) × ((2 ≤ m) × Has R m a × Has R m b)
+  some-team : (m : ℕ) × ((2 ≤ m) × HasThreads R m a × HasThreads R m b)
   some-team = go (size-for W (within W master a)) (size-for W (within W master b))
     where
-      go : (n : ℕ) × ((m : ℕ) → n ≤ m → Has R m a) → (n : ℕ) × ((m : ℕ) → n ≤ m → Has R m b) → (m : ℕ) × ((2 ≤ m) × Has R m a × Has R m b)
+      go : (n : ℕ) × ((m : ℕ) → n ≤ m → HasThreads R m a) → (n : ℕ) × ((m : ℕ) → n ≤ m → HasThreads R m b) → (m : ℕ) × ((2 ≤ m) × HasThreads R m a × HasThreads R m b)
       go x y = let m = 2 + (x .0 + y .0) in (m, (omega arith, x .1 m (omega arith), y .1 m (omega arith)))
 
   -- all teams
@@ -106,7 +106,7 @@ module _ {R : Region} (W : WellFormed R) (C : Connected R) {a b : ℕ} (oa : Ope
   exactness = ((λ D. let (m, (two, fa, fb)) = some-team in (m, exactness-in m .0 (two, fa, fb, D))), λ M. exactness-in (M .0) .1 (M .1) .3)
 
   -- The same of meetings in any run, finished or not: there "no common end" excludes nothing.
-  pub meeting-in : (m : ℕ) → ((2 ≤ m) × Has R m a × Has R m b × Unbarred R a b) ↔ Meets R m a b
+  pub meeting-in : (m : ℕ) → ((2 ≤ m) × HasThreads R m a × HasThreads R m b × Unbarred R a b) ↔ Meets R m a b
   meeting-in m = (
     (λ (two, fa, fb, D). meet W C (chosen W D two fa fb (within W master a) (within W master b)) oa ob D),
     λ M. (met-two W C M, met-has-a W C M, met-has-b W C M, met-unbarred W C M oa ob),

@@ -17,7 +17,7 @@ use Rattle.theory_paths.specs.Path.{Open}
 use Rattle.theory_paths.specs.Connected.{Connected}
 use Rattle.theory_paths.specs.Admission.{AdmittedIn}
 use Rattle.theory_paths.specs.AdmissionLaws.{admitted-well-formed, admitted-connected}
-use Rattle.theory_answers.specs.Unexcluded.{Lacks, Has}
+use Rattle.theory_answers.specs.Unexcluded.{Lacks, HasThreads}
 use Rattle.theory_answers.specs.declared.Size.{Size}
 use Rattle.theory_answers.specs.declared.Size.the-variants.{Any, Of}
 use Rattle.theory_exact.specs.Barred.{one-thread, no-thread, in-all, BarredFor, isBarredFor}
@@ -25,7 +25,7 @@ use Rattle.theory_exact.specs.BarredLaws.{barred-for-of, not-barred}
 use Rattle.theory_exact.specs.Unmet.{MeetsFor, unmet}
 use Rattle.theory_exact.specs.Exact.{meeting-in, meeting}
 
-has-none : (R : Region) (m x : ℕ) → (Lacks R m x → ⊥) → Has R m x
+has-none : (R : Region) (m x : ℕ) → (Lacks R m x → ⊥) → HasThreads R m x
 has-none R m x f c k i = elim (decLt (R .thread c) m) [ yes l ↦ l | no l ↦ absurd (f (c, ((k, i), omega arith))) ]
 
 module _ {R : Region} (W : WellFormed R) (C : Connected R) {a b : ℕ} (oa : Open R a) (ob : Open R b) where

@@ -21,7 +21,7 @@ use Rattle.theory_paths.specs.Admission.{AdmittedIn}
 use Rattle.theory_paths.specs.AdmissionLaws.{admitted-well-formed, admitted-connected}
 use Rattle.theory_paths.specs.Phases.{forward, Boundary}
 use Rattle.theory_team.specs.Meets.{Meets}
-use Rattle.theory_answers.specs.Unexcluded.{Returns, Common, Has}
+use Rattle.theory_answers.specs.Unexcluded.{Returns, Common, HasThreads}
 use Rattle.theory_answers.specs.declared.Size.{Size}
 use Rattle.theory_answers.specs.declared.Size.the-variants.{Any, Of}
 use Rattle.theory_exact.specs.Barred.{BarredFor, Unbarred}
@@ -52,10 +52,10 @@ module _ {R : Region} (W : WellFormed R) (C : Connected R) {m a b : ℕ} (M : Me
   master-b : MasterOf R (M .u) b
   master-b = subst (MasterOf R (M .u)) (M .at-b) (met-invariant .masters (M .u) (M .u-in))
 
-  pub met-has-a : Has R m a
+  pub met-has-a : HasThreads R m a
   met-has-a c k i = subst (λ (n : ℕ). n < m) (master-a c k i) (M .t-in)
 
-  pub met-has-b : Has R m b
+  pub met-has-b : HasThreads R m b
   met-has-b c k i = subst (λ (n : ℕ). n < m) (master-b c k i) (M .u-in)
 
   pub met-two : 2 ≤ m
