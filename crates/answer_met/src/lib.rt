@@ -7,7 +7,7 @@ ghost use Prim.Native.Nat.{ℕ};
 ghost use lib.ListN.{replicate};
 ghost use Rattle.lists.specs.Bits.{has};
 ghost use Rattle.answer_nodes.specs.Gathered.{Past};
-ghost use Rattle.answer_nodes.specs.NodeSets.{InSets};
+ghost use Rattle.answer_nodes.specs.NodeSets.{OfSets};
 ghost use Rattle.answer_met.specs.Meets.{unbarred, meets, NodeSet, Named};
 use answer_constructs::marks::ENDS;
 use answer_constructs::marks::HELD;
@@ -51,7 +51,7 @@ pub fn without(set: u64, other: u64) -> u64
 
 // The nodes that a node with these masks may meet in some run, finished or not: those that no rule but "no common end" excludes.
 pub fn unbarred_nodes(own: Profile, nodes: &NodeSets) -> Words
-    ensures { λ r. ⌜ ((closed : List ℕ) (marks : List (List ℕ)) → InSets closed marks (now (nodes .entry)) → NodeSet closed (unbarred own marks) r) ⌝ }
+    ensures { λ r. ⌜ OfSets (now (nodes .entry)) (λ closed marks. NodeSet closed (unbarred own marks) r) ⌝ }
 {
     let s = sharing(own.starts, STARTS, nodes);
     let h = sharing(own.held, HELD, nodes);
@@ -64,7 +64,7 @@ pub fn unbarred_nodes(own: Profile, nodes: &NodeSets) -> Words
 
 // Those of them that it may meet in a finished run.
 pub fn met_nodes(own: Profile, set: Words, nodes: &NodeSets) -> Words
-    ensures { λ r. ⌜ ((closed : List ℕ) (marks : List (List ℕ)) → InSets closed marks (now (nodes .entry)) → NodeSet closed (unbarred own marks) set → NodeSet closed (meets own marks) r) ⌝ }
+    ensures { λ r. ⌜ OfSets (now (nodes .entry)) (λ closed marks. NodeSet closed (unbarred own marks) set → NodeSet closed (meets own marks) r) ⌝ }
 {
     let e = sharing(own.ends, ENDS, nodes);
     Words {

@@ -15,6 +15,10 @@ use Rattle.answer_nodes.specs.Gathered.{Gathered}
 pub record InSets (closed : List ℕ) (marks nodes : List (List ℕ)) : Type 0 where
   pub sets : (k : ℕ) → k < 9 → Gathered closed (getD marks (k / 3) []) (64 * (k % 3)) (getD nodes k [])
 
+-- It holds of all closed nodes and masks that these sets are of.
+abbrev pub OfSets : List (List ℕ) → (List ℕ → List (List ℕ) → Type 0) → Type 0
+OfSets nodes P = (closed : List ℕ) (marks : List (List ℕ)) → InSets closed marks nodes → P closed marks
+
 -- Of 64 nodes from `first` on, those that are not closed and share a bit with the mask.
 abbrev pub SharedFrom : List ℕ → List ℕ → ℕ → ℕ → ℕ → Type 0
 SharedFrom closed masks mask first set =

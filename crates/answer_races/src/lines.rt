@@ -5,7 +5,7 @@ ghost use mathlib.Core.List.{List, []};
 ghost use Prim.Native.Nat.{ℕ, _≤_, _<_};
 ghost use lib.ListN.{length, getD};
 ghost use Rattle.answer_pairs.specs.Rules.{profileAt};
-ghost use Rattle.answer_nodes.specs.NodeSets.{InSets};
+ghost use Rattle.answer_nodes.specs.NodeSets.{InSets, OfSets};
 ghost use Rattle.answer_met.specs.Meets.{meets, NodeSet, Named};
 ghost use Rattle.answer_races.specs.Lines.{LineOf, MetOf, LineBy};
 use crate::rows::Line;
@@ -31,7 +31,7 @@ pub struct Kept {
 }
 
 fn kept_of(own: Profile, nodes: &NodeSets) -> Kept
-    ensures { λ r. ⌜ (r .own ≡ own) × ((closed : List ℕ) (marks : List (List ℕ)) → InSets closed marks (now (nodes .entry)) → NodeSet closed (meets own marks) (r .met)) ⌝ }
+    ensures { λ r. ⌜ (r .own ≡ own) × OfSets (now (nodes .entry)) (λ closed marks. NodeSet closed (meets own marks) (r .met)) ⌝ }
 {
     let set = unbarred_nodes(own, nodes);
     let met = met_nodes(own, set, nodes);
@@ -40,7 +40,7 @@ fn kept_of(own: Profile, nodes: &NodeSets) -> Kept
 
 // Those that are kept, or those of a node with these masks, unless that is closed. Neighbours often have the same masks.
 fn keep(own: Profile, closed: u8, kept: Kept, nodes: &NodeSets) -> Kept
-    ensures { λ r. ⌜ (closed ≡ 0 → r .own ≡ own) × ((shut : List ℕ) (marks : List (List ℕ)) → InSets shut marks (now (nodes .entry)) → MetOf shut marks kept → MetOf shut marks r) ⌝ }
+    ensures { λ r. ⌜ (closed ≡ 0 → r .own ≡ own) × OfSets (now (nodes .entry)) (λ shut marks. MetOf shut marks kept → MetOf shut marks r) ⌝ }
 {
     if closed != 0 {
         return kept;

@@ -1,12 +1,11 @@
 // Bytes written eight at a time from sets of bits: a byte of a set becomes a word that has a byte for each of its bits, by a table.
 ghost use mathlib.Core.Path.{_≡_};
 ghost use mathlib.Core.Bool.{cond};
-ghost use mathlib.Core.List.{List};
 ghost use Prim.Native.Nat.{ℕ, _+_, _*_, _-_, _/_, _%_, _^_, _≤_, _<_};
 ghost use lib.Dec.{eqb};
 ghost use lib.ListN.{length, getD};
 ghost use Rattle.answer_sheet.specs.Fan.{fan};
-ghost use Rattle.answer_sheet.specs.Eights.{Spread, Fence, digit, covered, Plain};
+ghost use Rattle.answer_sheet.specs.Eights.{Spread, Fence, digit, PutBytes, PutNumbers, Plain};
 use chart::format::Chart;
 
 pub const BYTES: usize = 256;
@@ -62,7 +61,7 @@ fn eight(p: Planes, rest: u64, i: usize, table: &[u64; BYTES]) -> u64
 // The bytes of a word, lowest first.
 fn put(word: u64, at: usize, row: &mut [u8; Chart::NODES])
     requires { ⌜ (length (now row) ≡ 192) × (at + 8 ≤ 192) ⌝ }
-    ensures { λ _. ⌜ (length (now (row .exit)) ≡ 192) × ((k : ℕ) → k < 8 → getD (now (row .exit)) (at + k) 0 ≡ word / 2 ^ (8 * k) % 256) × ((x : ℕ) → x < at → getD (now (row .exit)) x 0 ≡ getD (now (row .entry)) x 0) ⌝ }
+    ensures { λ _. ⌜ PutBytes word at (now (row .entry)) (now (row .exit)) ⌝ }
 {
     let mut rest = word;
     let mut k = 0;
@@ -82,7 +81,7 @@ pub fn put_word(
     row: &mut [u8; Chart::NODES],
 )
     requires { ⌜ (w < 3) × Spread (now table) × (length (now row) ≡ 192) ⌝ }
-    ensures { λ _. ⌜ (length (now (row .exit)) ≡ 192) × ((closed : List ℕ) → Fence closed (now (fence .entry)) → (j : ℕ) → j < 64 → getD (now (row .exit)) (64 * w + j) 0 ≡ covered closed (64 * w + j) (digit p j)) × ((x : ℕ) → x < 64 * w → getD (now (row .exit)) x 0 ≡ getD (now (row .entry)) x 0) ⌝ }
+    ensures { λ _. ⌜ PutNumbers (digit p) w (now (fence .entry)) (now (row .entry)) (now (row .exit)) ⌝ }
 {
     let rest = p.odd | p.twos | p.fours;
     let mut i = 0;
@@ -105,7 +104,7 @@ pub fn put_phase(
     row: &mut [u8; Chart::NODES],
 )
     requires { ⌜ (w < 3) × Spread (now table) × (length (now row) ≡ 192) ⌝ }
-    ensures { λ _. ⌜ (length (now (row .exit)) ≡ 192) × ((closed : List ℕ) → Fence closed (now (fence .entry)) → (j : ℕ) → j < 64 → getD (now (row .exit)) (64 * w + j) 0 ≡ covered closed (64 * w + j) (1 - both / 2 ^ j % 2)) × ((x : ℕ) → x < 64 * w → getD (now (row .exit)) x 0 ≡ getD (now (row .entry)) x 0) ⌝ }
+    ensures { λ _. ⌜ PutNumbers (λ j. 1 - both / 2 ^ j % 2) w (now (fence .entry)) (now (row .entry)) (now (row .exit)) ⌝ }
 {
     let mut i = 0;
     while i < 8 {

@@ -1,18 +1,15 @@
 // The row of a node, from sets of nodes: for each bit of a mask the nodes that have it.
 ghost use mathlib.Core.Path.{_≡_};
 ghost use mathlib.Core.Bool.{true, _||_, cond};
-ghost use mathlib.Core.List.{List};
 ghost use Prim.Native.Nat.{ℕ, _<_};
 ghost use lib.Dec.{eqb};
 ghost use lib.ListN.{length, getD};
 ghost use Rattle.lists.specs.Bits.{has};
-ghost use Rattle.answer_constructs.specs.Marks.{startsIn, endsIn, heldIn};
-ghost use Rattle.answer_constructs.specs.declared.chains.Sets.{Sets};
+ghost use Rattle.answer_constructs.specs.Marks.{heldIn};
 ghost use Rattle.answer_pairs.specs.Rules.{kindsOf, byRules, bySize};
-ghost use Rattle.answer_pairs.specs.declared.rules.Profile.{Profile};
-ghost use Rattle.answer_nodes.specs.NodeSets.{InSets, Sharing};
+ghost use Rattle.answer_nodes.specs.NodeSets.{OfSets};
 ghost use Rattle.answer_sheet.specs.Eights.{Spread, Fence, digit};
-ghost use Rattle.answer_sheet.specs.Sheet.{rowOf, PhaseOnly, RuleSets};
+ghost use Rattle.answer_sheet.specs.Sheet.{RowIs, PhaseOnly, PhaseRow, RuleSets};
 use crate::eights::BYTES;
 use crate::eights::Planes;
 use crate::eights::WORDS;
@@ -117,7 +114,7 @@ fn fill_rules(
     high: &mut [u64; RULES],
 )
     requires { ⌜ (length (now low) ≡ 4) × (length (now middle) ≡ 4) × (length (now high) ≡ 4) ⌝ }
-    ensures { λ _. ⌜ ((closed : List ℕ) (marks : List (List ℕ)) → InSets closed marks (now (nodes .entry)) → RuleSets closed (heldIn marks) held (kindsOf sets) (now (low .exit)) (now (middle .exit)) (now (high .exit))) ⌝ }
+    ensures { λ _. ⌜ OfSets (now (nodes .entry)) (λ closed marks. RuleSets closed (heldIn marks) held (kindsOf sets) (now (low .exit)) (now (middle .exit)) (now (high .exit))) ⌝ }
 {
     let kinds = kinds_of(sets);
     let mut k = 0;
@@ -149,7 +146,7 @@ fn work_phase_row(
     last: &mut [u8; Chart::NODES],
 )
     requires { ⌜ Spread (now spread) × (length (now last) ≡ 192) ⌝ }
-    ensures { λ _. ⌜ (length (now (last .exit)) ≡ 192) × ((closed : List ℕ) (marks : List (List ℕ)) (sets : Sets) (own : Profile) → Fence closed (now (fence .entry)) → Sharing closed (startsIn marks) (own .starts) starts → Sharing closed (endsIn marks) (own .ends) ends → PhaseOnly sets (own .held) → (j : ℕ) → j < 192 → getD (now (last .exit)) j 0 ≡ rowOf closed sets marks own j) ⌝ }
+    ensures { λ _. ⌜ (length (now (last .exit)) ≡ 192) × PhaseRow starts ends (now (fence .entry)) (now (last .exit)) ⌝ }
 {
     put_phase(starts.low & ends.low, 0, fence, spread, last);
     put_phase(starts.middle & ends.middle, 1, fence, spread, last);
@@ -166,7 +163,7 @@ pub fn work_row(
     last: &mut [u8; Chart::NODES],
 )
     requires { ⌜ Spread (now spread) × (length (now last) ≡ 192) ⌝ }
-    ensures { λ _. ⌜ (length (now (last .exit)) ≡ 192) × ((closed : List ℕ) (marks : List (List ℕ)) → InSets closed marks (now (nodes .entry)) → Fence closed (now (fence .entry)) → (j : ℕ) → j < 192 → getD (now (last .exit)) j 0 ≡ rowOf closed sets marks own j) ⌝ }
+    ensures { λ _. ⌜ (length (now (last .exit)) ≡ 192) × OfSets (now (nodes .entry)) (λ closed marks. Fence closed (now (fence .entry)) → RowIs closed sets marks own (now (last .exit))) ⌝ }
 {
     let s = sharing(own.starts, STARTS, nodes);
     let e = sharing(own.ends, ENDS, nodes);
@@ -206,7 +203,9 @@ pub fn keep_row(
     last: &mut [u8; Chart::NODES],
 ) -> Profile
     requires { ⌜ Spread (now spread) × (length (now last) ≡ 192) ⌝ }
-    ensures { λ r. ⌜ (length (now (last .exit)) ≡ 192) × (closed ≡ 0 → r ≡ own) × ((shut : List ℕ) (marks : List (List ℕ)) → InSets shut marks (now (nodes .entry)) → Fence shut (now (fence .entry)) → ((j : ℕ) → j < 192 → getD (now (last .entry)) j 0 ≡ rowOf shut sets marks kept j) → (j : ℕ) → j < 192 → getD (now (last .exit)) j 0 ≡ rowOf shut sets marks r j) ⌝ }
+    ensures { λ r. ⌜ (length (now (last .exit)) ≡ 192)
+        × (closed ≡ 0 → r ≡ own)
+        × OfSets (now (nodes .entry)) (λ shut marks. Fence shut (now (fence .entry)) → RowIs shut sets marks kept (now (last .entry)) → RowIs shut sets marks r (now (last .exit))) ⌝ }
 {
     if closed != 0 {
         return kept;
