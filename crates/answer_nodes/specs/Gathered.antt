@@ -3,7 +3,7 @@
 use mathlib.Core.Path.{_≡_}
 use mathlib.Core.Bool.{Bool, _&&_, cond}
 use mathlib.Core.List.{List}
-use Prim.Native.Nat.{ℕ, _+_, _≤_, _<_}
+use Prim.Native.Nat.{ℕ, _+_, _^_, _≤_, _<_}
 use lib.Bits.{bitOr}
 use lib.Dec.{eqb}
 use lib.ListN.{getD}
@@ -25,3 +25,7 @@ pub record Gathered (closed masks : List ℕ) (first : ℕ) (sets : List ℕ) : 
 -- The set of bit b once this run is added.
 abbrev pub pending : List ℕ → ℕ → ℕ → ℕ → ℕ
 pending sets mask set b = cond (has mask b) (bitOr (getD sets b 0) set) (getD sets b 0)
+
+-- Node j is in the sets of the bits of its mask besides, unless it is closed.
+abbrev pub Taken : ℕ → ℕ → ℕ → (ℕ → ℕ) → (ℕ → ℕ) → Type 0
+Taken closed mask j old new = (b : ℕ) → b < 64 → new b ≡ cond (eqb closed 0 && has mask b) (bitOr (2 ^ j) (old b)) (old b)

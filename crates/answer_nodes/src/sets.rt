@@ -1,12 +1,8 @@
 // For each bit of the nodes' masks the nodes that have it, 64 nodes at a time.
 ghost use mathlib.Core.Path.{_≡_};
-ghost use mathlib.Core.Bool.{_&&_, cond};
-ghost use Prim.Native.Nat.{ℕ, _+_, _^_, _≤_, _<_};
-ghost use lib.Bits.{bitOr};
-ghost use lib.Dec.{eqb};
+ghost use Prim.Native.Nat.{ℕ, _+_, _≤_, _<_};
 ghost use lib.ListN.{length, replicate};
-ghost use Rattle.lists.specs.Bits.{has};
-ghost use Rattle.answer_nodes.specs.Gathered.{pending, Past, Gathered};
+ghost use Rattle.answer_nodes.specs.Gathered.{pending, Past, Taken, Gathered};
 use chart::format::Chart;
 use masks::bits::bit;
 use masks::unions::BITS;
@@ -21,7 +17,7 @@ pub struct Run {
 // Node j of the 64 joins the run, or else the run is added and the node starts another.
 fn take(sets: &mut [u64; BITS], run: Run, closed: u8, mask: u64, j: usize) -> Run
     requires { ⌜ (length (now sets) ≡ 64) × (j < 64) ⌝ }
-    ensures { λ r. ⌜ (length (now (sets .exit)) ≡ 64) × ((b : ℕ) → b < 64 → pending (now (sets .exit)) (r .mask) (r .set) b ≡ cond (eqb closed 0 && has mask b) (bitOr (2 ^ j) (pending (now (sets .entry)) (run .mask) (run .set) b)) (pending (now (sets .entry)) (run .mask) (run .set) b)) ⌝ }
+    ensures { λ r. ⌜ (length (now (sets .exit)) ≡ 64) × Taken closed mask j (pending (now (sets .entry)) (run .mask) (run .set)) (pending (now (sets .exit)) (r .mask) (r .set)) ⌝ }
 {
     if closed != 0 {
         return run;
