@@ -5,7 +5,7 @@ ghost use lib.ListN.{replicate};
 ghost use Rattle.chart.specs.Format.{outside, decode};
 ghost use Rattle.chart.specs.Scope.{beginNode, endNode};
 ghost use Rattle.chart.specs.Refusal.{firstOf};
-ghost use Rattle.chart.specs.Checked.{countsOf, readFor, answer, checked};
+ghost use Rattle.chart.specs.Checked.{countsOf, readFor, checkedBy, checked};
 ghost use Rattle.chart.specs.declared.format.Checked.the-variants.{Passed};
 ghost use Rattle.check_nodes.specs.Framed.{Framed};
 ghost use Rattle.theory_paths.specs.Admission.{admitRows, regionRows};
@@ -49,7 +49,7 @@ fn survey_region(
 ) -> Surveyed
     requires { ⌜ Accepted (now s) chart × (chart .region ≡ outside → checked (now s) ≡ Passed chart) × (now marks ≡ replicate 3 (replicate 192 0)) ⌝ }
     requires { ⌜ Framed (decode (now s)) beginNode (now «begin_nodes») × Framed (decode (now s)) endNode (now «end_nodes») ⌝ }
-    ensures { λ r. ⌜ (chart .region ≡ outside → checkedOf r ≡ answer (firstOf (admitRows (now (s .entry)))) (countsOf (now (s .entry)))) × (chart .region ≢ outside → checkedOf r ≡ Passed chart) ⌝ }
+    ensures { λ r. ⌜ (chart .region ≡ outside → checkedOf r ≡ checkedBy (firstOf (admitRows (now (s .entry)))) (countsOf (now (s .entry)))) × (chart .region ≢ outside → checkedOf r ≡ Passed chart) ⌝ }
     ensures { λ r. ⌜ ((chart : Chart) (sets : Sets) → r ≡ Marked chart sets → Survey (now (s .entry)) chart (now (marks .exit)) sets) ⌝ }
 {
     let mut edges = [[0u8; Chart::EDGES]; Parts::ROWS];
@@ -91,7 +91,7 @@ fn survey_inner(
 ) -> Surveyed
     requires { ⌜ (checked (now s) ≡ Passed chart) × (region ≢ outside) × (now marks ≡ replicate 3 (replicate 192 0)) ⌝ }
     requires { ⌜ Framed (decode (now s)) beginNode (now «begin_nodes») × Framed (decode (now s)) endNode (now «end_nodes») ⌝ }
-    ensures { λ r. ⌜ checkedOf r ≡ answer (firstOf (regionRows (now (s .entry)) region)) (readFor (countsOf (now (s .entry))) region) ⌝ }
+    ensures { λ r. ⌜ checkedOf r ≡ checkedBy (firstOf (regionRows (now (s .entry)) region)) (readFor (countsOf (now (s .entry))) region) ⌝ }
     ensures { λ r. ⌜ ((chart : Chart) (sets : Sets) → r ≡ Marked chart sets → Survey (now (s .entry)) chart (now (marks .exit)) sets) ⌝ }
 {
     let mut starts = [0u64; Chart::NODES];
@@ -112,7 +112,7 @@ fn survey_inner(
 // The first of rows 1 to 10 and 23 that applies, or all masks of all nodes of the region, which are 0 before.
 pub fn survey(s: &[u8], region: usize, marks: &mut MaskTable) -> Surveyed
     requires { ⌜ now marks ≡ replicate 3 (replicate 192 0) ⌝ }
-    ensures { λ r. ⌜ checkedOf r ≡ answer (firstOf (regionRows (now (s .entry)) region)) (readFor (countsOf (now (s .entry))) region) ⌝ }
+    ensures { λ r. ⌜ checkedOf r ≡ checkedBy (firstOf (regionRows (now (s .entry)) region)) (readFor (countsOf (now (s .entry))) region) ⌝ }
     ensures { λ r. ⌜ ((chart : Chart) (sets : Sets) → r ≡ Marked chart sets → Survey (now (s .entry)) chart (now (marks .exit)) sets) ⌝ }
 {
     let mut begin_nodes = [0u8; Sources::MOST];

@@ -14,12 +14,12 @@ use Rattle.lists.specs.Rows.{square}
 use Rattle.chart.specs.Format.{decode}
 use Rattle.chart.specs.Reading.{region}
 use Rattle.chart.specs.Refusal.{firstOf, chartRows}
-use Rattle.chart.specs.Checked.{countsOf, checked, answer as Checked·answer}
+use Rattle.chart.specs.Checked.{countsOf, checked, checkedBy}
 use Rattle.chart.proofs.Records.{nodes-length}
 use Rattle.chart.proofs.Rows.{both-pass}
 use Rattle.theory_paths.specs.Admission.{admitRows}
 use Rattle.theory_paths.specs.Phases.{barriers, phase, phaseCount}
-use Rattle.theory_calls.specs.Admission.{regionCounts, answer}
+use Rattle.theory_calls.specs.Admission.{regionCounts, admissionBy}
 use Rattle.theory_calls.specs.declared.Counts.{Counts}
 use Rattle.theory_calls.specs.declared.Admission.the-variants.{Admitted}
 use Rattle.mark_tables.proofs.Accepted.{accepted}
@@ -31,13 +31,13 @@ unfolding countPairs
 pairs-most zero k f = omega arith
 pairs-most (suc n) k f = omega (arith, pairs-most n k f, count-most k (f n), suc-mul n k)
 
-pub small-counts : (s : List ℕ) (counts : Counts) → answer (firstOf (admitRows s)) (regionCounts (region (decode s))) ≡ Admitted counts → SmallCounts counts
-unfolding answer regionCounts admitRows phaseCount checked Checked·answer countsOf
+pub small-counts : (s : List ℕ) (counts : Counts) → admissionBy (firstOf (admitRows s)) (regionCounts (region (decode s))) ≡ Admitted counts → SmallCounts counts
+unfolding admissionBy regionCounts admitRows phaseCount checked checkedBy countsOf
 small-counts s counts h = go (firstOf (admitRows s)) refl h
   where
-    go : (o : Option ℕ) → firstOf (admitRows s) ≡ o → answer o (regionCounts (region (decode s))) ≡ Admitted counts → SmallCounts counts
+    go : (o : Option ℕ) → firstOf (admitRows s) ≡ o → admissionBy o (regionCounts (region (decode s))) ≡ Admitted counts → SmallCounts counts
     go none q e =
-        let A = accepted s (countsOf s) (ap (λ (o : Option ℕ). Checked·answer o (countsOf s)) (both-pass (chartRows s) _ q .0)) in
+        let A = accepted s (countsOf s) (ap (λ (o : Option ℕ). checkedBy o (countsOf s)) (both-pass (chartRows s) _ q .0)) in
         let few = barriers-most s (countsOf s) A in
         let same : regionCounts (region (decode s)) ≡ counts = cc in
         subst SmallCounts same (record {

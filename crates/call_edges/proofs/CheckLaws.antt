@@ -9,7 +9,7 @@ use lib.ListN.{length, take, length-take}
 use borrow.Author.Tests.{lt-ltb, le-ltb, ltb-false}
 use Rattle.lists.specs.Truth.{bad}
 use Rattle.chart.specs.Refusal.{firstOf, trailerRows, chartRows}
-use Rattle.chart.specs.Checked.{answer}
+use Rattle.chart.specs.Checked.{checkedBy}
 use Rattle.chart.specs.declared.format.Chart.{Chart}
 use Rattle.chart.specs.declared.format.Refusal.{Refusal}
 use Rattle.chart.specs.declared.format.Checked.the-variants.{Passed, Refused}
@@ -20,13 +20,13 @@ use Rattle.call_edges.proofs.Splicing.{room}
 use Rattle.call_edges.specs.Asking.{frontRows}
 
 -- an answer read backwards
-pub passed-none : (o : Option ℕ) (counts : Chart) {chart : Chart} → answer o counts ≡ Passed chart → (o ≡ none) × (chart ≡ counts)
-unfolding answer
+pub passed-none : (o : Option ℕ) (counts : Chart) {chart : Chart} → checkedBy o counts ≡ Passed chart → (o ≡ none) × (chart ≡ counts)
+unfolding checkedBy
 passed-none none counts h = (refl, cc)
 passed-none (some number) counts h = absurd (bad (cc))
 
-pub refused-some : (o : Option ℕ) (counts : Chart) {refusal : Refusal} → answer o counts ≡ Refused refusal → o ≡ some (refusal .number)
-unfolding answer
+pub refused-some : (o : Option ℕ) (counts : Chart) {refusal : Refusal} → checkedBy o counts ≡ Refused refusal → o ≡ some (refusal .number)
+unfolding checkedBy
 refused-some none counts h = absurd (bad (cc))
 refused-some (some number) counts {refusal} h = ap some (ap (λ (r : Refusal). r .number) same)
   where

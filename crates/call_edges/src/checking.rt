@@ -2,7 +2,7 @@
 ghost use mathlib.Core.Path.{_≡_};
 ghost use lib.ListN.{take};
 ghost use Rattle.chart.specs.Refusal.{firstOf};
-ghost use Rattle.chart.specs.Checked.{countsOf, answer};
+ghost use Rattle.chart.specs.Checked.{countsOf, checkedBy};
 ghost use Rattle.theory_paths.specs.Admission.{admitRows};
 ghost use Rattle.call_edges.specs.Asking.{frontRows};
 use chart::format::Chart;
@@ -12,7 +12,7 @@ use mark_regions::entrance::enter;
 use mark_regions::outermost::Entered;
 
 fn check_all(s: &[u8]) -> Checked
-    ensures { λ r. ⌜ r ≡ answer (firstOf (admitRows (now (s .entry)))) (countsOf (now (s .entry))) ⌝ }
+    ensures { λ r. ⌜ r ≡ checkedBy (firstOf (admitRows (now (s .entry)))) (countsOf (now (s .entry))) ⌝ }
 {
     let mut starts = [0u64; Chart::NODES];
     let mut ends = [0u64; Chart::NODES];
@@ -25,7 +25,7 @@ fn check_all(s: &[u8]) -> Checked
 
 // The chart that the first `len` bytes of a buffer are: row 4 for a length beyond the buffer, whatever the bytes are, then rows 1 to 10.
 pub fn check_front(buffer: &[u8], len: usize) -> Checked
-    ensures { λ r. ⌜ r ≡ answer (firstOf (frontRows (now (buffer .entry)) len)) (countsOf (take len (now (buffer .entry)))) ⌝ }
+    ensures { λ r. ⌜ r ≡ checkedBy (firstOf (frontRows (now (buffer .entry)) len)) (countsOf (take len (now (buffer .entry)))) ⌝ }
 {
     if buffer.len() < len {
         return Checked::Refused(Refusal::LENGTHS);

@@ -33,13 +33,13 @@ readFor chart p = record {
   region = p;
 }
 
-unfoldable pub answer : Option ℕ → Chart → Checked
-answer none chart = Passed chart
-answer (some number) chart = Refused (record { number = number })
+unfoldable pub checkedBy : Option ℕ → Chart → Checked
+checkedBy none chart = Passed chart
+checkedBy (some number) chart = Refused (record { number = number })
 
 -- Rows 1 to 9 over the bytes of a chart.
 unfoldable pub checked : List ℕ → Checked
-checked s = answer (firstOf (chartRows s)) (countsOf s)
+checked s = checkedBy (firstOf (chartRows s)) (countsOf s)
 
 -- The region that the bytes of a chart are read for.
 abbrev pub reading : List ℕ → Chart → Region

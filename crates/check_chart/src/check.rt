@@ -2,7 +2,7 @@
 ghost use mathlib.Core.Path.{_≡_};
 ghost use Rattle.chart.specs.Format.{decode};
 ghost use Rattle.chart.specs.Refusal.{firstOf, tableRows};
-ghost use Rattle.chart.specs.Checked.{Laid, answer, checked};
+ghost use Rattle.chart.specs.Checked.{Laid, checkedBy, checked};
 ghost use Rattle.chart.specs.declared.format.Chart.{Chart};
 ghost use Rattle.chart.specs.declared.format.Checked.the-variants.{Passed};
 ghost use Rattle.check_nodes.specs.Framed.{BothFramed};
@@ -20,7 +20,7 @@ use check_trailer::read_trailer;
 // Rows 5 to 9. Row 7 finds where the constructs begin and end; row 9 reads it.
 fn check_tables(s: &[u8], chart: Chart, begins: &mut Frames, ends: &mut Frames) -> Checked
     requires { ⌜ Laid (now s) chart ⌝ }
-    ensures { λ r. ⌜ r ≡ answer (firstOf (tableRows (decode (now (s .entry))))) chart ⌝ }
+    ensures { λ r. ⌜ r ≡ checkedBy (firstOf (tableRows (decode (now (s .entry))))) chart ⌝ }
     ensures { λ r. ⌜ ((counts : Chart) → r ≡ Passed counts → BothFramed (decode (now (s .entry))) (now (begins .exit)) (now (ends .exit))) ⌝ }
 {
     if bad_nodes(s, chart) {

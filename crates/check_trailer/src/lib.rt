@@ -4,7 +4,7 @@ ghost use Prim.Native.Nat.{_+_, _*_, _≤_, _<_};
 ghost use lib.ListN.{length};
 ghost use Rattle.chart.specs.Format.{decode};
 ghost use Rattle.chart.specs.Refusal.{badEdition, badMarks, badCounts, badLengths, firstOf, trailerRows};
-ghost use Rattle.chart.specs.Checked.{countsOf, answer};
+ghost use Rattle.chart.specs.Checked.{countsOf, checkedBy};
 use chart::cursor::Cursor;
 use chart::cursor::construct_bytes;
 use chart::format::Chart;
@@ -79,7 +79,7 @@ fn bad_lengths(s: &[u8], chart: Chart) -> bool
 
 // Rows 1 to 4: the counts, or the refusal.
 pub fn read_trailer(s: &[u8]) -> Checked
-    ensures { λ r. ⌜ r ≡ answer (firstOf (trailerRows (now (s .entry)))) (countsOf (now (s .entry))) ⌝ }
+    ensures { λ r. ⌜ r ≡ checkedBy (firstOf (trailerRows (now (s .entry)))) (countsOf (now (s .entry))) ⌝ }
 {
     if s.len() < Chart::TRAILER_BYTES {
         return Checked::Refused(Refusal::SHORT);

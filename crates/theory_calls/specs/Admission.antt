@@ -18,13 +18,13 @@ use Rattle.theory_calls.specs.declared.Admission.the-variants.{Admitted,
 unfoldable pub regionCounts : Region → Counts
 regionCounts R = record { nodes = R .nodes; barriers = length (barriers R); phases = phaseCount R }
 
-unfoldable pub answer : Option ℕ → Counts → Admission
-answer none counts = Admitted counts
-answer (some number) counts = Refused (record { number = number })
+unfoldable pub admissionBy : Option ℕ → Counts → Admission
+admissionBy none counts = Admitted counts
+admissionBy (some number) counts = Refused (record { number = number })
 
 -- Rows 1 to 10 over any bytes.
 unfoldable pub admitted : List ℕ → Admission
-admitted s = answer (firstOf (admitRows s)) (regionCounts (region (decode s)))
+admitted s = admissionBy (firstOf (admitRows s)) (regionCounts (region (decode s)))
 
 -- 01's number for every case: nodes + 256 × barriers + 65,536 × phases, and a refusal's number negated.
 unfoldable pub numberOf : Admission → ℤ

@@ -23,7 +23,7 @@ use Rattle.theory_paths.specs.Admission.{admitRows}
 use Rattle.theory_paths.specs.AdmissionLaws.{admitted-well-formed, outermost-rows}
 use Rattle.theory_paths.specs.Phases.{forward, backward, isBoundary, barriers, marked, phase, phaseCount}
 use Rattle.theory_paths.specs.PhasesLaws.{ends-below, barrier-of, boundary-means}
-use Rattle.theory_calls.specs.Admission.{regionCounts, answer, admitted, numberOf}
+use Rattle.theory_calls.specs.Admission.{regionCounts, admissionBy, admitted, numberOf}
 use Rattle.theory_calls.specs.PhasesCorrect.{BarriersBelow, PhaseOf, PairCount, CountsIn, AdmitCorrect}
 use Rattle.theory_calls.specs.PhasesCorrectLaws.{below-count, count-below}
 
@@ -62,7 +62,7 @@ one-number {R} v w =
 
 -- Demand 2 for Admit.
 pub admit-correct : (s : List ℕ) → AdmitCorrect s (numberOf (admitted s))
-unfolding admitted answer regionCounts numberOf
+unfolding admitted admissionBy regionCounts numberOf
 admit-correct s = record {
   refuses = λ row h. rw h;
   counts = λ h. let R = region (decode s) in let W = admitted-well-formed s outside (outermost-rows s ∙ h) in rw h (record {

@@ -3,7 +3,7 @@
 use mathlib.Core.Path.{sym, _∙_}
 use borrow.Author.Needs.{needs}
 use Rattle.lists.specs.Truth.{bad}
-use Rattle.chart.specs.Checked.{countsOf, answer}
+use Rattle.chart.specs.Checked.{countsOf, checkedBy}
 use Rattle.theory_paths.specs.AdmissionLaws.{outermost-rows}
 use Rattle.mark_tables.proofs.Accepted.{accepted}
 use Rattle.mark_tables.proofs.Rows.{refused-before}
@@ -47,7 +47,7 @@ survey-inner-requires c κs =
     ((sym (k .check .ensures .0) ∙ m .chart .given .1, left .if1 .left, k .before .before .before .before .pre), k .check .ensures .1 _ (m .chart .given .1))
 
 returns-2 : tie.Need-returns-2
-unfolding checkedOf answer
+unfolding checkedOf checkedBy
 returns-2 c =
     let k = c .before .before .before in
     let e = k .before .before .before .before in

@@ -6,7 +6,7 @@ use lib.ListN.{length}
 use borrow.Author.Needs.{needs}
 use Rattle.lists.specs.Truth.{bad}
 use Rattle.chart.specs.Format.{outside}
-use Rattle.chart.specs.Checked.{readFor, answer, reading}
+use Rattle.chart.specs.Checked.{readFor, checkedBy, reading}
 use Rattle.chart.specs.declared.format.Chart.{Chart}
 use Rattle.theory_paths.specs.Phases.{barriers}
 use Rattle.mark_tables.specs.Tables.{Accepted}
@@ -43,7 +43,7 @@ bad-region-requires c κs =
 
 -- row 23
 returns : tie.Need-returns
-unfolding checkedOf answer
+unfolding checkedOf checkedBy
 returns c =
     let asked = c .before in
     let m = asked .before .before in
@@ -55,7 +55,7 @@ returns c =
 
 -- row 10
 returns-2 : tie.Need-returns-2
-unfolding checkedOf answer
+unfolding checkedOf checkedBy
 returns-2 c =
     let k = c .before .before .before in
     let e = start k in
@@ -93,7 +93,7 @@ survey-region-requires c κs =
     )
 
 returns-3 : tie.Need-returns-3
-unfolding answer
+unfolding checkedBy
 returns-3 c =
     let read = c .before .before in
     let m = entered read in

@@ -5,7 +5,7 @@ use native.Mathlib.Omega.{arith}
 use borrow.Author.Needs.{needs}
 use Rattle.lists.specs.Truth.{bad}
 use Rattle.chart.specs.Refusal.{firstOf, chartRows}
-use Rattle.chart.specs.Checked.{countsOf, answer, checked}
+use Rattle.chart.specs.Checked.{countsOf, checkedBy, checked}
 use Rattle.chart.proofs.Records.{nodes-length}
 use Rattle.check_chart.proofs.Outcome.{passed-none}
 use Rattle.mark_tables.specs.Tables.{Accepted}
@@ -48,7 +48,7 @@ refuses-requires : tie.Need-refuses-requires
 refuses-requires c κs = search needs
 
 returns : tie.Need-returns
-unfolding checkedOf answer
+unfolding checkedOf checkedBy
 returns c =
     let asked = c .before in
     let l = loaded (asked .before) in
@@ -79,7 +79,7 @@ fill-held-requires c κs =
     (is-accepted l, found .returns .ensures, rw (start l .pre .0 .2) refl)
 
 returns-2 : tie.Need-returns-2
-unfolding checkedOf answer checked
+unfolding checkedOf checkedBy checked
 returns-2 c =
     let off = c .before .before .before .before .before .before in
     let asked = off .before in

@@ -5,7 +5,7 @@ use mathlib.Core.Path.{_≡_, sym, ap, _∙_}
 use borrow.Author.Tests.{lt-ltb, le-ltb}
 use borrow.Author.Needs.{needs}
 use Rattle.chart.specs.declared.format.Chart.{Chart}
-use Rattle.chart.specs.Checked.{answer, countsOf}
+use Rattle.chart.specs.Checked.{checkedBy, countsOf}
 use Rattle.chart.specs.Refusal.{badCounts, firstOf, trailerRows}
 use Rattle.check_trailer.proofs.read_trailer.Statement.{statement}
 use Rattle.check_trailer.proofs.read_trailer.Tie as tie
@@ -14,14 +14,14 @@ abbrev countsBad : Chart → Bool
 countsBad k = badCounts (k .nodes) (k .edges) (k .constructs)
 
 returns : tie.Need-returns
-unfolding answer firstOf trailerRows
+unfolding checkedBy firstOf trailerRows
 returns c = rw (lt-ltb _ _ (c .if1 .taken))
 
 bad-marks-requires : tie.Need-bad-marks-requires
 bad-marks-requires c κs = search needs
 
 returns-2 : tie.Need-returns-2
-unfolding answer firstOf trailerRows
+unfolding checkedBy firstOf trailerRows
 returns-2 c = rw (le-ltb _ _ (c .before .before .if1 .left), sym (c .before .bad-marks .ensures) ∙ c .if2 .taken)
 
 read-requires : tie.Need-read-requires
@@ -31,7 +31,7 @@ bad-counts-requires : tie.Need-bad-counts-requires
 bad-counts-requires c κs = search needs
 
 returns-3 : tie.Need-returns-3
-unfolding answer firstOf trailerRows countsOf
+unfolding checkedBy firstOf trailerRows countsOf
 returns-3 c =
     let k = c .before .before .before in
     let counts : countsBad (c .before .before .read .result) ≡ c .before .bad-counts .result = sym (c .before .bad-counts .ensures) in
@@ -45,7 +45,7 @@ bad-lengths-requires : tie.Need-bad-lengths-requires
 bad-lengths-requires c κs = search needs
 
 returns-4 : tie.Need-returns-4
-unfolding answer firstOf trailerRows countsOf
+unfolding checkedBy firstOf trailerRows countsOf
 returns-4 c =
     let l = c .before .before in
     let k = l .before .before .before in
@@ -58,7 +58,7 @@ returns-4 c =
     )
 
 returns-5 : tie.Need-returns-5
-unfolding answer firstOf trailerRows countsOf
+unfolding checkedBy firstOf trailerRows countsOf
 returns-5 c =
     let l = c .before .before in
     let k = l .before .before .before in

@@ -12,7 +12,7 @@ use Rattle.theory_paths.specs.AdmissionLaws.{outermost-rows}
 use Rattle.theory_paths.specs.Phases.{barriers, phaseCount}
 use Rattle.mark_tables.proofs.Loading.{barriers-most}
 use Rattle.mark_regions.proofs.Entering.{entered-refused, entered-marked, entered-counts}
-use Rattle.theory_calls.specs.Admission.{regionCounts, answer, admitted}
+use Rattle.theory_calls.specs.Admission.{regionCounts, admissionBy, admitted}
 use Rattle.call_admit.proofs.admit.admit.Statement.{statement}
 use Rattle.call_admit.proofs.admit.admit.Tie as tie
 
@@ -32,14 +32,14 @@ count-requires c κs =
     (E .accepted .laid .nodes-most, omega (arith, E .count, barriers-most _ _ (E .accepted)))
 
 returns : tie.Need-returns
-unfolding admitted answer
+unfolding admitted admissionBy
 returns c =
     let k = c .before .before .before in
     let s = k .before .before .before .before .before .args .s .now in
     rw (sym (outermost-rows s) ∙ entered-refused _ _ _ (sym (k .enter .ensures .0) ∙ c .before .refusal .given .1))
 
 returns-2 : tie.Need-returns-2
-unfolding admitted answer regionCounts
+unfolding admitted admissionBy regionCounts
 returns-2 c =
     let m = c .before .before .before .before in
     let k = m .before .before in

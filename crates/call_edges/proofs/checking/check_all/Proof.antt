@@ -2,7 +2,7 @@
 -- Assumes nothing.
 use mathlib.Core.Path.{sym, _∙_}
 use borrow.Author.Needs.{needs}
-use Rattle.chart.specs.Checked.{countsOf, answer}
+use Rattle.chart.specs.Checked.{countsOf, checkedBy}
 use Rattle.theory_paths.specs.AdmissionLaws.{outermost-rows}
 use Rattle.mark_regions.proofs.Entering.{entered-refused, entered-marked, entered-counts}
 use Rattle.call_edges.proofs.checking.check_all.Statement.{statement}
@@ -18,14 +18,14 @@ enum-known-chart : tie.Need-enum-known-chart
 enum-known-chart c = search needs
 
 returns : tie.Need-returns
-unfolding answer
+unfolding checkedBy
 returns c =
     let k = c .before .before .before in
     let s = k .before .before .before .before .before .args .s .now in
     rw (sym (outermost-rows s) ∙ entered-refused _ _ _ (sym (k .enter .ensures .0) ∙ c .before .refusal .given .1))
 
 returns-2 : tie.Need-returns-2
-unfolding answer countsOf
+unfolding checkedBy countsOf
 returns-2 c =
     let k = c .before .before .before in
     let s = k .before .before .before .before .before .args .s .now in

@@ -4,13 +4,13 @@ use mathlib.Core.Path.{_≡_, refl, sym}
 use lib.ListN.{length, take}
 use lib.Seq.{length-take-le}
 use borrow.Author.Needs.{needs}
-use Rattle.chart.specs.Checked.{answer}
+use Rattle.chart.specs.Checked.{checkedBy}
 use Rattle.call_edges.proofs.CheckLaws.{beyond, within}
 use Rattle.call_edges.proofs.checking.check_front.Statement.{statement}
 use Rattle.call_edges.proofs.checking.check_front.Tie as tie
 
 returns : tie.Need-returns
-unfolding answer
+unfolding checkedBy
 returns c = let e = c .before .before in rw (beyond (e .args .buffer .now) (e .args .len) (c .if1 .taken))
 
 -- the chart, as long as it was said to be

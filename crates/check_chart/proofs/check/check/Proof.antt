@@ -3,7 +3,7 @@
 use mathlib.Core.Path.{sym, subst, _∙_}
 use borrow.Author.Needs.{needs}
 use Rattle.lists.specs.Truth.{bad}
-use Rattle.chart.specs.Checked.{Laid, countsOf, answer, checked}
+use Rattle.chart.specs.Checked.{Laid, countsOf, checkedBy, checked}
 use Rattle.chart.specs.Refusal.{trailerRows, tableRows, chartRows}
 use Rattle.chart.specs.Format.{decode}
 use Rattle.chart.proofs.Accepted.{laid}
@@ -29,7 +29,7 @@ check-tables-requires c κs =
     subst (Laid s) (p .1) (laid s (p .0))
 
 returns : tie.Need-returns
-unfolding checked chartRows answer
+unfolding checked chartRows checkedBy
 returns c =
     let t = c .before .before .before in
     let s = t .before .before .args .s .now in

@@ -3,7 +3,7 @@
 use mathlib.Core.Path.{sym, _∙_}
 use borrow.Author.Needs.{needs}
 use Rattle.lists.specs.Truth.{bad}
-use Rattle.chart.specs.Checked.{answer}
+use Rattle.chart.specs.Checked.{checkedBy}
 use Rattle.chart.specs.Refusal.{firstOf, tableRows}
 use Rattle.check_chart.proofs.check.check_tables.Statement.{statement}
 use Rattle.check_chart.proofs.check.check_tables.Tie as tie
@@ -12,14 +12,14 @@ bad-nodes-requires : tie.Need-bad-nodes-requires
 bad-nodes-requires c κs = search needs
 
 returns : tie.Need-returns
-unfolding answer firstOf tableRows
+unfolding checkedBy firstOf tableRows
 returns c = (rw (sym (c .before .bad-nodes .ensures) ∙ c .if1 .taken), λ counts q. absurd (bad (cc)))
 
 bad-constructs-requires : tie.Need-bad-constructs-requires
 bad-constructs-requires c κs = search needs
 
 returns-2 : tie.Need-returns-2
-unfolding answer firstOf tableRows
+unfolding checkedBy firstOf tableRows
 returns-2 c =
     let a = c .before .before in
     (rw (sym (a .before .bad-nodes .ensures) ∙ a .if1 .left, sym (c .before .bad-constructs .ensures) ∙ c .if2 .taken), λ counts q. absurd (bad (cc)))
@@ -30,7 +30,7 @@ bad-frames-requires c κs =
     (a .before .before .before .pre, sym (a .before .bad-nodes .ensures) ∙ a .if1 .left)
 
 returns-3 : tie.Need-returns-3
-unfolding answer firstOf tableRows
+unfolding checkedBy firstOf tableRows
 returns-3 c =
     let b = c .before .before .before .before in
     let a = b .before .before in (
@@ -46,7 +46,7 @@ bad-barriers-requires : tie.Need-bad-barriers-requires
 bad-barriers-requires c κs = search needs
 
 returns-4 : tie.Need-returns-4
-unfolding answer firstOf tableRows
+unfolding checkedBy firstOf tableRows
 returns-4 c =
     let d = c .before .before in
     let b = d .before .before .before .before in
@@ -68,7 +68,7 @@ bad-edges-requires c κs =
     (a .before .before .before .pre, sym (a .before .bad-nodes .ensures) ∙ a .if1 .left, sym (d .before .bad-frames .ensures .0) ∙ d .if3 .left, B, E)
 
 returns-5 : tie.Need-returns-5
-unfolding answer firstOf tableRows
+unfolding checkedBy firstOf tableRows
 returns-5 c =
     let f = c .before .before .before .before in
     let d = f .before .before in
@@ -85,7 +85,7 @@ returns-5 c =
     )
 
 returns-6 : tie.Need-returns-6
-unfolding answer firstOf tableRows
+unfolding checkedBy firstOf tableRows
 returns-6 c =
     let f = c .before .before .before .before in
     let d = f .before .before in
