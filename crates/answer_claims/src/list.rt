@@ -12,7 +12,7 @@ ghost use Rattle.theory_calls.specs.Judged.{claimRows, verdict, answered};
 ghost use Rattle.answer_claims.specs.OfMarks.{OfMarks};
 use crate::numbers::bad_numbers;
 use answer_constructs::chains::Sets;
-use answer_constructs::marks::MaskTable;
+use answer_constructs::mask_table::MaskTable;
 use answer_constructs::sizes::bad_size;
 use answer_constructs::sizes::sets_for;
 use answer_pairs::rules::pair;

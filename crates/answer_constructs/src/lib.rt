@@ -3,7 +3,7 @@
 // size (`sizes`).
 pub mod chains;
 pub mod held;
-pub mod marks;
+pub mod mask_table;
 pub mod members;
 pub mod peers;
 pub mod sizes;

@@ -8,8 +8,8 @@ ghost use lib.ListN.{length};
 ghost use Rattle.answer_constructs.specs.Marks.{heldIn};
 ghost use Rattle.answer_locks.specs.Fitting.{lacking, Fitting};
 use answer_constructs::chains::Sets;
-use answer_constructs::marks::HELD;
-use answer_constructs::marks::MaskTable;
+use answer_constructs::mask_table::HELD;
+use answer_constructs::mask_table::MaskTable;
 use chart::format::Chart;
 use masks::bits::common;
 

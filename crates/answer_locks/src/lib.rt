@@ -11,7 +11,7 @@ use crate::bytes::put_bytes;
 use crate::fitting::close_lacking;
 use crate::search::search;
 use answer_constructs::chains::Sets;
-use answer_constructs::marks::MaskTable;
+use answer_constructs::mask_table::MaskTable;
 use answer_constructs::sizes::sets_for;
 use answer_met::THIRDS;
 use answer_met::gather_names;

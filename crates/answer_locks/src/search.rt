@@ -7,7 +7,7 @@ ghost use Rattle.lists.specs.Bits.{has};
 ghost use Rattle.answer_nodes.specs.NodeSets.{InSets};
 ghost use Rattle.answer_met.specs.Meets.{Named};
 ghost use Rattle.answer_locks.specs.Search.{hasNamed, Skips, Kept, Tries, Searched};
-use answer_constructs::marks::MaskTable;
+use answer_constructs::mask_table::MaskTable;
 use answer_constructs::peers::add_if;
 use answer_met::NameSets;
 use answer_met::met_nodes;

@@ -7,7 +7,7 @@ ghost use lib.ListN.{getD, replicate};
 ghost use Rattle.answer_nodes.specs.Gathered.{Past};
 ghost use Rattle.answer_nodes.specs.NodeSets.{InSets, Sharing};
 use crate::sets::gather;
-use answer_constructs::marks::MaskTable;
+use answer_constructs::mask_table::MaskTable;
 use chart::format::Chart;
 use masks::unions::BITS;
 use masks::unions::Words;

@@ -8,10 +8,10 @@ ghost use Rattle.theory_answers.specs.declared.Size.{Size};
 ghost use Rattle.answer_constructs.specs.Marks.{Sized, Marks};
 ghost use Rattle.answer_pairs.specs.Rules.{kindsOf, profileAt, ruledBy, answerBy};
 use answer_constructs::chains::Sets;
-use answer_constructs::marks::ENDS;
-use answer_constructs::marks::HELD;
-use answer_constructs::marks::MaskTable;
-use answer_constructs::marks::STARTS;
+use answer_constructs::mask_table::ENDS;
+use answer_constructs::mask_table::HELD;
+use answer_constructs::mask_table::MaskTable;
+use answer_constructs::mask_table::STARTS;
 use masks::bits::common;
 use theory_answers::Answer;
 

@@ -14,7 +14,7 @@ ghost use Rattle.theory_calls.specs.Races.{races as racesOf};
 use crate::lines::fill_lines;
 use crate::pairs::fill_races;
 use crate::rows::WORDS;
-use answer_constructs::marks::MaskTable;
+use answer_constructs::mask_table::MaskTable;
 use answer_met::THIRDS;
 use answer_met::gather_names;
 use answer_names::fill_names;

@@ -9,7 +9,7 @@ ghost use Rattle.answer_nodes.specs.NodeSets.{InSets, OfSets};
 ghost use Rattle.answer_met.specs.Meets.{meets, NodeSet, Named};
 ghost use Rattle.answer_races.specs.Lines.{LineOf, MetOf, LineBy};
 use crate::rows::Line;
-use answer_constructs::marks::MaskTable;
+use answer_constructs::mask_table::MaskTable;
 use answer_met::NameSets;
 use answer_met::met_nodes;
 use answer_met::unbarred_nodes;

@@ -18,7 +18,7 @@ use crate::eights::fill_spread;
 use crate::rows::keep_row;
 use crate::rows::work_row;
 use answer_constructs::chains::Sets;
-use answer_constructs::marks::MaskTable;
+use answer_constructs::mask_table::MaskTable;
 use answer_constructs::sizes::sets_for;
 use answer_nodes::SETS;
 use answer_nodes::gather_all;

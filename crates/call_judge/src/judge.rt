@@ -3,7 +3,7 @@
 ghost use mathlib.Core.Path.{_≡_};
 ghost use Rattle.theory_calls.specs.Judged.{judgedFor};
 use answer_claims::list::judge_claims;
-use answer_constructs::marks::ROWS;
+use answer_constructs::mask_table::ROWS;
 use answer_masks::Surveyed;
 use answer_masks::survey;
 use chart::format::Chart;

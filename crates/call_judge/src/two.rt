@@ -7,7 +7,7 @@ ghost use Rattle.call_judge.specs.Two.{numbers, falsePart, falsePlace};
 use crate::number::number_of;
 use crate::parts::false_part;
 use answer_claims::list::judge_claims;
-use answer_constructs::marks::ROWS;
+use answer_constructs::mask_table::ROWS;
 use answer_masks::Surveyed;
 use answer_masks::survey;
 use chart::format::Chart;
