@@ -47,8 +47,8 @@ abbrev pub Nodes : List ℕ → Type 0
 Nodes l = (k : ℕ) → getD l k 0 < 192
 
 -- The barrier at which the team of region p begins or ends: of the outermost region `outer`, of a parallel's region its frame.
-abbrev pub frameAt : ℕ → ℕ → List ℕ → ℕ
-frameAt p outer frames = cond (eqb p outside) outer (getD frames p 0)
+abbrev pub terminalAt : ℕ → ℕ → List ℕ → ℕ
+terminalAt p outer frames = cond (eqb p outside) outer (getD frames p 0)
 
 -- For each of the first n constructs, those around it and itself.
 pub record Above (D : Decoded) (n : ℕ) (above : List ℕ) : Type 0 where

@@ -6,7 +6,7 @@ ghost use Rattle.chart.specs.Format.{outside};
 ghost use Rattle.chart.specs.Checked.{reading};
 ghost use Rattle.mark_tables.specs.Tables.{Accepted};
 ghost use Rattle.answer_steps.specs.Tables.{Tabled};
-ghost use Rattle.answer_steps.specs.Words.{Nodes, frameAt, Beside};
+ghost use Rattle.answer_steps.specs.Words.{Nodes, terminalAt, Beside};
 use crate::children::fill_children;
 use crate::columns::fill_above;
 use crate::columns::fill_constructs;
@@ -24,9 +24,9 @@ use chart::format::Chart;
 use mark_tables::load::frames;
 
 // A barrier at which the team begins or ends: of the outermost region `outer`, of a parallel's region its frame.
-fn frame_of(chart: Chart, outer: usize, frames: &[u8; Chart::BARRIERS]) -> u64
+fn terminal_of(chart: Chart, outer: usize, frames: &[u8; Chart::BARRIERS]) -> u64
     requires { ⌜ ((chart .region ≡ outside → ⊥) → chart .region < 64) × Nodes (now frames) ⌝ }
-    ensures { λ r. ⌜ r ≡ frameAt (chart .region) outer (now (frames .entry)) ⌝ }
+    ensures { λ r. ⌜ r ≡ terminalAt (chart .region) outer (now (frames .entry)) ⌝ }
 {
     let region = chart.region;
     if region == Chart::OUTERMOST {
@@ -46,15 +46,15 @@ fn put_numbers(
     requires { ⌜ (1 ≤ chart .nodes) × ((chart .region ≡ outside → ⊥) → chart .region < 64) × (length (now table) ≡ 2133) × Nodes (now begins) × Nodes (now ends) ⌝ }
     ensures { λ _. ⌜ (getD (now (table .exit)) 2032 0 ≡ members) × (getD (now (table .exit)) 2033 0 ≡ chart .constructs) × (getD (now (table .exit)) 2036 0 ≡ chart .nodes) ⌝ }
     ensures { λ _.
-        let start = frameAt (chart .region) 0 (now (begins .entry)) in
-        let finish = frameAt (chart .region) (chart .nodes - 1) (now (ends .entry)) in
+        let start = terminalAt (chart .region) 0 (now (begins .entry)) in
+        let finish = terminalAt (chart .region) (chart .nodes - 1) (now (ends .entry)) in
         ⌜ (getD (now (table .exit)) 2034 0 ≡ start) × (getD (now (table .exit)) 2035 0 ≡ finish) ⌝ }
     ensures { λ _. ⌜ Beside 2032 2037 (now (table .entry)) (now (table .exit)) ⌝ }
 {
     table[MEMBERS] = members;
     table[CONSTRUCTS] = chart.constructs as u64;
-    table[START] = frame_of(chart, 0, begins);
-    table[FINISH] = frame_of(chart, chart.nodes - 1, ends);
+    table[START] = terminal_of(chart, 0, begins);
+    table[FINISH] = terminal_of(chart, chart.nodes - 1, ends);
     table[NODES] = chart.nodes as u64;
 }
 

@@ -13,17 +13,17 @@ element-write-table c = search needs
 element-write-table-2 : tie.Need-element-write-table-2
 element-write-table-2 c = search needs
 
-frame-of-requires : tie.Need-frame-of-requires
-frame-of-requires c κs = (c .pre .1, c .pre .3)
+terminal-of-requires : tie.Need-terminal-of-requires
+terminal-of-requires c κs = (c .pre .1, c .pre .3)
 
 element-write-table-3 : tie.Need-element-write-table-3
 element-write-table-3 c = search needs
 
-sub-frame-of : tie.Need-sub-frame-of
-sub-frame-of c = omega (arith, c .before .before .pre .0)
+sub-terminal-of : tie.Need-sub-terminal-of
+sub-terminal-of c = omega (arith, c .before .before .pre .0)
 
-frame-of-requires-2 : tie.Need-frame-of-requires-2
-frame-of-requires-2 c κs = (c .before .before .pre .1, c .before .before .pre .4)
+terminal-of-requires-2 : tie.Need-terminal-of-requires-2
+terminal-of-requires-2 c κs = (c .before .before .pre .1, c .before .before .pre .4)
 
 element-write-table-4 : tie.Need-element-write-table-4
 element-write-table-4 c = search needs
@@ -35,7 +35,7 @@ returns : tie.Need-returns
 returns c =
     let a = c .before .before .before in
     let (x, (y, z)) = five-stores (a .args .table .now) (a .args .members) (a .args .chart .constructs) _ _ (a .args .chart .nodes) (a .pre .2) in
-    (x, ((y .0 ∙ c .before .before .frame-of .ensures, y .1 ∙ c .frame-of2 .ensures), z))
+    (x, ((y .0 ∙ c .before .before .terminal-of .ensures, y .1 ∙ c .terminal-of2 .ensures), z))
 
 pub put-numbers-spec : {M : Type 1} → statement M
 put-numbers-spec =
@@ -43,10 +43,10 @@ put-numbers-spec =
     (tie.spec
     element-write-table
     element-write-table-2
-    frame-of-requires
+    terminal-of-requires
     element-write-table-3
-    sub-frame-of
-    frame-of-requires-2
+    sub-terminal-of
+    terminal-of-requires-2
     element-write-table-4
     element-write-table-5
     returns)

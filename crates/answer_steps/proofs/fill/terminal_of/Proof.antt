@@ -1,9 +1,9 @@
--- `answer_steps::fill::frame_of` meets its contract.
+-- `answer_steps::fill::terminal_of` meets its contract.
 -- Assumes nothing.
 use borrow.Author.Tests.{eq-eqb, ne-eqb}
 use native.Mathlib.Omega.{arith}
-use Rattle.answer_steps.proofs.fill.frame_of.Statement.{statement}
-use Rattle.answer_steps.proofs.fill.frame_of.Tie as tie
+use Rattle.answer_steps.proofs.fill.terminal_of.Statement.{statement}
+use Rattle.answer_steps.proofs.fill.terminal_of.Tie as tie
 
 returns : tie.Need-returns
 returns c = rw (eq-eqb _ _ (c .if1 .taken))
@@ -17,8 +17,8 @@ cast-result c = omega (arith, c .before .before .pre .1 (c .before .before .args
 returns-2 : tie.Need-returns-2
 returns-2 c = rw (ne-eqb _ _ (c .before .if1 .left))
 
-pub frame-of-spec : {M : Type 1} → statement M
-frame-of-spec =
+pub terminal-of-spec : {M : Type 1} → statement M
+terminal-of-spec =
     tie.close
     (tie.spec
     returns
