@@ -3,11 +3,10 @@ ghost use mathlib.Core.Path.{_≡_};
 ghost use mathlib.Core.Logic.{_≢_};
 ghost use lib.ListN.{replicate};
 ghost use Rattle.chart.specs.Format.{outside, decode};
-ghost use Rattle.chart.specs.Scope.{beginNode, endNode};
 ghost use Rattle.chart.specs.Refusal.{firstOf};
 ghost use Rattle.chart.specs.Checked.{countsOf, readFor, checkedBy, checked};
 ghost use Rattle.chart.specs.declared.format.Checked.the-variants.{Passed};
-ghost use Rattle.check_nodes.specs.Framed.{Framed};
+ghost use Rattle.check_nodes.specs.Framed.{BothFramed};
 ghost use Rattle.theory_paths.specs.Admission.{admitRows, regionRows};
 ghost use Rattle.mark_tables.specs.Tables.{Accepted};
 ghost use Rattle.answer_masks.specs.Surveyed.{checkedOf, Survey};
@@ -20,6 +19,8 @@ use answer_constructs::mask_table::MaskTable;
 use answer_constructs::mask_table::STARTS;
 use chart::format::Chart;
 use chart::format::Checked;
+use chart::format::Construct;
+use chart::format::Frames;
 use chart::format::Refusal;
 use check_chart::check::check;
 use mark::boundaries::fill;
@@ -30,7 +31,6 @@ use mark_regions::outermost::enter_region;
 use mark_regions::outermost::refuses;
 use mark_tables::tables::load_tables;
 use search::edges::Parts;
-use search::sources::Sources;
 
 // A chart whose nodes are marked, with its constructs by kind, or the first row that applies.
 pub enum Surveyed {
@@ -43,12 +43,12 @@ pub enum Surveyed {
 fn survey_region(
     s: &[u8],
     chart: Chart,
-    begin_nodes: &[u8; Sources::MOST],
-    end_nodes: &[u8; Sources::MOST],
+    begin_nodes: &Frames,
+    end_nodes: &Frames,
     marks: &mut MaskTable,
 ) -> Surveyed
     requires { ⌜ Accepted (now s) chart × (chart .region ≡ outside → checked (now s) ≡ Passed chart) × (now marks ≡ replicate 3 (replicate 192 0)) ⌝ }
-    requires { ⌜ Framed (decode (now s)) beginNode (now «begin_nodes») × Framed (decode (now s)) endNode (now «end_nodes») ⌝ }
+    requires { ⌜ BothFramed (decode (now s)) (now «begin_nodes») (now «end_nodes») ⌝ }
     ensures { λ r. ⌜ (chart .region ≡ outside → checkedOf r ≡ checkedBy (firstOf (admitRows (now (s .entry)))) (countsOf (now (s .entry)))) × (chart .region ≢ outside → checkedOf r ≡ Passed chart) ⌝ }
     ensures { λ r. ⌜ ((chart : Chart) (sets : Sets) → r ≡ Marked chart sets → Survey (now (s .entry)) chart (now (marks .exit)) sets) ⌝ }
 {
@@ -85,12 +85,12 @@ fn survey_inner(
     s: &[u8],
     chart: Chart,
     region: usize,
-    begin_nodes: &[u8; Sources::MOST],
-    end_nodes: &[u8; Sources::MOST],
+    begin_nodes: &Frames,
+    end_nodes: &Frames,
     marks: &mut MaskTable,
 ) -> Surveyed
     requires { ⌜ (checked (now s) ≡ Passed chart) × (region ≢ outside) × (now marks ≡ replicate 3 (replicate 192 0)) ⌝ }
-    requires { ⌜ Framed (decode (now s)) beginNode (now «begin_nodes») × Framed (decode (now s)) endNode (now «end_nodes») ⌝ }
+    requires { ⌜ BothFramed (decode (now s)) (now «begin_nodes») (now «end_nodes») ⌝ }
     ensures { λ r. ⌜ checkedOf r ≡ checkedBy (firstOf (regionRows (now (s .entry)) region)) (readFor (countsOf (now (s .entry))) region) ⌝ }
     ensures { λ r. ⌜ ((chart : Chart) (sets : Sets) → r ≡ Marked chart sets → Survey (now (s .entry)) chart (now (marks .exit)) sets) ⌝ }
 {
@@ -115,8 +115,8 @@ pub fn survey(s: &[u8], region: usize, marks: &mut MaskTable) -> Surveyed
     ensures { λ r. ⌜ checkedOf r ≡ checkedBy (firstOf (regionRows (now (s .entry)) region)) (readFor (countsOf (now (s .entry))) region) ⌝ }
     ensures { λ r. ⌜ ((chart : Chart) (sets : Sets) → r ≡ Marked chart sets → Survey (now (s .entry)) chart (now (marks .exit)) sets) ⌝ }
 {
-    let mut begin_nodes = [0u8; Sources::MOST];
-    let mut end_nodes = [0u8; Sources::MOST];
+    let mut begin_nodes = [0u8; Construct::FRAMES];
+    let mut end_nodes = [0u8; Construct::FRAMES];
     match check(s, &mut begin_nodes, &mut end_nodes) {
         Checked::Refused(refusal) => Surveyed::Refused(refusal),
         Checked::Passed(chart) => {

@@ -15,6 +15,7 @@ use answer_constructs::chains::mask_at;
 use chart::cursor::wide;
 use chart::format::Chart;
 use chart::format::Construct;
+use chart::format::Frames;
 use chart::format::Node;
 use masks::bits::bit;
 use masks::bits::has;
@@ -123,8 +124,8 @@ pub fn fill_nodes(
 fn construct_word(
     s: &[u8],
     chart: Chart,
-    begins: &[u8; Chart::BARRIERS],
-    ends: &[u8; Chart::BARRIERS],
+    begins: &Frames,
+    ends: &Frames,
     which: usize,
     c: usize,
 ) -> u64
@@ -151,8 +152,8 @@ fn construct_word(
 pub fn fill_constructs(
     s: &[u8],
     chart: Chart,
-    begins: &[u8; Chart::BARRIERS],
-    ends: &[u8; Chart::BARRIERS],
+    begins: &Frames,
+    ends: &Frames,
     which: usize,
     table: &mut RegionTable,
 )

@@ -21,10 +21,12 @@ use crate::tables::RegionTable;
 use crate::tables::START;
 use answer_constructs::members::members_of;
 use chart::format::Chart;
+use chart::format::Construct;
+use chart::format::Frames;
 use mark_tables::load::frames;
 
 // A barrier at which the team begins or ends: of the outermost region `outer`, of a parallel's region its frame.
-fn terminal_of(chart: Chart, outer: usize, frames: &[u8; Chart::BARRIERS]) -> u64
+fn terminal_of(chart: Chart, outer: usize, frames: &Frames) -> u64
     requires { ⌜ ((chart .region ≡ outside → ⊥) → chart .region < 64) × Nodes (now frames) ⌝ }
     ensures { λ r. ⌜ r ≡ terminalAt (chart .region) outer (now (frames .entry)) ⌝ }
 {
@@ -36,13 +38,7 @@ fn terminal_of(chart: Chart, outer: usize, frames: &[u8; Chart::BARRIERS]) -> u6
 }
 
 // The single numbers.
-fn put_numbers(
-    chart: Chart,
-    members: u64,
-    begins: &[u8; Chart::BARRIERS],
-    ends: &[u8; Chart::BARRIERS],
-    table: &mut RegionTable,
-)
+fn put_numbers(chart: Chart, members: u64, begins: &Frames, ends: &Frames, table: &mut RegionTable)
     requires { ⌜ (1 ≤ chart .nodes) × ((chart .region ≡ outside → ⊥) → chart .region < 64) × (length (now table) ≡ 2133) × Nodes (now begins) × Nodes (now ends) ⌝ }
     ensures { λ _. ⌜ (getD (now (table .exit)) 2032 0 ≡ members) × (getD (now (table .exit)) 2033 0 ≡ chart .constructs) × (getD (now (table .exit)) 2036 0 ≡ chart .nodes) ⌝ }
     ensures { λ _.
@@ -70,8 +66,8 @@ pub fn fill_table(s: &[u8], chart: Chart, table: &mut RegionTable)
     fill_nodes(s, chart, members, &above, 0, table);
     fill_nodes(s, chart, members, &above, 1, table);
     fill_nodes(s, chart, members, &above, 2, table);
-    let mut begins = [0u8; Chart::BARRIERS];
-    let mut ends = [0u8; Chart::BARRIERS];
+    let mut begins = [0u8; Construct::FRAMES];
+    let mut ends = [0u8; Construct::FRAMES];
     frames(s, chart, &mut begins, &mut ends);
     fill_constructs(s, chart, &begins, &ends, 0, table);
     fill_constructs(s, chart, &begins, &ends, 1, table);
