@@ -17,7 +17,7 @@ export -f wrapper_of options_of plant
 
 # one CORPUS LEVEL SOURCE OPTION..: builds a program and records it, twice on each runtime
 one() {
-    local corpus=$1 level=$2 source=$3 name own more runtime
+    local corpus=$1 level=$2 source=$3 name own more
     shift 3
     name=$corpus.$level.$(basename "$(dirname "$source")")_$(basename "$source")
     export name
@@ -43,6 +43,7 @@ one() {
 # ended PRELOAD THREADS: how the program of this directory ends
 ended() {
     local status=0
+    # shellcheck disable=SC2086 # the arguments are several words
     env OMP_NUM_THREADS="$2" OMP_CANCELLATION=true OMP_WAIT_POLICY=passive OMP_MAX_ACTIVE_LEVELS=3 OMP_DYNAMIC=false LD_PRELOAD="$1" \
         timeout -k 1 20 ./program ${arguments:-} <"${input:-/dev/null}" >/dev/null 2>&1 || status=$?
     case $status in 124 | 137) echo timeout ;; *) echo "status $status" ;; esac
@@ -50,7 +51,7 @@ ended() {
 
 # run RUNTIME: the program of this directory with teams of 4 and of 3, traced and replayed
 run() {
-    local threads preload= end off
+    local threads preload="" end off
     if [ "$1" = libomp ]; then preload=$libomp; fi
     rm -f log
     off=$(ended "$preload" 4)
@@ -98,7 +99,7 @@ faults() {
 
 # counts: regions, traces, entries, filled in, finished, unfinished, forbidden, cut, pairs, pairs answered never, teams left out
 counts() {
-    local number='s/.*[^0-9]\([0-9][0-9]*\) %s.*/\1/p' first
+    local first
     first=$(head -n 1 traced.txt)
     {
         sed -n 's/.* traces\{0,1\} of \([0-9]*\) region.*/\1/p' <<<"$first"
@@ -117,16 +118,18 @@ part() { # part: of rows, the N-th of every M that PART names
     awk -v part="${PART:-1/1}" -v RS='\0' -v ORS='\0' '{ split(part, p, "/") } NR % p[2] == p[1] % p[2]'
 }
 
-corpus() { # corpus NAME DIR OPTION..
+corpus() { # corpus NAME DIR OPTION..; one whose sources could not be had is left out
     local name=$1 dir=$2 level
     shift 2
+    test -d "$dir" || return 0
     for level in O0 O2; do
+        echo "$name, -$level: $(sources_below "$dir" | part | tr -dc '\0' | wc -c) sources, after $((SECONDS - begun)) s"
         sources_below "$dir" | part | xargs -0 -r -P "${JOBS:-$(nproc)}" -I{} bash -c 'one "$@" 2>/dev/null' one "$name" "$level" {} "$@"
     done
 }
 
 begun=$SECONDS
-test -f "$out/sources/fasttree/fasttree.c" || fetch "$out/sources"
+ls -d "$out"/sources/{fasttree,gcc,llvm} >/dev/null 2>&1 || fetch "$out/sources"
 rm -rf "$out"/{runs.tsv,faults.tsv,ends.txt,forbidden.txt,failed.txt,work,kept}
 mkdir -p "$out/own"
 cp "$root"/rust/frontend/tests/programs/{stress,narrow}/* "$root/examples/playtest/playtest.c" "$out/own"

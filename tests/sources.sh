@@ -35,22 +35,34 @@ plant() {
     rm -f "$2/new"
 }
 
-# fetch DIR: sources of gcc's and LLVM's OpenMP tests and of FastTree, as the system's archive has them, by apt-get source
+# fetch DIR: sources of gcc's and LLVM's OpenMP tests and of FastTree, as the system's archive has them, by apt-get source, a folder each. It says which
+# of them cannot be had.
 fetch() {
-    mkdir -p "$1/apt/lists"
+    mkdir -p "$1/apt/parts" "$1/apt/lists"
     (
         cd "$1"
-        # the archive of binaries with their sources, whatever form its list has
-        cat /etc/apt/sources.list /etc/apt/sources.list.d/*.sources /etc/apt/sources.list.d/*.list 2>/dev/null |
-            awk '/^URIs:/ { uri = $2 } /^Suites:/ { for (i = 2; i <= NF; i++) print "deb-src", uri, $i, "main" } /^deb / { print "deb-src", $2, $3, "main" }' |
-            sort -u >apt/sources.list
-        own="-o Dir::Etc::sourcelist=$PWD/apt/sources.list -o Dir::Etc::sourceparts=/dev/null -o Dir::State::lists=$PWD/apt/lists"
-        # shellcheck disable=SC2086 # several words
-        apt-get $own update >/dev/null && apt-get $own source --download-only fasttree gcc-12 llvm-toolchain-14 >/dev/null
-        mkdir -p gcc llvm fasttree
-        tar -xf gcc-12_*.orig.tar.gz -C gcc --strip-components=1 --wildcards '*.tar.xz'
-        tar -xf gcc/gcc-12*.tar.xz -C gcc --strip-components=1 --wildcards '*/libgomp/testsuite/*'
-        tar -xf llvm-toolchain-14_*.orig.tar.xz -C llvm --strip-components=1 --wildcards '*/openmp/runtime/test/*'
-        tar -xf fasttree_*.orig.tar.xz -C fasttree --strip-components=1
+        # the archives that packages come from, asked for sources
+        for list in /etc/apt/sources.list /etc/apt/sources.list.d/*.list /etc/apt/sources.list.d/*.sources; do
+            test ! -f "$list" || sed 's/^Types:.*/Types: deb-src/; s/^deb /deb-src /' "$list" >"apt/parts/$(basename "$list")"
+        done
+        printf '%s "%s";\n' Dir::Etc::sourcelist /dev/null Dir::Etc::sourceparts "$PWD/apt/parts" Dir::State::lists "$PWD/apt/lists" >apt/conf
+        export APT_CONFIG=$PWD/apt/conf
+        apt-get update >apt/log 2>&1 || true
+        unpack fasttree fasttree '*'
+        unpack gcc-12 gcc '*/libgomp/testsuite/*' '*/gcc-12*.tar.xz'
+        unpack llvm-toolchain-14 llvm '*/openmp/runtime/test/*'
     )
+}
+
+# unpack PACKAGE FOLDER MEMBERS [ARCHIVE]: fetches a package's sources, unless that was done, and unpacks some, perhaps from an archive inside them
+unpack() {
+    test ! -d "$2" || return 0
+    rm -rf "$2.part"
+    mkdir "$2.part"
+    if apt-get source --download-only "$1" >>apt/log 2>&1 && tar -xf "$1"_*.orig.tar.* -C "$2.part" --strip-components=1 --wildcards "${4:-$3}" &&
+        { [ $# = 3 ] || tar -xf "$2.part"/*.tar.xz -C "$2.part" --strip-components=1 --wildcards "$3"; }; then
+        mv "$2.part" "$2"
+    else
+        echo "the sources of $1 cannot be had ($PWD/apt/log): its programs are left out"
+    fi
 }
