@@ -239,12 +239,17 @@ fn largest_regions_are_small_pages() {
         _ if node > from => vec![191],
         _ => vec![node + 1],
     };
+    let in_turn = |x: usize| match x % 2 {
+        0 => "single".into(),
+        _ => format!("masked {}", x / 2 % 8),
+    };
     let tables = [
         ("line.csv", plain(line), 110_000),
         ("star.csv", plain(|x| fan(0, x)), 230_000),
         ("fan.csv", plain(|x| fan(40, x)), 230_000),
         ("masked.csv", constructs(|x| format!("masked {x}")), 250_000),
         ("singles.csv", constructs(|_| "single".into()), 160_000),
+        ("turn.csv", constructs(in_turn), 190_000),
         ("parallels.csv", constructs(|_| "parallel".into()), 180_000),
     ];
     for (name, table, most) in tables {

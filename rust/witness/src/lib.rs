@@ -12,6 +12,7 @@ pub mod forbidden;
 mod layout;
 mod march;
 mod naming;
+mod parallel;
 pub mod plan;
 mod rows;
 mod rules;
@@ -29,7 +30,7 @@ use run::MOST_THREADS;
 use view::View;
 
 pub use certify::{certify, Run, CERTIFIED_BY};
-pub use cover::Cover;
+pub use cover::{cover, Wanted};
 pub use error::Error;
 pub use layout::{wrapped, WIDTH};
 pub use naming::Naming;

@@ -10,7 +10,7 @@ use bohrali::layout::ConstructKind;
 use bohrali::{Answer, Region};
 use std::collections::{BTreeMap, HashMap};
 use witness::view::{bits, Role, View};
-use witness::{About, Cover, Naming, Pattern};
+use witness::{cover, About, Naming, Pattern, Run, Wanted};
 
 /// What is said of cells: the answer, and its words with slots.
 type Kind = (u8, Pattern);
@@ -22,7 +22,8 @@ type Source = (u8, [(u64, u64); 2], bool, bool);
 struct Reading<'a> {
     subject: &'a Subject,
     view: &'a View<'a>,
-    cover: Cover<'a>,
+    /// The pairs of each sheet that are to be shown by runs.
+    wanted: Vec<Wanted>,
     /// Each kind of cell with its number.
     kinds: BTreeMap<Kind, usize>,
     /// The kinds of the cells of each sheet, row by row.
@@ -35,7 +36,7 @@ pub fn document<'a>(subject: &'a Subject, region: Region) -> Result<Json<'a>, Fa
     let mut reading = Reading {
         subject,
         view: &view,
-        cover: Cover::new(&view),
+        wanted: Vec::new(),
         kinds: BTreeMap::new(),
         cells: Vec::new(),
     };
@@ -44,6 +45,7 @@ pub fn document<'a>(subject: &'a Subject, region: Region) -> Result<Json<'a>, Fa
         .map(|x| reading.sheet(x))
         .collect();
     let sheets = sheets?;
+    let runs = cover(&view, &reading.wanted).map_err(|x| failure(subject, x))?;
     let (sets, [starts, ends]) = barriers(&view);
     let inside = view.role.iter().map(|x| usize::from(*x != Role::Outside));
     let distances = subject.distances(region)?;
@@ -67,7 +69,7 @@ pub fn document<'a>(subject: &'a Subject, region: Region) -> Result<Json<'a>, Fa
         ("sheets", Json::List(sheets)),
         ("wide", Json::Number(width(reading.kinds.len()))),
         ("cells", Json::text(reading.cells())),
-        ("runs", Json::text(reading.runs())),
+        ("runs", Json::text(packed_runs(&runs))),
         ("kinds", kinds(reading.kinds)),
     ]))
 }
@@ -100,7 +102,7 @@ fn master<'a>(view: &View, subject: &Subject, c: usize) -> Json<'a> {
 }
 
 impl Reading<'_> {
-    /// The sheet of a class of sizes; its pairs that may be met are shown by runs.
+    /// The sheet of a class of sizes; its pairs that may be met are to be shown by runs.
     fn sheet<'b>(&mut self, class: Class) -> Result<Json<'b>, Failure> {
         let region = self.view.region;
         let sheet = self.subject.sheet(Team {
@@ -108,12 +110,12 @@ impl Reading<'_> {
             size: class.size,
         })?;
         let nodes = self.view.nodes();
-        let mut met = Vec::new();
+        let mut pairs = Vec::new();
         let mut known = HashMap::new();
         for (place, &answer) in sheet.iter().enumerate() {
             let (a, b) = (place / nodes, place % nodes);
             if answer == Answer::Concurrent as u8 && a <= b {
-                met.push((a, b));
+                pairs.push((a, b));
             }
             let source = self.source(answer, a, b);
             let kind = known
@@ -121,11 +123,11 @@ impl Reading<'_> {
                 .or_insert_with(|| self.kind(&class, answer, a, b));
             self.cells.push(*kind);
         }
-        let shown = self.cover.show(class.size, &met);
-        shown.map_err(|x| failure(self.subject, x))?;
+        let size = class.size;
+        self.wanted.push(Wanted { size, pairs });
         Ok(Json::Object(vec![
             ("label", Json::text(class.label)),
-            ("size", Json::option(class.size, |x| Json::Number(x.0))),
+            ("size", Json::option(size, |x| Json::Number(x.0))),
         ]))
     }
 
@@ -161,17 +163,17 @@ impl Reading<'_> {
         }
         packed(&text)
     }
+}
 
-    /// All runs: the threads of each, its trace, and a semicolon.
-    fn runs(&self) -> String {
-        let mut text = Vec::new();
-        for run in &self.cover.runs {
-            text.extend(digits(run.threads, 1));
-            text.extend(steps(run.trace.iter().map(|x| (x.thread, x.node))).into_bytes());
-            text.push(b';');
-        }
-        packed(&text)
+/// All runs: the threads of each, its trace, and a semicolon.
+fn packed_runs(runs: &[Run]) -> String {
+    let mut text = Vec::new();
+    for run in runs {
+        text.extend(digits(run.threads, 1));
+        text.extend(steps(run.trace.iter().map(|x| (x.thread, x.node))).into_bytes());
+        text.push(b';');
     }
+    packed(&text)
 }
 
 /// The kinds by their numbers.
