@@ -26,6 +26,8 @@ function columns(avail, least) {
   } else {
     L.textW = wide(each.map(i => "end " + nodeName(i)), n <= 16 ? 150 : 90, 230) + (n <= 60 ? 34 : 14);
   }
+  // a path that is too long is named by its end
+  L.heading = L.file && pen.measureText(L.file).width > L.textW - 8 ? L.file.replace(/^.*[/]/, "…/") : L.file || "what it is";
   L.leftW = L.textX + L.textW + L.whereW + L.btwW + 12;
   const fit = Math.floor((avail - L.leftW - 16) / n * 4) / 4;
   L.cw = st.wide ? rh : Math.max(least, Math.min(rh, fit));
@@ -52,7 +54,7 @@ function drawLeft() {
   $("headleft").style.flex = "none";
   const label = (x, text, more = "") => `<span style="left:${x}px${more}">${esc(text)}</span>`;
   const whereX = L.textX + L.textW;
-  $("headleft").innerHTML = label(L.bx, "node", `;width:${L.numW}px;text-align:right`) + label(L.textX, L.file || "what it is") +
+  $("headleft").innerHTML = label(L.bx, "node", `;width:${L.numW}px;text-align:right`) + label(L.textX, L.heading, `;max-width:${L.textW - 8}px" class="file" title="${esc(L.file || "")}`) +
     (L.whereW ? label(whereX, L.file ? "line" : "where") : "") + (L.btwW ? label(whereX + L.whereW, "between") : "");
   $("rows").innerHTML = R.nodes.map((_, i) => rowHtml(i)).join("");
   L.rows = Array.from($("rows").children);

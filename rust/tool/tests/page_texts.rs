@@ -186,20 +186,20 @@ fn source_is_read_below_its_folder_alone() {
         format!("open\n{long}{}", "line\n".repeat(20)),
     );
     let secret = folder.join("secret.c");
+    let (source, out) = (folder.join("src"), folder.join("out.html"));
+    let [secret, source, out] = [&secret, &source, &out].map(|x| x.to_str().expect("text"));
     let table = format!(
-        "node,kind,construct,inside,next,where\n0,barrier,,,1,a.c:1\n1,plain,,,2,../secret.c:1\n2,plain,,,3,{}:1\n3,plain,,,4,a.c:2\n4,plain,,,5,a.c:3-20\n5,barrier,,,,a.c:99\n",
-        secret.display()
+        "node,kind,construct,inside,next,where\n0,barrier,,,1,a.c:1\n1,plain,,,2,../secret.c:1\n2,plain,,,3,{secret}:1\n3,plain,,,4,a.c:2\n4,plain,,,5,a.c:3-20\n\
+         5,plain,,,6,{source}/a.c:1\n6,plain,,,7,{source}/../secret.c:1\n7,barrier,,,,a.c:99\n"
     );
     let table = file(&folder, "t.csv", table);
-    let (source, out) = (folder.join("src"), folder.join("out.html"));
-    let [source, out] = [&source, &out].map(|x| x.to_str().expect("text"));
     good(&["page", &table, "-o", out, "--source", source]);
     let page = data(&fs::read_to_string(out).expect("the page"));
     let nodes = page.get("regions").items()[0].get("nodes").items();
     let codes: Vec<&str> = nodes.iter().map(|x| x.items()[3].text()).collect();
     let cut = format!("{} …", &long[..200]);
     let many = format!("{}…", "line\n".repeat(12));
-    assert_eq!(codes, ["open", "", "", &cut, &many, ""]);
+    assert_eq!(codes, ["open", "", "", &cut, &many, "open", "", ""]);
 }
 
 #[test]

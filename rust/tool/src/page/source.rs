@@ -3,7 +3,7 @@
 use region::load::{self, MOST_BYTES};
 use region::Lines;
 use std::collections::BTreeMap;
-use std::path::{Component, Path, PathBuf};
+use std::path::{absolute, Component, Path, PathBuf};
 
 /// The most lines that are shown of one node, and the most letters of each; what is cut off is told by a sign.
 const MOST_LINES: usize = 12;
@@ -44,9 +44,12 @@ impl Source {
     }
 }
 
-/// The lines of a file, none where it is not below the folder: a table may name any file.
+/// The lines of a file, named from the folder or from the root; none where it is not below the folder: a table may name
+/// any file.
 fn read(folder: &Path, file: &str) -> Vec<String> {
+    let root = absolute(folder).unwrap_or_default();
     let file = Path::new(file);
+    let file = file.strip_prefix(root).unwrap_or(file);
     let is_below = |x: Component| matches!(x, Component::Normal(_) | Component::CurDir);
     if !file.components().all(is_below) {
         return Vec::new();
