@@ -42,9 +42,10 @@ function drawLayers(g) {
     g.stroke();
   });
   g.fillStyle = css("--sel");
-  for (const [a, b] of recorded() ? recorded().met : []) both(a, b, (a, b) => {
+  const dot = Math.max(1.3, Math.min(4, Math.min(cw, rh) * .12)), low = Math.min(.85, 1 - 1.5 * dot / rh);
+  for (const [a, b] of recorded() ? recorded().met : []) if (!isBarrier(a) && !isBarrier(b)) both(a, b, (a, b) => {
     g.beginPath();
-    g.arc(b * cw + cw / 2, a * rh + rh * .85, Math.max(1.3, Math.min(cw, rh) * .15), 0, 7);
+    g.arc(b * cw + cw / 2, a * rh + rh * low, dot, 0, 7);
     g.fill();
   });
 }
@@ -74,17 +75,17 @@ function layersHtml() {
   if (DATA.changes && st.r === 0) html = S.size !== null ? `<p class="hint">Changes are shown for teams of any size.</p>` :
     list("Nevers lost", "lost", changes().filter(isLost)) + list("Nevers gained", "", changes().filter(x => !isLost(x)));
   if (DATA.races && st.r === 0) html += `<h3>Races: ${races().length}</h3><p>${races().slice(0, MOST_SHOWN).map(x => `<button class="chip" data-pair="${x.a},${x.b},${G.region}">${esc(x.variable)}: ${x.a} and ${x.b}${x.race === "data" ? "" : ", kept apart by a lock"}</button>`).join("")}</p>`;
-  if (told) html += `<h3>The recorded run</h3><p>${esc(told.words)}</p><p><button class="chip" data-recorded>step it</button> <span class="hint">A dot marks a pair that it met.</span></p>`;
+  if (told) html += `<h3>The recorded run</h3><p class="told">${esc(told.words)}</p><p><button class="chip" data-recorded>step it</button> <span class="hint">A dot marks a pair that it met.</span></p>`;
   return html;
 }
-function showRecorded() {
+function showRecorded(step) {
   const told = recorded();
   st.a = st.b = st.n = null;
   clearMarks();
   drawArcs();
   const { team, moments } = decoded([told.run[0], codes(told.run[1])]);
   run = { team, moments: moments.slice(0, MOST_MOMENTS), meet: null, at: 0 };
-  $("panel").innerHTML = BACK + `<h2>The recorded run</h2><p>${esc(told.words)}</p>` + (moments.length > MOST_MOMENTS ? `<p class="hint">The first ${MOST_MOMENTS} steps are shown.</p>` : "") + stepsHtml(null, null);
+  $("panel").innerHTML = BACK + `<h2>The recorded run</h2><p class="told">${esc(told.words)}</p><p class="hint">${moments.length > MOST_MOMENTS ? `The first ${MOST_MOMENTS} steps are shown. ` : ""}<span class="screen"><kbd>←</kbd> <kbd>→</kbd> step, <kbd>Home</kbd> starts again.</span></p>` + stepsHtml(null, null);
   place();
-  setStep(0);
+  setStep(step);
 }

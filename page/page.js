@@ -56,7 +56,7 @@ function onMouse() {
 function onPanel(data) {
   if ("home" in data) return showHome();
   if ("csv" in data) return download();
-  if ("recorded" in data) return showRecorded();
+  if ("recorded" in data) return showRecorded(0);
   if ("play" in data) return play();
   if ("pair" in data) return pickIn(...data.pair.split(",").map(Number));
   if ("go" in data) {

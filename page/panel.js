@@ -165,5 +165,6 @@ function render(step) {
   if (st.all) showAll();
   else if (st.n !== null) showNode();
   else if (st.a !== null) showPair(step);
+  else if (run) showRecorded(run.at);
   else showHome();
 }

@@ -98,8 +98,10 @@ function setStep(i, still) {
   if (!still) follow();
   save();
 }
+/* Threads at one node stand closer where else they would cover its text, the first on top. */
 function drawTokens() {
-  const seen = {}, at = run ? run.moments[run.at].at : [];
+  const seen = {}, at = run ? run.moments[run.at].at : [], room = L.textX - L.spine - 13;
+  const gap = node => Math.max(13, Math.min(20, room / (at.filter(x => x === node).length - 1)));
   while ($("toks").children.length > at.length) $("toks").lastChild.remove();
   at.forEach((node, t) => {
     const token = $("toks").children[t] || $("toks").appendChild(document.createElement("div"));
@@ -108,7 +110,8 @@ function drawTokens() {
     token.textContent = "T" + t;
     token.style.background = TOKENS[t];
     token.style.top = node * L.rh + L.rh / 2 - 9 + "px";
-    token.style.left = L.spine - 11 + (place - 1) * 20 + "px";
+    token.style.left = L.spine - 11 + (place - 1) * gap(node) + "px";
+    token.style.zIndex = 29 - place;
   });
 }
 function follow() {

@@ -39,7 +39,7 @@ function load() {
   } else if (node) {
     pickNode(node[0]);
     scrollTo(node[0], node[0]);
-  }
+  } else if (asked.t !== undefined && recorded()) showRecorded(+asked.t || 0);
   if (asked.q) {
     $("find").value = asked.q;
     find();

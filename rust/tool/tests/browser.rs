@@ -268,6 +268,11 @@ fn layers(browser: &mut Browser, folder: &Path) {
     browser.click("[data-recorded]");
     browser.key("ArrowRight");
     says(browser, ".at", "step 1 of 2");
+    browser.click("#zoom [data-w=\"1\"]");
+    says(browser, ".at", "step 1 of 2");
+    let hash = browser.script("location.hash.slice(1)");
+    browser.open(&page, &hash);
+    says(browser, ".at", "step 1 of 2");
     browser.cell(1, 2);
     says(browser, "#panel", "the recorded run met this pair");
 }
