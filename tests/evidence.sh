@@ -2,7 +2,7 @@
 # evidence.sh [OUT]: do the team rules cover what OpenMP does? Builds real programs with the recorder at -O0 and -O2, runs them with random delays
 # on libgomp and, where it is, on LLVM's runtime, and has all that was recorded replayed by the proved rules. OUT (target/evidence) gets the sources
 # (tests/sources.sh), a row for each run in runs.tsv, and forbidden.txt with every entry that the rules forbid. docs/EVIDENCE.md tells what came of it.
-# JOBS programs are tried at a time; PART=N/M tries the N-th of every M programs alone.
+# JOBS programs are tried at a time; PART=N/M tries the N-th of every M programs alone, CORPORA and RUNTIMES those that they name.
 set -euo pipefail
 root=$(cd "$(dirname "$0")/.." && pwd)
 out=${1:-$root/target/evidence}
@@ -17,7 +17,7 @@ export -f wrapper_of options_of plant
 
 # one CORPUS LEVEL SOURCE OPTION..: builds a program and records it, twice on each runtime
 one() {
-    local corpus=$1 level=$2 source=$3 name own more
+    local corpus=$1 level=$2 source=$3 name own more runtime
     shift 3
     name=$corpus.$level.$(basename "$(dirname "$source")")_$(basename "$source")
     export name
@@ -33,8 +33,9 @@ one() {
         grep -q 'internal compiler error' compile.txt && echo "$name: the compiler failed" >>"$out/failed.txt"
         printf '%s\t%s\t-\t%s\tnot built\n' "$corpus" "$level" "$source" >>"$out/runs.tsv"
     else
-        run libgomp
-        if [ -n "$libomp" ] && [ "$corpus" != libgomp ]; then run libomp; fi
+        for runtime in ${RUNTIMES:-libgomp libomp}; do
+            if [ "$runtime" = libgomp ] || [ -n "$libomp" ]; then run "$runtime"; fi
+        done
     fi
     cd "$out"
     rm -rf "$out/work/$name"
@@ -132,6 +133,7 @@ begun=$SECONDS
 ls -d "$out"/sources/{fasttree,gcc,llvm} >/dev/null 2>&1 || fetch "$out/sources"
 rm -rf "$out"/{runs.tsv,faults.tsv,ends.txt,forbidden.txt,failed.txt,work,kept}
 mkdir -p "$out/own"
+touch "$out/runs.tsv" "$out/faults.tsv"
 cp "$root"/rust/frontend/tests/programs/{stress,narrow}/* "$root/examples/playtest/playtest.c" "$out/own"
 awk 'BEGIN { srand(1); for (s = 0; s < 40; s++) { printf ">s%d\n", s; for (i = 0; i < 120; i++) printf "%s", substr("ACGT", 1 + int(rand() * 4), 1); print "" } }' >"$out/alignment.fa"
 for name in ${CORPORA:-own fasttree llvm libgomp}; do
@@ -156,7 +158,7 @@ END { print "corpus\tlevel\truntime\tprograms\tregions\ttraces\tentries\tfilled 
     sort | column -t -s "$(printf '\t')"
 echo "faults put into charts, instances of these, and how many do not finish any more:"
 awk -F'\t' '{ n[$1] += $2; spoiled[$1] += $3 } END { for (x in n) print x, n[x], spoiled[x] }' "$out/faults.tsv" | sort
-echo "not built: $(grep -c 'not built' "$out/runs.tsv" || true) of $(cut -f4 "$out/runs.tsv" | sort -u | wc -l) sources; $((SECONDS - begun)) s"
+echo "not built: $(grep -c 'not built' "$out/runs.tsv" || true) of $(cut -f2,4 "$out/runs.tsv" | sort -u | wc -l) programs, a source at a level each; $((SECONDS - begun)) s"
 for told in ends failed; do
     test ! -f "$out/$told.txt" || { echo "$told:"; cat "$out/$told.txt"; }
 done
