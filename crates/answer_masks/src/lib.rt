@@ -16,6 +16,7 @@ use answer_constructs::held::fill_held;
 use answer_constructs::mask_table::ENDS;
 use answer_constructs::mask_table::HELD;
 use answer_constructs::mask_table::MaskTable;
+use answer_constructs::mask_table::ROWS;
 use answer_constructs::mask_table::STARTS;
 use chart::format::Chart;
 use chart::format::Checked;
@@ -26,8 +27,6 @@ use check_chart::check::check;
 use mark::boundaries::fill;
 use mark::returns::returns;
 use mark_regions::inner::bad_region;
-use mark_regions::outermost::Entered;
-use mark_regions::outermost::enter_region;
 use mark_regions::outermost::refuses;
 use mark_tables::tables::load_tables;
 use search::edges::Parts;
@@ -80,7 +79,7 @@ fn survey_region(
 }
 
 // Rows 10 and 23, and all masks of all nodes of a parallel's region, of a chart that rows 1 to 9 let pass. The outermost region is marked
-// for row 10, beside the masks.
+// before, for row 10, in the same table: another would be as large a frame of the stack again.
 fn survey_inner(
     s: &[u8],
     chart: Chart,
@@ -94,16 +93,14 @@ fn survey_inner(
     ensures { λ r. ⌜ checkedOf r ≡ checkedBy (firstOf (regionRows (now (s .entry)) region)) (readFor (countsOf (now (s .entry))) region) ⌝ }
     ensures { λ r. ⌜ ((chart : Chart) (sets : Sets) → r ≡ Marked chart sets → Survey (now (s .entry)) chart (now (marks .exit)) sets) ⌝ }
 {
-    let mut starts = [0u64; Chart::NODES];
-    let mut ends = [0u64; Chart::NODES];
-    let mut levels = [0u8; Chart::NODES];
-    match enter_region(s, chart, &mut starts, &mut ends, &mut levels) {
-        Entered::Refused(refusal) => Surveyed::Refused(refusal),
-        Entered::Marked(whole, _) => {
+    match survey_region(s, chart, begin_nodes, end_nodes, marks) {
+        Surveyed::Refused(refusal) => Surveyed::Refused(refusal),
+        Surveyed::Marked(whole, _) => {
             if bad_region(s, whole, region) {
                 return Surveyed::Refused(Refusal::REGION);
             }
             let inner = whole.read_for(region);
+            *marks = [[0u64; Chart::NODES]; ROWS];
             survey_region(s, inner, begin_nodes, end_nodes, marks)
         }
     }
