@@ -2,7 +2,7 @@
 # make demo       the same, then show both: charts of the paper from C, and the command on examples/playtest
 # make test       the gate: all proofs, must-fail edits and tests
 # make frontend   the gcc plugin that writes control flow, the recorder, and the wrappers bohrali-gcc, bohrali-g++, bohrali-gfortran: target/frontend
-# make evidence   real programs recorded on libgomp and LLVM's runtime and replayed (tests/evidence.sh); fetches their sources, takes about an hour
+# make evidence   real programs recorded on libgomp and LLVM's runtime and replayed (tests/evidence.sh); fetches their sources, takes more than an hour
 # make mutants    the other wrong programs that the prover must refuse (tests/mutants)
 # make bench      the library's times by those of hand-written Rust
 # make bench-against BEFORE=path/to/libbohrali.a    by those of another build of it
