@@ -17,9 +17,6 @@ pub struct Level {
 
 impl Level {
     pub const NONE: u8 = 254;
-
-    // the number of no node
-    pub const NO_NODE: u8 = 255;
 }
 
 // The smaller of two levels.
@@ -39,25 +36,13 @@ pub fn change(level: u8, old: u8) -> u8
     level ^ old
 }
 
-// The level of x. Where each edge often goes on from the one before, the level last written is at hand and not read back.
-fn level_of(levels: &[u8; Chart::NODES], x: u8, last: u8, level: u8) -> u8
-    requires { ⌜ (x < 192) × (x ≡ last → level ≡ getD (now levels) x 0) ⌝ }
-    ensures { λ r. ⌜ r ≡ getD (now (levels .entry)) x 0 ⌝ }
-{
-    if x == last {
-        return level;
-    }
-    levels[x as usize]
-}
-
-// Along an edge from x to y, with the level last written; the level of y.
-pub fn ascend(levels: &mut [u8; Chart::NODES], x: u8, y: u8, last: u8, level: u8) -> u8
-    requires { ⌜ (length (now levels) ≡ 192) × (x < 192) × (y < 192) × (getD (now levels) x 0 ≤ 254) × (x ≡ last → level ≡ getD (now levels) x 0) ⌝ }
+// Along an edge from x to y; the level of y.
+pub fn ascend(levels: &mut [u8; Chart::NODES], x: u8, y: u8) -> u8
+    requires { ⌜ (length (now levels) ≡ 192) × (x < 192) × (y < 192) × (getD (now levels) x 0 ≤ 254) ⌝ }
     ensures { λ r. ⌜ Risen x y (now (levels .entry)) (now (levels .exit)) r ⌝ }
 {
-    let above = level_of(levels, x, last, level);
     let to = y as usize;
-    let all = smaller(levels[to], above + 1);
+    let all = smaller(levels[to], levels[x as usize] + 1);
     levels[to] = all;
     all
 }
@@ -78,7 +63,7 @@ fn sweep(
     let mut j = a;
     while j < b {
         let old = levels[values[j] as usize];
-        new = new | change(ascend(levels, keys[j], values[j], Level::NO_NODE, 0), old);
+        new = new | change(ascend(levels, keys[j], values[j]), old);
         j += 1;
     }
     new

@@ -14,7 +14,6 @@ use crate::close::carry;
 use crate::close::place_of;
 use crate::close::steps_of;
 use crate::edges::Parts;
-use crate::levels::Level;
 use crate::levels::ascend;
 use crate::levels::change;
 use crate::waiting::drain;
@@ -37,15 +36,13 @@ fn sweep(
     let keys = &edges[Parts::PLAIN_FROM];
     let values = &edges[Parts::PLAIN_TO];
     let mut new = 0;
-    let mut last = Level::NO_NODE;
-    let mut level = 0;
     let mut j = a;
     while j < b {
-        new = new | carry(starts, keys[j], values[j], true);
-        let old = levels[values[j] as usize];
-        level = ascend(levels, keys[j], values[j], last, level);
-        last = values[j];
-        new = new | change(level, old) as u64;
+        let x = keys[j];
+        let y = values[j];
+        new = new | carry(starts, x, y, true);
+        let old = levels[y as usize];
+        new = new | change(ascend(levels, x, y), old) as u64;
         let at = place_of(a, b, j, true);
         new = new | carry(ends, values[at], keys[at], true);
         j += 1;

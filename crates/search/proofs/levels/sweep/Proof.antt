@@ -49,7 +49,7 @@ ascend-requires : tie.Need-ascend-requires Inv-loop μ-loop
 ascend-requires c κs =
     let l = c .before .before .before .before .before .before in
     let key = l .before .pre .1 .0 (l .loop .j) in
-    (swept l .long, key, node l, swept l .bound _, λ e. absurd (omega arith))
+    (swept l .long, key, node l, swept l .bound _)
 
 change-requires : tie.Need-change-requires Inv-loop μ-loop
 change-requires c κs = search needs
