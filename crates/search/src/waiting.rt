@@ -15,6 +15,18 @@ use chart::format::Chart;
 // The ring has room for every node.
 const RING: usize = 256;
 
+// The entries of the ring: so many, from place `head` on.
+pub struct Queue {
+    pub head: usize,
+    pub waiting: usize,
+}
+
+// What a node passes on, and one more than the place of its last edge, 0 where it has none.
+pub struct Sent {
+    pub bits: u64,
+    pub first: usize,
+}
+
 // For each edge from place a up to place b one more than the place of the edge before it that leaves the same node, 0 where there is none; for each
 // node one more than the place of its last edge.
 fn link(
@@ -37,61 +49,61 @@ fn link(
     }
 }
 
-// The bits come to node y. If its mask grows, it waits.
+// The bits come to node y. If its mask grows, it waits. How many wait then.
 fn visit(
     bits: u64,
     y: u8,
     masks: &mut [u64; Chart::NODES],
     held: &mut [u8; Chart::NODES],
     ring: &mut [u8; RING],
-    head: usize,
-    n: usize,
+    queue: Queue,
 ) -> usize
-    requires { ⌜ Fits (now masks) (now held) (now ring) head n × (y < 192) ⌝ }
-    ensures { λ r. ⌜ Visited bits y head (now (masks .entry)) (now (held .entry)) (now (ring .entry)) n (now (masks .exit)) (now (held .exit)) (now (ring .exit)) r ⌝ }
+    requires { ⌜ Fits (now masks) (now held) (now ring) (queue .head) (queue .waiting) × (y < 192) ⌝ }
+    ensures { λ r. ⌜ Visited bits y (queue .head) (now (masks .entry)) (now (held .entry)) (now (ring .entry)) (queue .waiting)
+        (now (masks .exit)) (now (held .exit)) (now (ring .exit)) r ⌝ }
     ensures { λ r. ⌜ r ≤ filled (now (held .exit)) ⌝ }
 {
     let at = wide(y);
     let old = masks[at];
     let all = old | bits;
     if all == old {
-        return n;
+        return queue.waiting;
     }
     masks[at] = all;
     if held[at] != 0 {
-        return n;
+        return queue.waiting;
     }
     held[at] = 1;
-    ring[(head + n) % RING] = y;
-    n + 1
+    ring[(queue.head + queue.waiting) % RING] = y;
+    queue.waiting + 1
 }
 
-// The bits come to the nodes to which the edges of a node lead, the first of which is told by one more than its place.
+// What a node passes on comes to the nodes to which its edges lead. How many wait then.
 fn pass_on(
     values: &[u8; Chart::EDGES],
     before: &[u16; Chart::EDGES],
-    first: usize,
-    bits: u64,
+    sent: Sent,
     masks: &mut [u64; Chart::NODES],
     held: &mut [u8; Chart::NODES],
     ring: &mut [u8; RING],
-    head: usize,
-    waiting: usize,
+    queue: Queue,
 ) -> usize
-    requires { ⌜ Fits (now masks) (now held) (now ring) head waiting × (first ≤ 1024) ⌝ }
+    requires { ⌜ Fits (now masks) (now held) (now ring) (queue .head) (queue .waiting) × (sent .first ≤ 1024) ⌝ }
     requires { ⌜ ((j : ℕ) → getD (now values) j 0 < 192) × ((j : ℕ) → getD (now before) j 0 ≤ j) ⌝ }
-    ensures { λ r. ⌜ Walk (now (values .entry)) (now (before .entry)) bits head first (now (masks .entry)) (now (held .entry)) (now (ring .entry)) waiting 0
-        (now (masks .exit)) (now (held .exit)) (now (ring .exit)) r ⌝ }
+    ensures { λ r. ⌜ Walk (now (values .entry)) (now (before .entry)) (sent .bits) (queue .head) (sent .first)
+        (now (masks .entry)) (now (held .entry)) (now (ring .entry)) (queue .waiting) 0 (now (masks .exit)) (now (held .exit)) (now (ring .exit)) r ⌝ }
     ensures { λ r. ⌜ r ≤ filled (now (held .exit)) ⌝ }
 {
-    let mut n = waiting;
-    let mut j = first;
+    let head = queue.head;
+    let mut waiting = queue.waiting;
+    let mut j = sent.first;
     while j != 0 {
         let at = j - 1;
-        n = visit(bits, values[at], masks, held, ring, head, n);
+        let present = Queue { head, waiting };
+        waiting = visit(sent.bits, values[at], masks, held, ring, present);
         j = before[at] as usize;
     }
-    n
+    waiting
 }
 
 // Every node waits.
@@ -133,16 +145,11 @@ pub fn drain(
         let x = wide(ring[head]);
         head = (head + 1) % RING;
         held[x] = 0;
-        n = pass_on(
-            values,
-            &before,
-            last[x] as usize,
-            masks[x],
-            masks,
-            &mut held,
-            &mut ring,
-            head,
-            n - 1,
-        );
+        let bits = masks[x];
+        let first = last[x] as usize;
+        let waiting = n - 1;
+        let queue = Queue { head, waiting };
+        let sent = Sent { bits, first };
+        n = pass_on(values, &before, sent, masks, &mut held, &mut ring, queue);
     }
 }

@@ -69,23 +69,23 @@ add-head c = omega (arith, c .before .before .loop .inv .fits .first)
 array-write-held : tie.Need-array-write-held Inv-loop μ-loop
 array-write-held c = below c
 
-mul-pass-on : tie.Need-mul-pass-on Inv-loop μ-loop
-mul-pass-on c = omega (arith, below (c .before))
+mul-bits : tie.Need-mul-bits Inv-loop μ-loop
+mul-bits c = omega (arith, below c)
 
-array-read-pass-on : tie.Need-array-read-pass-on Inv-loop μ-loop
-array-read-pass-on c = below (c .before)
+element-copy-out-bits : tie.Need-element-copy-out-bits Inv-loop μ-loop
+element-copy-out-bits c = below c
 
-cast-pass-on : tie.Need-cast-pass-on Inv-loop μ-loop
-cast-pass-on c = omega (arith, links (c .before .before .before) .most (c .before .wide .result))
+mul-first : tie.Need-mul-first Inv-loop μ-loop
+mul-first c = omega (arith, below (c .before))
 
-mul-pass-on-2 : tie.Need-mul-pass-on-2 Inv-loop μ-loop
-mul-pass-on-2 c = omega (arith, below (c .before))
+array-read-first : tie.Need-array-read-first Inv-loop μ-loop
+array-read-first c = below (c .before)
 
-element-copy-out-pass-on : tie.Need-element-copy-out-pass-on Inv-loop μ-loop
-element-copy-out-pass-on c = below (c .before)
+cast-first : tie.Need-cast-first Inv-loop μ-loop
+cast-first c = omega (arith, links (c .before .before .before) .most (c .before .wide .result))
 
-sub-pass-on : tie.Need-sub-pass-on Inv-loop μ-loop
-sub-pass-on c = omega arith
+sub-waiting : tie.Need-sub-waiting Inv-loop μ-loop
+sub-waiting c = omega arith
 
 pass-on-requires : tie.Need-pass-on-requires Inv-loop μ-loop
 pass-on-requires c κs =
@@ -126,12 +126,12 @@ drain-spec =
     wide-requires
     add-head
     array-write-held
-    mul-pass-on
-    array-read-pass-on
-    cast-pass-on
-    mul-pass-on-2
-    element-copy-out-pass-on
-    sub-pass-on
+    mul-bits
+    element-copy-out-bits
+    mul-first
+    array-read-first
+    cast-first
+    sub-waiting
     pass-on-requires
     loop-less
     loop-again

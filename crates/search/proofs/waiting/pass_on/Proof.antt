@@ -11,11 +11,11 @@ use Rattle.search.proofs.waiting.pass_on.Statement.{statement}
 use Rattle.search.proofs.waiting.pass_on.Tie as tie
 
 abbrev Inv-loop : tie.InvT-loop
-Inv-loop values before first bits masks₀ held₀ ring₀ head waiting n₀ j₀ masks held ring n j =
-    (j ≤ 1024) × (n ≤ filled held) × Walk values before bits head first masks₀ held₀ ring₀ waiting j masks held ring n
+Inv-loop values before sent masks₀ held₀ ring₀ head waiting₀ j₀ masks held ring waiting j =
+    (j ≤ 1024) × (waiting ≤ filled held) × Walk values before (sent .bits) head (sent .first) masks₀ held₀ ring₀ waiting₀ j masks held ring waiting
 
 abbrev μ-loop : tie.MeasureT-loop
-μ-loop values before first bits masks₀ held₀ ring₀ head waiting n₀ j₀ masks held ring n j = j
+μ-loop values before sent masks₀ held₀ ring₀ head waiting₀ j₀ masks held ring waiting j = j
 
 loop-holds : tie.Need-loop-holds Inv-loop μ-loop
 loop-holds c = (c .pre .0 .1, c .pre .0 .0 .room, none)

@@ -52,18 +52,19 @@ counted c =
     (filled-set _ _ _ (omega arith) (free c) (omega arith), omega arith)
 
 add-ring : tie.Need-add-ring
-add-ring c = omega (arith, counted c)
+add-ring c = omega (arith, counted (c .before))
 
 element-write-ring : tie.Need-element-write-ring
 element-write-ring c = search needs
 
 add-result : tie.Need-add-result
-add-result c = omega (arith, counted c)
+add-result c = omega (arith, counted (c .before .before))
 
 returns-3 : tie.Need-returns-3
 returns-3 c =
-    let to = c .before .before .before .before in
-    rw (to .wide .ensures .0) (fresh (rw (to .wide .ensures .0) at (c .before .before .if1 .left)) (free c), let k = counted c in omega arith)
+    let free-one = c .before .before in
+    let to = free-one .before .before .before .before in
+    rw (to .wide .ensures .0) (fresh (rw (to .wide .ensures .0) at (free-one .before .before .if1 .left)) (free free-one), let k = counted free-one in omega arith)
 
 pub visit-spec : {M : Type 1} → statement M
 visit-spec =
