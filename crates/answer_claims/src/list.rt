@@ -11,7 +11,8 @@ ghost use Rattle.theory_calls.specs.Claims.{isFalse};
 ghost use Rattle.theory_calls.specs.Judged.{claimRows, verdict, answered};
 ghost use Rattle.answer_claims.specs.OfMarks.{OfMarks};
 use crate::numbers::bad_numbers;
-use answer_constructs::chains::Sets;
+use answer_constructs::kinds::KindTable;
+use answer_constructs::kinds::Sets;
 use answer_constructs::mask_table::MaskTable;
 use answer_constructs::sizes::bad_size;
 use answer_constructs::sizes::sets_for;
@@ -56,9 +57,9 @@ pub fn judge_claims(
     size: Size,
     claims: &[u8],
     marks: &MaskTable,
-    sets: Sets,
+    kinds: &KindTable,
 ) -> Verdict
-    requires { ⌜ Accepted (now s) chart × Marks (reading (now s) chart) (now marks) sets ⌝ }
+    requires { ⌜ Accepted (now s) chart × Marks (reading (now s) chart) (now marks) (now kinds) ⌝ }
     ensures { λ r.
         let R = reading (now (s .entry)) chart in
         ⌜ r ≡ answered (firstOf (claimRows R size (now (claims .entry)))) (verdict (answerFor R size) (now (claims .entry))) ⌝ }
@@ -72,5 +73,5 @@ pub fn judge_claims(
     if bad_size(size) {
         return Verdict::Refused(Refusal::SIZE);
     }
-    first_false(claims, marks, sets_for(s, chart, size, sets))
+    first_false(claims, marks, sets_for(s, chart, size, kinds))
 }

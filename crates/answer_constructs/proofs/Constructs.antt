@@ -34,8 +34,8 @@ use Rattle.theory_paths.specs.Decide.{returns}
 use Rattle.theory_paths.specs.PhasesLaws.{returns-means}
 use Rattle.mark_tables.specs.Tables.{Accepted, asksReturn, Returned}
 use Rattle.mark_tables.proofs.Accepted.{tables, well-formed}
-use Rattle.answer_constructs.specs.Chains.{Gives, HeldIn, Chains, maskAt, lastingBit, ownMask, isOf}
-use Rattle.answer_constructs.specs.Marks.{OfKind, Kinds}
+use Rattle.answer_constructs.specs.Chains.{Gives, HeldIn, Chains, maskAt, lastingBit, ownMask, ruleByte, isOf}
+use Rattle.answer_constructs.specs.Marks.{OfKind, ruleKind}
 use Rattle.answer_constructs.proofs.Facts.{few}
 
 pub no-bit : {P : ℕ → Type 0} {k : ℕ} → ((b : ℕ) → b < k → P b → ⊥) → Mask P k 0
@@ -196,24 +196,16 @@ module _ (s : List ℕ) (chart : Chart) (A : Accepted s chart) where
   kind-byte kind c h k l t = let T = tables s chart A .constructs .alone c l in sym (back (byte c) (T .least) (T .most)) ∙ ap byteOf t ∙ back kind h k
 
   -- the constructs of a kind
-  of-kind : (kind : ℕ) → 1 ≤ kind → kind ≤ kinds → OfKind R (kindOf kind) (maskOf (isOf (decode s .constructs) kind) (R .constructs))
+  of-kind : (kind : ℕ) → 1 ≤ kind → kind ≤ kinds → OfKind R (kindOf kind) (maskOf (isOf (decode s .constructs) kind) (chart .constructs))
   unfolding isOf
   of-kind kind h k =
-      mask-carry (λ c l t. ap kindOf (eqb-true (byte c) kind t)) (λ c l t. eq-eqb (byte c) kind (kind-byte kind c h k l t))
-      (mask-of (isOf (decode s .constructs) kind) (R .constructs))
+      rw (← constructs-length s chart (A .laid))
+      (mask-carry (λ c l t. ap kindOf (eqb-true (byte c) kind t)) (λ c l t. eq-eqb (byte c) kind (kind-byte kind c h k l t)) (mask-of (isOf (decode s .constructs) kind) (R .constructs)))
 
-  pub all-kinds : Kinds R (record {
-    masters = maskOf (isOf (decode s .constructs) masterByte) (chart .constructs);
-    singles = maskOf (isOf (decode s .constructs) singleByte) (chart .constructs);
-    dos = maskOf (isOf (decode s .constructs) loopByte) (chart .constructs);
-    sections = maskOf (isOf (decode s .constructs) sectionByte) (chart .constructs);
-    alone = false;
-    missing = 0;
-  })
+  pub of-rule : (k : ℕ) → k < 4 → OfKind R (ruleKind k) (maskOf (isOf (decode s .constructs) (ruleByte k)) (chart .constructs))
   unfolding kindOf
-  all-kinds = rw (← constructs-length s chart (A .laid)) (record {
-    masters = of-kind masterByte (omega arith) (omega arith);
-    singles = of-kind singleByte (omega arith) (omega arith);
-    dos = of-kind loopByte (omega arith) (omega arith);
-    sections = of-kind sectionByte (omega arith) (omega arith);
-  })
+  of-rule zero l = of-kind masterByte (omega arith) (omega arith)
+  of-rule (suc zero) l = of-kind singleByte (omega arith) (omega arith)
+  of-rule (suc (suc zero)) l = of-kind loopByte (omega arith) (omega arith)
+  of-rule (suc (suc (suc zero))) l = of-kind sectionByte (omega arith) (omega arith)
+  of-rule (suc (suc (suc (suc k)))) l = absurd (omega arith)

@@ -30,7 +30,6 @@ use Rattle.theory_answers.specs.Unexcluded.{Returns}
 use Rattle.theory_paths.specs.Phases.{forward, backward}
 use Rattle.mark_tables.specs.Tables.{Accepted, Masks}
 use Rattle.mark_tables.proofs.Accepted.{tables, well-formed}
-use Rattle.answer_constructs.specs.declared.chains.Sets.{Sets}
 use Rattle.answer_constructs.specs.Below.{HeldBelow}
 use Rattle.answer_constructs.specs.Marks.{Holds, Held, OfKind, Kinds, Marks}
 use Rattle.answer_constructs.specs.Chains.{Gives, HeldIn, Chains, maskAt}
@@ -213,11 +212,11 @@ module _ (s : List ℕ) (chart : Chart) (A : Accepted s chart) where
   none-held z x = let none = constructs-length s chart (A .laid) in rw (zeros 192 x) (no-bit (λ b l h. omega arith))
 
   -- all nodes, with the rows stored one by one
-  pub all-marks : (marks : List (List ℕ)) (starts ends held : List ℕ) {sets : Sets} → length marks ≡ 3
+  pub all-marks : (marks : List (List ℕ)) (starts ends held : List ℕ) {kinds : List ℕ} → length marks ≡ 3
       → Masks forward (reading s chart) starts → Masks backward (reading s chart) ends
-      → HeldBelow (reading s chart) (chart .nodes) held → Kinds (reading s chart) sets
-      → Marks (reading s chart) (set (set (set marks 0 starts) 1 ends) 2 held) sets
-  all-marks marks starts ends held l from to below kinds =
+      → HeldBelow (reading s chart) (chart .nodes) held → Kinds (reading s chart) kinds
+      → Marks (reading s chart) (set (set (set marks 0 starts) 1 ends) 2 held) kinds
+  all-marks marks starts ends held l from to below K =
       let n = nodes-length s chart (A .laid) in
       rw (three marks l starts ends held) (record {
         well-formed = well-formed s chart A;
@@ -226,5 +225,5 @@ module _ (s : List ℕ) (chart : Chart) (A : Accepted s chart) where
         has-ends = to;
         has-held = λ x l. below .has-held x (omega arith);
         none-past = λ x l. below .rest x (omega arith);
-        kinds = kinds;
+        has-kinds = K;
       })

@@ -13,7 +13,6 @@ use Rattle.theory_paths.specs.PathLaws.{first-edge}
 use Rattle.theory_paths.specs.Phases.{Direction, forward, backward, Free, marks}
 use Rattle.theory_paths.specs.PhasesLaws.{marked-means, ends-below}
 use Rattle.answer_constructs.specs.Marks.{Marks}
-use Rattle.answer_constructs.specs.declared.chains.Sets.{Sets}
 
 module _ (R : Region) (W : WellFormed R) (x : ℕ) (l : R .nodes ≤ x) where
   nowhere : (d : Direction) (s : ℕ) → Free d R s x → ⊥
@@ -24,7 +23,7 @@ module _ (R : Region) (W : WellFormed R) (x : ℕ) (l : R .nodes ≤ x) where
   unfolding marks
   none-marked d = mask-empty _ _ (λ b m. false-if (λ h. nowhere d _ (marked-means R W d x b .0 (m, h) .boundary .path)))
 
-pub rows-past : {R : Region} {marks : List (List ℕ)} {sets : Sets} → Marks R marks sets → {n : ℕ} → R .nodes ≡ n
+pub rows-past : {R : Region} {marks : List (List ℕ)} {kinds : List ℕ} → Marks R marks kinds → {n : ℕ} → R .nodes ≡ n
     → (r x : ℕ) → r < 3 → n ≤ x → x < 192 → getD (getD marks r []) x 0 ≡ 0
 rows-past {R} M q zero x l past m = M .has-starts x m ∙ none-marked R (M .well-formed) x (omega arith) forward
 rows-past {R} M q (suc zero) x l past m = M .has-ends x m ∙ none-marked R (M .well-formed) x (omega arith) backward

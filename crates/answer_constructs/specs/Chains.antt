@@ -3,7 +3,7 @@
 use mathlib.Core.Path.{_≡_}
 use mathlib.Core.Logic.{_⊎_}
 use mathlib.Core.Bool.{Bool, _&&_, _||_, not, cond}
-use mathlib.Core.List.{List}
+use mathlib.Core.List.{List, [], _∷_}
 use Prim.Native.Nat.{ℕ, _^_, _<_}
 use lib.Dec.{eqb, leb}
 use lib.ListN.{length, getD}
@@ -11,7 +11,7 @@ use Rattle.lists.specs.Mask.{Mask, maskOf}
 use Rattle.lists.specs.Bits.{has}
 use Rattle.chart.specs.Format.{outside, Construct, constructAt}
 use Rattle.chart.specs.Region.{Kind, single, master, critical, loop, ordered, sections, section, parallel, Region}
-use Rattle.chart.specs.Scope.{singleByte, masterByte, orderedByte, sectionByte, parallelByte, Encloses}
+use Rattle.chart.specs.Scope.{singleByte, masterByte, loopByte, orderedByte, sectionByte, parallelByte, Encloses}
 use Rattle.theory_answers.specs.Unexcluded.{Returns}
 
 -- What makes a node inside construct c hold construct d, by the kind of c.
@@ -52,6 +52,10 @@ ownMask kind parent c returning masters =
 -- A construct of this kind and parent is one of the region p, of whose constructs of lower numbers the mask tells.
 unfoldable pub isMember : ℕ → ℕ → ℕ → ℕ → Bool
 isMember kind parent p members = not (eqb kind parallelByte) && (eqb parent p || (not (eqb parent outside) && has members parent))
+
+-- The byte of the kind that the k-th rule from rule 2 on asks for.
+abbrev pub ruleByte : ℕ → ℕ
+ruleByte k = getD (masterByte ∷ singleByte ∷ loopByte ∷ sectionByte ∷ []) k 0
 
 -- Construct c is of this kind.
 unfoldable pub isOf : List Construct → ℕ → ℕ → Bool

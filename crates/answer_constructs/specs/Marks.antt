@@ -4,7 +4,7 @@
 use mathlib.Core.Path.{_≡_}
 use mathlib.Core.Bool.{true, false}
 use mathlib.Core.List.{List, []}
-use Prim.Native.Nat.{ℕ, _≤_, _<_}
+use Prim.Native.Nat.{ℕ, zero, suc, _≤_, _<_}
 use lib.Dec.{leb}
 use lib.ListN.{getD}
 use Rattle.lists.specs.Mask.{Mask}
@@ -17,7 +17,7 @@ use Rattle.theory_answers.specs.declared.Size.{Size}
 use Rattle.theory_answers.specs.declared.Size.the-variants.{Any, Of}
 use Rattle.theory_paths.specs.Phases.{forward, backward}
 use Rattle.mark_tables.specs.Tables.{Masks}
-use Rattle.answer_constructs.specs.declared.chains.Sets.{Sets}
+use Rattle.answer_constructs.specs.declared.kinds.Sets.{Sets}
 
 -- What makes node x hold construct d, by the kind of d. Two nodes that hold one construct in common are excluded by the rule of its kind.
 abbrev pub Holds : Region → ℕ → ℕ → Kind → Type 0
@@ -37,11 +37,16 @@ Held R x m = Mask (λ d. Holds R x d (R .kind d)) (R .constructs) m
 abbrev pub OfKind : Region → Kind → ℕ → Type 0
 OfKind R kind m = Mask (λ d. R .kind d ≡ kind) (R .constructs) m
 
-pub record Kinds (R : Region) (sets : Sets) : Type 0 where
-  pub masters : OfKind R master (sets .masters)
-  pub singles : OfKind R single (sets .singles)
-  pub dos : OfKind R loop (sets .dos)
-  pub sections : OfKind R section (sets .sections)
+-- The kind of construct that the k-th rule from rule 2 on asks for.
+abbrev pub ruleKind : ℕ → Kind
+ruleKind zero = master
+ruleKind (suc zero) = single
+ruleKind (suc (suc zero)) = loop
+ruleKind (suc (suc (suc k))) = section
+
+-- The masks of the constructs of these kinds, in the order of the rules.
+abbrev pub Kinds : Region → List ℕ → Type 0
+Kinds R kinds = (k : ℕ) → k < 4 → OfKind R (ruleKind k) (getD kinds k 0)
 
 -- Master d is for a thread that a team of m lacks.
 abbrev pub Lacked : Region → ℕ → ℕ → Type 0
@@ -62,12 +67,12 @@ endsIn marks = getD marks 1 []
 abbrev pub heldIn : List (List ℕ) → List ℕ
 heldIn marks = getD marks 2 []
 
--- All masks of all nodes.
-pub record Marks (R : Region) (marks : List (List ℕ)) (sets : Sets) : Type 0 where
+-- All masks of all nodes, and those of the rules' kinds.
+pub record Marks (R : Region) (marks : List (List ℕ)) (kinds : List ℕ) : Type 0 where
   pub well-formed : WellFormed R
   pub few : R .nodes ≤ 192
   pub has-starts : Masks forward R (startsIn marks)
   pub has-ends : Masks backward R (endsIn marks)
   pub has-held : (x : ℕ) → x < R .nodes → Held R x (getD (heldIn marks) x 0)
   pub none-past : (x : ℕ) → R .nodes ≤ x → getD (heldIn marks) x 0 ≡ 0
-  pub kinds : Kinds R sets
+  pub has-kinds : Kinds R kinds

@@ -1,4 +1,4 @@
-// Masks of constructs: what a node in each of them holds, and the constructs of each kind.
+// What a node in each construct holds, as masks of constructs.
 ghost use mathlib.Core.Path.{_≡_};
 ghost use mathlib.Core.Bool.{cond};
 ghost use Prim.Native.Nat.{_+_, _<_};
@@ -13,9 +13,8 @@ ghost use Rattle.chart.specs.Checked.{reading};
 ghost use Rattle.chart.proofs.RegionFacts.{Counts};
 ghost use Rattle.mark_tables.specs.Tables.{Accepted, Returned};
 ghost use Rattle.answer_constructs.specs.Chains.{Gives, Chains, maskAt, lastingBit, ownMask};
-ghost use Rattle.answer_constructs.specs.Marks.{OfKind, Kinds};
+ghost use Rattle.answer_constructs.specs.Marks.{OfKind};
 use crate::members::members_of;
-use crate::peers::add_if;
 use crate::peers::masters_like;
 use chart::cursor::wide;
 use chart::format::Chart;
@@ -120,44 +119,5 @@ pub fn fill_chains(
         let like = masters_like(s, chart, c, masters, &mut known);
         add_construct(s, chart, c, members, returning, like, held);
         c += 1;
-    }
-}
-
-// The constructs of the kinds that the rules speak of; `sections` are those of kind section. Of a team of a known size, whether it has but one
-// thread, and the masters for a thread that it lacks.
-pub struct Sets {
-    pub masters: u64,
-    pub singles: u64,
-    pub dos: u64,
-    pub sections: u64,
-    pub alone: bool,
-    pub missing: u64,
-}
-
-pub fn sets_of(s: &[u8], chart: Chart) -> Sets
-    requires { ⌜ Accepted (now s) chart ⌝ }
-    ensures { λ r. ⌜ Kinds (reading (now (s .entry)) chart) r ⌝ }
-{
-    let n = chart.constructs;
-    let mut masters = 0;
-    let mut singles = 0;
-    let mut dos = 0;
-    let mut sections = 0;
-    let mut c = 0;
-    while c < n {
-        let kind = Construct::read(s, chart, c).kind;
-        masters = add_if(kind == Construct::MASTER, c, masters);
-        singles = add_if(kind == Construct::SINGLE, c, singles);
-        dos = add_if(kind == Construct::DO, c, dos);
-        sections = add_if(kind == Construct::SECTION, c, sections);
-        c += 1;
-    }
-    Sets {
-        masters,
-        singles,
-        dos,
-        sections,
-        alone: false,
-        missing: 0,
     }
 }

@@ -10,10 +10,12 @@ ghost use Rattle.mark_tables.specs.Tables.{Accepted, Returned};
 ghost use Rattle.answer_constructs.specs.Chains.{Chains};
 ghost use Rattle.answer_constructs.specs.Marks.{OfKind, Kinds};
 ghost use Rattle.answer_constructs.specs.Below.{placeOf, HeldBy, HeldBelow};
-use crate::chains::Sets;
 use crate::chains::fill_chains;
 use crate::chains::mask_at;
-use crate::chains::sets_of;
+use crate::kinds::KindTable;
+use crate::kinds::MASTERS;
+use crate::kinds::SECTIONS;
+use crate::kinds::kinds_of;
 use chart::cursor::wide;
 use chart::format::Chart;
 use chart::format::Construct;
@@ -71,21 +73,26 @@ fn mark_nodes(s: &[u8], chart: Chart, places: &PlaceTable, held: &mut [u64; Char
 }
 
 // What each node of an accepted chart holds, where nothing is written before, given which constructs return; and the constructs
-// of each kind.
-pub fn fill_held(s: &[u8], chart: Chart, returning: u64, held: &mut [u64; Chart::NODES]) -> Sets
+// of each rule's kind.
+pub fn fill_held(
+    s: &[u8],
+    chart: Chart,
+    returning: u64,
+    held: &mut [u64; Chart::NODES],
+) -> KindTable
     requires { ⌜ Accepted (now s) chart × Returned (reading (now s) chart) returning × (now held ≡ replicate 192 0) ⌝ }
     ensures { λ r. ⌜ Kinds (reading (now (s .entry)) chart) r ⌝ }
     ensures { λ _. ⌜ HeldBelow (reading (now (s .entry)) chart) (chart .nodes) (now (held .exit)) ⌝ }
 {
-    let sets = sets_of(s, chart);
+    let kinds = kinds_of(s, chart);
     let n = chart.constructs;
     if n == 0 {
-        return sets;
+        return kinds;
     }
     let mut chains = [0u64; Chart::CONSTRUCTS];
-    fill_chains(s, chart, returning, sets.masters, &mut chains);
+    fill_chains(s, chart, returning, kinds[MASTERS], &mut chains);
     let mut places = [0u64; PLACES];
-    fill_places(s, chart, &chains, sets.sections, &mut places);
+    fill_places(s, chart, &chains, kinds[SECTIONS], &mut places);
     mark_nodes(s, chart, &places, held);
-    sets
+    kinds
 }

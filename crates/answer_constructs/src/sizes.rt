@@ -1,13 +1,11 @@
 // Teams of a known size: which sizes a call takes, and what the rules read of one.
 ghost use mathlib.Core.Path.{_≡_};
 ghost use mathlib.Core.Bool.{cond, _&&_};
-ghost use mathlib.Core.List.{List, []};
+ghost use mathlib.Core.List.{[]};
 ghost use mathlib.Core.Option.{none, some};
-ghost use Prim.Native.Nat.{ℕ};
 ghost use lib.Dec.{eqb, leb};
 ghost use Rattle.lists.specs.Mask.{maskOf};
 ghost use Rattle.chart.specs.Format.{decode};
-ghost use Rattle.chart.specs.Region.{Region};
 ghost use Rattle.chart.specs.Scope.{masterByte};
 ghost use Rattle.chart.specs.Refusal.{firstOf};
 ghost use Rattle.chart.specs.Checked.{Laid, reading};
@@ -15,8 +13,9 @@ ghost use Rattle.theory_answers.specs.Size.{sizeRows};
 ghost use Rattle.mark_tables.specs.Tables.{Accepted};
 ghost use Rattle.output.specs.Output.{outputRows, writtenBy};
 ghost use Rattle.answer_constructs.specs.Chains.{isOver};
-ghost use Rattle.answer_constructs.specs.Marks.{Sized, Marks};
-use crate::chains::Sets;
+ghost use Rattle.answer_constructs.specs.Marks.{Sized};
+use crate::kinds::KindTable;
+use crate::kinds::Sets;
 use crate::peers::add_if;
 use chart::format::Chart;
 use chart::format::Construct;
@@ -79,27 +78,22 @@ fn missing_of(s: &[u8], chart: Chart, threads: usize) -> u64
     mask
 }
 
-fn with_size(sets: Sets, alone: bool, missing: u64) -> Sets
-    ensures { λ r. ⌜ (r .alone ≡ alone) × (r .missing ≡ missing) × ((R : Region) (marks : List (List ℕ)) → Marks R marks sets → Marks R marks r) ⌝ }
-{
-    Sets {
-        masters: sets.masters,
-        singles: sets.singles,
-        dos: sets.dos,
-        sections: sets.sections,
-        alone,
-        missing,
-    }
-}
-
-// The constructs of each kind, and what a team of this size lacks.
-pub fn sets_for(s: &[u8], chart: Chart, size: Size, sets: Sets) -> Sets
+// What the rules read of teams of this size, given the constructs of their kinds.
+pub fn sets_for(s: &[u8], chart: Chart, size: Size, kinds: &KindTable) -> Sets
     requires { ⌜ Accepted (now s) chart ⌝ }
     ensures { λ r. ⌜ Sized (reading (now (s .entry)) chart) size r ⌝ }
-    ensures { λ r. ⌜ ((R : Region) (marks : List (List ℕ)) → Marks R marks sets → Marks R marks r) ⌝ }
+    ensures { λ r. ⌜ r .kinds ≡ now (kinds .entry) ⌝ }
 {
     match size {
-        Size::Any => with_size(sets, false, 0),
-        Size::Of(threads) => with_size(sets, threads <= 1, missing_of(s, chart, threads)),
+        Size::Any => Sets {
+            kinds: *kinds,
+            alone: false,
+            missing: 0,
+        },
+        Size::Of(threads) => Sets {
+            kinds: *kinds,
+            alone: threads <= 1,
+            missing: missing_of(s, chart, threads),
+        },
     }
 }

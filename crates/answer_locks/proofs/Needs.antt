@@ -22,7 +22,7 @@ use Rattle.theory_calls.specs.Locks.{isCritical, inNamed, somePair, needed, eve
 use Rattle.theory_calls.specs.LocksLaws.{critical-of}
 use Rattle.mark_tables.specs.Tables.{Closed}
 use Rattle.answer_constructs.specs.Marks.{Sized, heldIn, Marks}
-use Rattle.answer_constructs.specs.declared.chains.Sets.{Sets}
+use Rattle.answer_constructs.specs.declared.kinds.Sets.{Sets}
 use Rattle.answer_pairs.specs.Rules.{profileAt}
 use Rattle.answer_names.specs.Names.{Names, InCriticals}
 use Rattle.answer_met.specs.Meets.{unbarred, meets}
@@ -37,11 +37,11 @@ use Rattle.answer_locks.proofs.Sized.{lacks, answer-fitting, barred-fit
 abbrev pub InsideAsked : Region → Type 0
 InsideAsked R = (x c : ℕ) → R .inside x c ≡ true → asked R x ≡ true
 
-module _ {R : Region} {marks : List (List ℕ)} {sets : Sets} (M : Marks R marks sets) (size : Size) (Z : Sized R size sets) {closed shut : List ℕ} (C : Closed R closed)
+module _ {R : Region} {marks : List (List ℕ)} {kinds : List ℕ} {sets : Sets} (M : Marks R marks kinds) (size : Size) (Z : Sized R size sets) {closed shut : List ℕ} (C : Closed R closed)
     (F : Fitting (R .nodes) sets (heldIn marks) closed shut) where
   -- a node is open where a claim may name it and the team can have it
   shut-at : (x : ℕ) → x < R .nodes → eqb (getD shut x 0) 0 ≡ (asked R x && not (lacks R size x))
-  shut-at x l = F .at x l ∙ rw (C .at x l, ← lacks-held M size Z x l) (ap (λ (b : Bool). b && not (lacks R size x)) (flag (asked R x)))
+  shut-at x l = F .at x l ∙ rw (C .at x l, ← lacks-held sets M size Z x l) (ap (λ (b : Bool). b && not (lacks R size x)) (flag (asked R x)))
     where
       flag : (b : Bool) → eqb (cond b 0 1) 0 ≡ b
       flag true = refl

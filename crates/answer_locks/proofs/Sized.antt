@@ -14,7 +14,7 @@ use Rattle.theory_answers.specs.declared.Size.{Size}
 use Rattle.theory_answers.specs.declared.Size.the-variants.{Any, Of}
 use Rattle.theory_exact.specs.Barred.{isBarred, isBarredIn, isBarredFor}
 use Rattle.answer_constructs.specs.Marks.{Sized, heldIn, Marks}
-use Rattle.answer_constructs.specs.declared.chains.Sets.{Sets}
+use Rattle.answer_constructs.specs.declared.kinds.Sets.{Sets}
 use Rattle.answer_pairs.specs.Rules.{lacks-by, lacks-none}
 use Rattle.answer_locks.specs.Fitting.{lacking}
 
@@ -47,11 +47,11 @@ barred-fitting R (Of m) a b = go (leb m 1) (lacksThread R m a) (lacksThread R m 
     go false false false = refl
 
 -- read off what the node holds
-pub lacks-held : {R : Region} {marks : List (List ℕ)} {sets : Sets} → Marks R marks sets → (size : Size) → Sized R size sets → (x : ℕ) → x < R .nodes
+pub lacks-held : {R : Region} {marks : List (List ℕ)} {kinds : List ℕ} (sets : Sets) → Marks R marks kinds → (size : Size) → Sized R size sets → (x : ℕ) → x < R .nodes
     → lacks R size x ≡ lacking sets (getD (heldIn marks) x 0)
 unfolding lacking
-lacks-held {marks = marks} M Any Z x l = sym (rw (Z .0, lacks-none (getD (heldIn marks) x 0) (Z .1)))
-lacks-held {R} {marks} {sets} M (Of m) Z x l = rw (Z .0, one) refl
+lacks-held {marks = marks} sets M Any Z x l = sym (rw (Z .0, lacks-none (getD (heldIn marks) x 0) (Z .1)))
+lacks-held {R} {marks} sets M (Of m) Z x l = rw (Z .0, one) refl
   where
     twice : (b : Bool) → (b || b) ≡ b
     twice true = refl

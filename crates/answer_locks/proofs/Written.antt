@@ -32,7 +32,7 @@ use Rattle.theory_calls.specs.LocksLaws.{critical-of}
 use Rattle.mark_tables.specs.Tables.{Accepted, Closed}
 use Rattle.mark_tables.proofs.Accepted.{tables}
 use Rattle.answer_constructs.specs.Marks.{Sized, heldIn, Marks}
-use Rattle.answer_constructs.specs.declared.chains.Sets.{Sets}
+use Rattle.answer_constructs.specs.declared.kinds.Sets.{Sets}
 use Rattle.answer_constructs.proofs.Constructs.{no-bit}
 use Rattle.answer_constructs.proofs.Facts.{few, is-read}
 use Rattle.answer_names.specs.Names.{Given, Spread, Criticals, InCriticals}
@@ -73,7 +73,7 @@ module _ (s : List ℕ) (chart : Chart) (A : Accepted s chart) where
       other : (c : ℕ) → c < R .constructs → lockByte R size c ≡ byteBy 0 0 0 c
       other c l = rw (critical-bit (no-bit (λ d m h. no-critical d m (h .1))) c l, ne-eqb _ 1 (has-none c))
 
-  module _ {marks : List (List ℕ)} {sets : Sets} (M : Marks R marks sets) (size : Size) (Z : Sized R size sets) {closed shut : List ℕ} (C : Closed R closed)
+  module _ {marks : List (List ℕ)} {kinds : List ℕ} {sets : Sets} (M : Marks R marks kinds) (size : Size) (Z : Sized R size sets) {closed shut : List ℕ} (C : Closed R closed)
       (F : Fitting (chart .nodes) sets (heldIn marks) closed shut) {given names around : List ℕ} (G : Given R (Counts (decode s) (chart .region)) given)
       (T : Spread R (lies (decode s)) given (replicate 192 0) names) (I : InCriticals R around) {found : Tried} (S : Searched shut marks names around (chart .nodes) found) where
     inside-asked : InsideAsked R

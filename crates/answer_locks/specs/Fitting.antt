@@ -7,7 +7,7 @@ use Prim.Native.Nat.{ℕ, _<_}
 use lib.Dec.{eqb}
 use lib.ListN.{getD}
 use Rattle.lists.specs.Common.{common}
-use Rattle.answer_constructs.specs.declared.chains.Sets.{Sets}
+use Rattle.answer_constructs.specs.declared.kinds.Sets.{Sets}
 
 -- The team has one thread, or it lacks one that a node which holds this needs.
 unfoldable pub lacking : Sets → ℕ → Bool

@@ -7,7 +7,7 @@ ghost use lib.Dec.{eqb};
 ghost use lib.ListN.{length};
 ghost use Rattle.answer_constructs.specs.Marks.{heldIn};
 ghost use Rattle.answer_locks.specs.Fitting.{lacking, Fitting};
-use answer_constructs::chains::Sets;
+use answer_constructs::kinds::Sets;
 use answer_constructs::mask_table::HELD;
 use answer_constructs::mask_table::MaskTable;
 use chart::format::Chart;

@@ -10,7 +10,7 @@ ghost use Rattle.theory_calls.specs.Locks.{locksResult};
 use crate::bytes::put_bytes;
 use crate::fitting::close_lacking;
 use crate::search::search;
-use answer_constructs::chains::Sets;
+use answer_constructs::kinds::KindTable;
 use answer_constructs::mask_table::MaskTable;
 use answer_constructs::sizes::sets_for;
 use answer_met::THIRDS;
@@ -31,8 +31,15 @@ pub mod fitting;
 pub mod search;
 
 // The bytes fill the front of `out`, by a search over the nodes.
-fn put_found(s: &[u8], chart: Chart, size: Size, marks: &MaskTable, kinds: Sets, out: &mut [u8])
-    requires { ⌜ Accepted (now s) chart × Marks (reading (now s) chart) (now marks) kinds × (chart .constructs ≤ length (now out)) ⌝ }
+fn put_found(
+    s: &[u8],
+    chart: Chart,
+    size: Size,
+    marks: &MaskTable,
+    kinds: &KindTable,
+    out: &mut [u8],
+)
+    requires { ⌜ Accepted (now s) chart × Marks (reading (now s) chart) (now marks) (now kinds) × (chart .constructs ≤ length (now out)) ⌝ }
     ensures { λ _.
         let result = locksResult (reading (now (s .entry)) chart) size in
         ⌜ now (out .exit) ≡ result ++ drop (length result) (now (out .entry)) ⌝ }
@@ -57,8 +64,15 @@ fn put_found(s: &[u8], chart: Chart, size: Size, marks: &MaskTable, kinds: Sets,
 }
 
 // The same. Where the chart has no critical, none is needed, and nothing is searched.
-pub fn put_locks(s: &[u8], chart: Chart, size: Size, marks: &MaskTable, kinds: Sets, out: &mut [u8])
-    requires { ⌜ Accepted (now s) chart × Marks (reading (now s) chart) (now marks) kinds × (chart .constructs ≤ length (now out)) ⌝ }
+pub fn put_locks(
+    s: &[u8],
+    chart: Chart,
+    size: Size,
+    marks: &MaskTable,
+    kinds: &KindTable,
+    out: &mut [u8],
+)
+    requires { ⌜ Accepted (now s) chart × Marks (reading (now s) chart) (now marks) (now kinds) × (chart .constructs ≤ length (now out)) ⌝ }
     ensures { λ _.
         let result = locksResult (reading (now (s .entry)) chart) size in
         ⌜ now (out .exit) ≡ result ++ drop (length result) (now (out .entry)) ⌝ }

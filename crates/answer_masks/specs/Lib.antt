@@ -1,1 +1,1 @@
-pub mod Surveyed
+pub mod Survey

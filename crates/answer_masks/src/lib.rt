@@ -9,10 +9,9 @@ ghost use Rattle.chart.specs.declared.format.Checked.the-variants.{Passed};
 ghost use Rattle.check_nodes.specs.Framed.{BothFramed};
 ghost use Rattle.theory_paths.specs.Admission.{admitRows, regionRows};
 ghost use Rattle.mark_tables.specs.Tables.{Accepted};
-ghost use Rattle.answer_masks.specs.Surveyed.{checkedOf, Survey};
-ghost use Rattle.answer_masks.specs.declared.Surveyed.the-variants.{Marked};
-use answer_constructs::chains::Sets;
+ghost use Rattle.answer_masks.specs.Survey.{Survey};
 use answer_constructs::held::fill_held;
+use answer_constructs::kinds::KindTable;
 use answer_constructs::mask_table::ENDS;
 use answer_constructs::mask_table::HELD;
 use answer_constructs::mask_table::MaskTable;
@@ -31,12 +30,6 @@ use mark_regions::outermost::refuses;
 use mark_tables::tables::load_tables;
 use search::edges::Parts;
 
-// A chart whose nodes are marked, with its constructs by kind, or the first row that applies.
-pub enum Surveyed {
-    Marked(Chart, Sets),
-    Refused(Refusal),
-}
-
 // Row 10, which is asked of the outermost region alone, and the masks of any region of a chart that rows 1 to 9 let pass, given where its
 // constructs begin and end. The region's tables are loaded once, and all masks are found by them.
 fn survey_region(
@@ -45,11 +38,12 @@ fn survey_region(
     begin_nodes: &Frames,
     end_nodes: &Frames,
     marks: &mut MaskTable,
-) -> Surveyed
+    kinds: &mut KindTable,
+) -> Checked
     requires { ⌜ Accepted (now s) chart × (chart .region ≡ outside → checked (now s) ≡ Passed chart) × (now marks ≡ replicate 3 (replicate 192 0)) ⌝ }
     requires { ⌜ BothFramed (decode (now s)) (now «begin_nodes») (now «end_nodes») ⌝ }
-    ensures { λ r. ⌜ (chart .region ≡ outside → checkedOf r ≡ checkedBy (firstOf (admitRows (now (s .entry)))) (countsOf (now (s .entry)))) × (chart .region ≢ outside → checkedOf r ≡ Passed chart) ⌝ }
-    ensures { λ r. ⌜ ((chart : Chart) (sets : Sets) → r ≡ Marked chart sets → Survey (now (s .entry)) chart (now (marks .exit)) sets) ⌝ }
+    ensures { λ r. ⌜ (chart .region ≡ outside → r ≡ checkedBy (firstOf (admitRows (now (s .entry)))) (countsOf (now (s .entry)))) × (chart .region ≢ outside → r ≡ Passed chart) ⌝ }
+    ensures { λ r. ⌜ ((chart : Chart) → r ≡ Passed chart → Survey (now (s .entry)) chart (now (marks .exit)) (now (kinds .exit))) ⌝ }
 {
     let mut edges = [[0u8; Chart::EDGES]; Parts::ROWS];
     let mut places = [0usize; Chart::PLACES];
@@ -70,12 +64,12 @@ fn survey_region(
     );
     marks[ENDS] = ends;
     if refuses(chart, lost) {
-        return Surveyed::Refused(Refusal::PATHS);
+        return Checked::Refused(Refusal::PATHS);
     }
     let parts = extent.parts;
     let returning = returns(s, chart, begin_nodes, end_nodes, &edges, &places, parts);
-    let sets = fill_held(s, chart, returning, &mut marks[HELD]);
-    Surveyed::Marked(chart, sets)
+    *kinds = fill_held(s, chart, returning, &mut marks[HELD]);
+    Checked::Passed(chart)
 }
 
 // Rows 10 and 23, and all masks of all nodes of a parallel's region, of a chart that rows 1 to 9 let pass. The outermost region is marked
@@ -87,40 +81,41 @@ fn survey_inner(
     begin_nodes: &Frames,
     end_nodes: &Frames,
     marks: &mut MaskTable,
-) -> Surveyed
+    kinds: &mut KindTable,
+) -> Checked
     requires { ⌜ (checked (now s) ≡ Passed chart) × (region ≢ outside) × (now marks ≡ replicate 3 (replicate 192 0)) ⌝ }
     requires { ⌜ BothFramed (decode (now s)) (now «begin_nodes») (now «end_nodes») ⌝ }
-    ensures { λ r. ⌜ checkedOf r ≡ checkedBy (firstOf (regionRows (now (s .entry)) region)) (readFor (countsOf (now (s .entry))) region) ⌝ }
-    ensures { λ r. ⌜ ((chart : Chart) (sets : Sets) → r ≡ Marked chart sets → Survey (now (s .entry)) chart (now (marks .exit)) sets) ⌝ }
+    ensures { λ r. ⌜ r ≡ checkedBy (firstOf (regionRows (now (s .entry)) region)) (readFor (countsOf (now (s .entry))) region) ⌝ }
+    ensures { λ r. ⌜ ((chart : Chart) → r ≡ Passed chart → Survey (now (s .entry)) chart (now (marks .exit)) (now (kinds .exit))) ⌝ }
 {
-    match survey_region(s, chart, begin_nodes, end_nodes, marks) {
-        Surveyed::Refused(refusal) => Surveyed::Refused(refusal),
-        Surveyed::Marked(whole, _) => {
+    match survey_region(s, chart, begin_nodes, end_nodes, marks, kinds) {
+        Checked::Refused(refusal) => Checked::Refused(refusal),
+        Checked::Passed(whole) => {
             if bad_region(s, whole, region) {
-                return Surveyed::Refused(Refusal::REGION);
+                return Checked::Refused(Refusal::REGION);
             }
             let inner = whole.read_for(region);
             *marks = [[0u64; Chart::NODES]; ROWS];
-            survey_region(s, inner, begin_nodes, end_nodes, marks)
+            survey_region(s, inner, begin_nodes, end_nodes, marks, kinds)
         }
     }
 }
 
-// The first of rows 1 to 10 and 23 that applies, or all masks of all nodes of the region, which are 0 before.
-pub fn survey(s: &[u8], region: usize, marks: &mut MaskTable) -> Surveyed
+// The first of rows 1 to 10 and 23 that applies, or all masks of all nodes of the region, which are 0 before, and the constructs of each rule's kind.
+pub fn survey(s: &[u8], region: usize, marks: &mut MaskTable, kinds: &mut KindTable) -> Checked
     requires { ⌜ now marks ≡ replicate 3 (replicate 192 0) ⌝ }
-    ensures { λ r. ⌜ checkedOf r ≡ checkedBy (firstOf (regionRows (now (s .entry)) region)) (readFor (countsOf (now (s .entry))) region) ⌝ }
-    ensures { λ r. ⌜ ((chart : Chart) (sets : Sets) → r ≡ Marked chart sets → Survey (now (s .entry)) chart (now (marks .exit)) sets) ⌝ }
+    ensures { λ r. ⌜ r ≡ checkedBy (firstOf (regionRows (now (s .entry)) region)) (readFor (countsOf (now (s .entry))) region) ⌝ }
+    ensures { λ r. ⌜ ((chart : Chart) → r ≡ Passed chart → Survey (now (s .entry)) chart (now (marks .exit)) (now (kinds .exit))) ⌝ }
 {
     let mut begin_nodes = [0u8; Construct::FRAMES];
     let mut end_nodes = [0u8; Construct::FRAMES];
     match check(s, &mut begin_nodes, &mut end_nodes) {
-        Checked::Refused(refusal) => Surveyed::Refused(refusal),
+        Checked::Refused(refusal) => Checked::Refused(refusal),
         Checked::Passed(chart) => {
             if region == Chart::OUTERMOST {
-                return survey_region(s, chart, &begin_nodes, &end_nodes, marks);
+                return survey_region(s, chart, &begin_nodes, &end_nodes, marks, kinds);
             }
-            survey_inner(s, chart, region, &begin_nodes, &end_nodes, marks)
+            survey_inner(s, chart, region, &begin_nodes, &end_nodes, marks, kinds)
         }
     }
 }

@@ -15,25 +15,24 @@ use Rattle.chart.specs.Region.{Kind, single, master, critical, loop, ordered, s
 use Rattle.theory_answers.specs.Answer.{noCommon, bothInMasters, bothInSingle, bothInOrdereds, bothInSection, answer}
 use Rattle.theory_exact.specs.Barred.{isBarred}
 use Rattle.theory_paths.specs.Phases.{forward}
-use Rattle.answer_constructs.specs.Marks.{Holds, startsIn, endsIn, heldIn, Marks}
-use Rattle.answer_constructs.specs.declared.chains.Sets.{Sets}
-use Rattle.answer_pairs.specs.Rules.{ruleKind, of-rule, profileAt, numbered, byRules, ruleBy, ruledBy, ruleOf, apart-by, rule-by, ruled-by}
+use Rattle.answer_constructs.specs.Marks.{Holds, ruleKind, startsIn, endsIn, heldIn, Marks}
+use Rattle.answer_pairs.specs.Rules.{profileAt, numbered, byRules, ruleBy, ruledBy, ruleOf, apart-by, rule-by, ruled-by}
 use Rattle.answer_met.specs.Meets.{unbarred, meets}
 
-module _ {R : Region} {marks : List (List ℕ)} {sets : Sets} (M : Marks R marks sets) (a b : ℕ) (la : a < R .nodes) (lb : b < R .nodes) where
+module _ {R : Region} {marks : List (List ℕ)} {kinds : List ℕ} (M : Marks R marks kinds) (a b : ℕ) (la : a < R .nodes) (lb : b < R .nodes) where
   -- a rule from rule 2 on, by what both hold
   abbrev rule : ℕ → Bool
-  rule = ruleBy sets (getD (heldIn marks) a 0) (getD (heldIn marks) b 0)
+  rule = ruleBy kinds (getD (heldIn marks) a 0) (getD (heldIn marks) b 0)
 
   met-rule : (k : ℕ) → k < 4 → rule k ≡ true → common (getD (heldIn marks) a 0) (getD (heldIn marks) b 0) ≡ true
   met-rule k l h =
       let v = M .has-held a la in
       let w = M .has-held b lb in
-      let (d, (m, (x, q))) = common-test (mask-both v w) (of-rule (M .kinds) k l) .0 h in
+      let (d, (m, (x, q))) = common-test (mask-both v w) (M .has-kinds k l) .0 h in
       common-test v w .1 (d, (m, x))
 
   by-rule : (k d : ℕ) → k < 4 → d < R .constructs → R .kind d ≡ ruleKind k → Holds R a d (R .kind d) → Holds R b d (R .kind d) → any 4 rule ≡ true
-  by-rule k d l m q x y = at-any 4 rule k l (common-test (mask-both (M .has-held a la) (M .has-held b lb)) (of-rule (M .kinds) k l) .1 (d, (m, ((x, y), q))))
+  by-rule k d l m q x y = at-any 4 rule k l (common-test (mask-both (M .has-held a la) (M .has-held b lb)) (M .has-kinds k l) .1 (d, (m, ((x, y), q))))
 
   by-kind : (d : ℕ) → d < R .constructs → (k : Kind) → R .kind d ≡ k → Holds R a d (R .kind d) → Holds R b d (R .kind d) → any 4 rule ≡ true
   by-kind d l master q x y = by-rule 0 d (omega arith) l q x y
@@ -66,7 +65,7 @@ module _ {R : Region} {marks : List (List ℕ)} {sets : Sets} (M : Marks R marks
   unfolding unbarred isBarred profileAt any
   unbarred-by =
       let W = M .well-formed in
-      let rules : any 4 (ruleOf R a b) ≡ any 4 rule = any-same 4 (ruleOf R a b) rule (rule-by W a b (M .has-held a la) (M .has-held b lb) (M .kinds)) in
+      let rules : any 4 (ruleOf R a b) ≡ any 4 rule = any-same 4 (ruleOf R a b) rule (rule-by W a b kinds (M .has-held a la) (M .has-held b lb) (M .has-kinds)) in
       let barred : isBarred R a b ≡ (noCommon forward R a b || any 4 (ruleOf R a b)) =
       in-row (noCommon forward R a b) (bothInMasters R a b) (bothInSingle R a b) (bothInOrdereds R a b) (bothInSection R a b) in
       rw (

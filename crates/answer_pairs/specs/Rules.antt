@@ -4,7 +4,7 @@
 use mathlib.Core.Path.{_≡_, refl, sym, _∙_, subst}
 use mathlib.Core.Logic.{_⊎_, inl, inr, _↔_}
 use mathlib.Core.Bool.{Bool, true, false, _&&_, _||_, not, cond}
-use mathlib.Core.List.{List, [], _∷_}
+use mathlib.Core.List.{List}
 use Prim.Native.Nat.{ℕ, zero, suc, _+_, _<_}
 use native.Mathlib.Omega.{arith}
 use lib.Bits.{bitAnd, bitOr, and-zero-r}
@@ -26,26 +26,8 @@ use Rattle.theory_answers.specs.AnswerLaws.{do-below, no-common-of, masters-of,
 use Rattle.theory_paths.specs.Phases.{Direction, forward, backward, Boundary, barriers, barrierAt, marked, marks}
 use Rattle.theory_paths.specs.PhasesLaws.{Marked, marked-means, barrier-number}
 use Rattle.answer_constructs.specs.Marks.{Holds, Held, OfKind, Kinds, Lacked, Sized, startsIn, endsIn, heldIn, Marks}
-use Rattle.answer_constructs.specs.declared.chains.Sets.{Sets}
+use Rattle.answer_constructs.specs.declared.kinds.Sets.{Sets}
 use Rattle.answer_pairs.specs.declared.rules.Profile.{Profile}
-
--- The kind of construct that the k-th rule from rule 2 on asks for.
-abbrev pub ruleKind : ℕ → Kind
-ruleKind zero = master
-ruleKind (suc zero) = single
-ruleKind (suc (suc zero)) = loop
-ruleKind (suc (suc (suc k))) = section
-
--- The constructs of these kinds, in the order of the rules.
-abbrev pub kindsOf : Sets → List ℕ
-kindsOf sets = sets .masters ∷ sets .singles ∷ sets .dos ∷ sets .sections ∷ []
-
-pub of-rule : {R : Region} {sets : Sets} → Kinds R sets → (k : ℕ) → k < 4 → OfKind R (ruleKind k) (getD (kindsOf sets) k 0)
-of-rule K zero l = K .masters
-of-rule K (suc zero) l = K .singles
-of-rule K (suc (suc zero)) l = K .dos
-of-rule K (suc (suc (suc zero))) l = K .sections
-of-rule K (suc (suc (suc (suc k)))) l = absurd (omega arith)
 
 -- The masks of node x.
 unfoldable pub profileAt : List (List ℕ) → ℕ → Profile
@@ -74,16 +56,16 @@ unfoldable pub bySize : Bool → Bool → ℕ → ℕ
 bySize alone lacks ruled = cond alone 6 (cond lacks 7 ruled)
 
 -- The k-th rule from rule 2 on, by what the two nodes hold: a construct of its kind in common.
-abbrev pub ruleBy : Sets → ℕ → ℕ → ℕ → Bool
-ruleBy sets m n k = common (bitAnd m n) (getD (kindsOf sets) k 0)
+abbrev pub ruleBy : List ℕ → ℕ → ℕ → ℕ → Bool
+ruleBy kinds m n k = common (bitAnd m n) (getD kinds k 0)
 
 -- The answer for all teams by the masks of the two nodes.
-unfoldable pub ruledBy : Sets → Profile → Profile → ℕ
-ruledBy sets x y = byRules (common (x .starts) (y .starts) && common (x .ends) (y .ends)) (ruleBy sets (x .held) (y .held))
+unfoldable pub ruledBy : List ℕ → Profile → Profile → ℕ
+ruledBy kinds x y = byRules (common (x .starts) (y .starts) && common (x .ends) (y .ends)) (ruleBy kinds (x .held) (y .held))
 
 -- The answer for the teams that the sets are of.
 unfoldable pub answerBy : Sets → Profile → Profile → ℕ
-answerBy sets x y = bySize (sets .alone) (common (bitOr (x .held) (y .held)) (sets .missing)) (ruledBy sets x y)
+answerBy sets x y = bySize (sets .alone) (common (bitOr (x .held) (y .held)) (sets .missing)) (ruledBy (sets .kinds) x y)
 
 -- Four tests in a row.
 abbrev inRow : Bool → Bool → Bool → Bool → ℕ → Bool
@@ -170,12 +152,12 @@ module _ {R : Region} (W : WellFormed R) where
         (λ h. let (d, (l, (x, (y, q)))) = t .0 h in section-of W a b .1 (d, ((x .0, y .0), x .1)))
 
   -- each rule
-  pub rule-by : (a b : ℕ) {m n : ℕ} {sets : Sets} → Held R a m → Held R b n → Kinds R sets → (k : ℕ) → k < 4 → ruleOf R a b k ≡ ruleBy sets m n k
-  rule-by a b v w K zero l = masters-by a b v w (of-rule K 0 l)
-  rule-by a b v w K (suc zero) l = single-by a b v w (of-rule K 1 l)
-  rule-by a b v w K (suc (suc zero)) l = ordereds-by a b v w (of-rule K 2 l)
-  rule-by a b v w K (suc (suc (suc zero))) l = section-by a b v w (of-rule K 3 l)
-  rule-by a b v w K (suc (suc (suc (suc k)))) l = absurd (omega arith)
+  pub rule-by : (a b : ℕ) {m n : ℕ} (kinds : List ℕ) → Held R a m → Held R b n → Kinds R kinds → (k : ℕ) → k < 4 → ruleOf R a b k ≡ ruleBy kinds m n k
+  rule-by a b kinds v w K zero l = masters-by a b v w (K 0 l)
+  rule-by a b kinds v w K (suc zero) l = single-by a b v w (K 1 l)
+  rule-by a b kinds v w K (suc (suc zero)) l = ordereds-by a b v w (K 2 l)
+  rule-by a b kinds v w K (suc (suc (suc zero))) l = section-by a b v w (K 3 l)
+  rule-by a b kinds v w K (suc (suc (suc (suc k)))) l = absurd (omega arith)
 
   -- a master that one of them holds, for a thread that a team of this size lacks
   module _ (size a b : ℕ) {m n s : ℕ} (v : Held R a m) (w : Held R b n) (z : Mask (Lacked R size) (R .constructs) s) where
@@ -197,12 +179,12 @@ module _ {R : Region} (W : WellFormed R) where
         ])
 
 -- The answer, read off the masks of two nodes: for all teams, and for those of a size.
-pub ruled-by : {R : Region} {marks : List (List ℕ)} {sets : Sets} → Marks R marks sets → (a b : ℕ) → a < R .nodes → b < R .nodes
-    → answer R a b ≡ ruledBy sets (profileAt marks a) (profileAt marks b)
+pub ruled-by : {R : Region} {marks : List (List ℕ)} {kinds : List ℕ} → Marks R marks kinds → (a b : ℕ) → a < R .nodes → b < R .nodes
+    → answer R a b ≡ ruledBy kinds (profileAt marks a) (profileAt marks b)
 unfolding profileAt ruledBy byRules
-ruled-by {R} {marks} {sets} M a b la lb =
+ruled-by {R} {marks} {kinds} M a b la lb =
     let W = M .well-formed in
-    let rules = numbered-same 4 (ruleOf R a b) (ruleBy sets (getD (heldIn marks) a 0) (getD (heldIn marks) b 0)) (rule-by W a b (M .has-held a la) (M .has-held b lb) (M .kinds)) in
+    let rules = numbered-same 4 (ruleOf R a b) (ruleBy kinds (getD (heldIn marks) a 0) (getD (heldIn marks) b 0)) (rule-by W a b kinds (M .has-held a la) (M .has-held b lb) (M .has-kinds)) in
     answer-ruled R a b ∙ rw (
       phase-by W a b,
       rules,
@@ -213,7 +195,7 @@ ruled-by {R} {marks} {sets} M a b la lb =
     )
 
 pub sized-by : (sets : Sets) (x y : Profile) {alone lacks : Bool} → sets .alone ≡ alone → common (bitOr (x .held) (y .held)) (sets .missing) ≡ lacks
-    → answerBy sets x y ≡ cond alone 6 (cond lacks 7 (ruledBy sets x y))
+    → answerBy sets x y ≡ cond alone 6 (cond lacks 7 (ruledBy (sets .kinds) x y))
 unfolding answerBy bySize
 sized-by sets x y p q = cc
 
@@ -221,11 +203,11 @@ sized-by sets x y p q = cc
 pub lacks-none : (both : ℕ) {missing : ℕ} → missing ≡ 0 → common both missing ≡ false
 lacks-none both q = rw (q, and-zero-r both)
 
-pub answer-by : {R : Region} {marks : List (List ℕ)} {sets : Sets} → Marks R marks sets → (size : Size) → Sized R size sets
+pub answer-by : {R : Region} {marks : List (List ℕ)} (sets : Sets) → Marks R marks (sets .kinds) → (size : Size) → Sized R size sets
     → (a b : ℕ) → a < R .nodes → b < R .nodes → answerFor R size a b ≡ answerBy sets (profileAt marks a) (profileAt marks b)
 unfolding profileAt answerIn
-answer-by {marks = marks} {sets = sets} M Any Z a b la lb =
+answer-by {marks = marks} sets M Any Z a b la lb =
     ruled-by M a b la lb ∙ sym (sized-by sets (profileAt marks a) (profileAt marks b) (Z .0) (lacks-none (bitOr (getD (heldIn marks) a 0) (getD (heldIn marks) b 0)) (Z .1)))
-answer-by {marks = marks} {sets = sets} M (Of m) Z a b la lb =
+answer-by {marks = marks} sets M (Of m) Z a b la lb =
     let lacks = lacks-by (M .well-formed) m a b (M .has-held a la) (M .has-held b lb) (Z .1) in
     rw (ruled-by M a b la lb) (sym (sized-by sets (profileAt marks a) (profileAt marks b) (Z .0) (sym lacks)))

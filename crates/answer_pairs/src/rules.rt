@@ -6,8 +6,9 @@ ghost use Rattle.chart.specs.Region.{Region};
 ghost use Rattle.theory_answers.specs.Answer.{answerFor};
 ghost use Rattle.theory_answers.specs.declared.Size.{Size};
 ghost use Rattle.answer_constructs.specs.Marks.{Sized, Marks};
-ghost use Rattle.answer_pairs.specs.Rules.{kindsOf, profileAt, ruledBy, answerBy};
-use answer_constructs::chains::Sets;
+ghost use Rattle.answer_pairs.specs.Rules.{profileAt, ruledBy, answerBy};
+use answer_constructs::kinds::RULES;
+use answer_constructs::kinds::Sets;
 use answer_constructs::mask_table::ENDS;
 use answer_constructs::mask_table::HELD;
 use answer_constructs::mask_table::MaskTable;
@@ -46,19 +47,9 @@ pub fn same(x: Profile, y: Profile) -> bool
     x.held == y.held
 }
 
-// The rules from rule 2 on, each of which asks for a construct of its kind that both nodes hold.
-pub const RULES: usize = 4;
-
-// The constructs of these kinds, in the order of the rules.
-pub fn kinds_of(sets: Sets) -> [u64; RULES]
-    ensures { λ r. ⌜ r ≡ kindsOf sets ⌝ }
-{
-    [sets.masters, sets.singles, sets.dos, sets.sections]
-}
-
 // The rules for all teams in their order; from rule 2 on, each asks for a construct of its kind that both hold.
 fn ruled_by(sets: Sets, x: Profile, y: Profile) -> u8
-    ensures { λ r. ⌜ r ≡ ruledBy sets x y ⌝ }
+    ensures { λ r. ⌜ r ≡ ruledBy (sets .kinds) x y ⌝ }
 {
     if !common(x.starts, y.starts) {
         return Answer::NO_COMMON_PHASE;
@@ -67,7 +58,7 @@ fn ruled_by(sets: Sets, x: Profile, y: Profile) -> u8
         return Answer::NO_COMMON_PHASE;
     }
     let both = x.held & y.held;
-    let kinds = kinds_of(sets);
+    let kinds = sets.kinds;
     let mut k = 0;
     while k < RULES {
         if common(both, kinds[k]) {
@@ -98,7 +89,7 @@ pub fn answer_by(sets: Sets, x: Profile, y: Profile) -> u8
 // The answer for nodes a and b.
 pub fn pair(a: usize, b: usize, marks: &MaskTable, sets: Sets) -> u8
     requires { ⌜ (a < 192) × (b < 192) ⌝ }
-    ensures { λ r. ⌜ ((R : Region) (size : Size) → Marks R (now (marks .entry)) sets → Sized R size sets → a < R .nodes → b < R .nodes → r ≡ answerFor R size a b) ⌝ }
+    ensures { λ r. ⌜ ((R : Region) (size : Size) → Marks R (now (marks .entry)) (sets .kinds) → Sized R size sets → a < R .nodes → b < R .nodes → r ≡ answerFor R size a b) ⌝ }
 {
     let x = profile_of(a, marks);
     answer_by(sets, x, profile_of(b, marks))

@@ -16,7 +16,6 @@ use Rattle.chart.specs.WellFormed.{WellFormed}
 use Rattle.theory_answers.specs.Numbers.{asked, badNumber, good-number}
 use Rattle.mark_tables.specs.Tables.{Closed}
 use Rattle.answer_constructs.specs.Marks.{Marks}
-use Rattle.answer_constructs.specs.declared.chains.Sets.{Sets}
 use Rattle.answer_pairs.specs.Rules.{profileAt}
 use Rattle.theory_calls.specs.Access.{total, accessAt, badAccesses}
 use Rattle.theory_calls.specs.Races.{race, races}
@@ -56,7 +55,7 @@ module _ (R : Region) (list : List ℕ) (W : WellFormed R) (good : badAccesses R
   unfolding badNumber
   named j l = let h = good-access R list good j l .1 in (good-number R _ W h .0, not-false _ h)
 
-  module _ {closed : List ℕ} {sets : Sets} {marks : List (List ℕ)} {names : List ℕ} (lines : List (List ℕ)) (M : Marks R marks sets) (C : Closed R closed) (N : Names R names)
+  module _ {closed : List ℕ} {kinds : List ℕ} {marks : List (List ℕ)} {names : List ℕ} (lines : List (List ℕ)) (M : Marks R marks kinds) (C : Closed R closed) (N : Names R names)
       (L : (a : ℕ) → a < R .nodes → getD closed a 0 ≡ 0 → LineOf closed marks names (profileAt marks a) (getD names a 0) (getD lines a [])) where
     pair-byte : (i k : ℕ) → i < total list → i + k < total list → lineByte lines list i k ≡ race R (accessAt list i) (accessAt list (i + k))
     unfolding byLine race

@@ -12,7 +12,6 @@ use Rattle.theory_answers.specs.Answer.{answer}
 use Rattle.theory_answers.specs.Numbers.{asked}
 use Rattle.mark_tables.specs.Tables.{Closed}
 use Rattle.answer_constructs.specs.Marks.{Marks}
-use Rattle.answer_constructs.specs.declared.chains.Sets.{Sets}
 use Rattle.answer_pairs.specs.Rules.{profileAt}
 use Rattle.theory_calls.specs.Races.{raceAt}
 use Rattle.answer_names.specs.Names.{Names}
@@ -21,7 +20,7 @@ use Rattle.answer_races.specs.Bytes.{lineRace}
 use Rattle.answer_races.specs.Lines.{raceBy, LineOf}
 use Rattle.answer_races.proofs.Sharing.{share-by}
 
-module _ {R : Region} {marks : List (List ℕ)} {sets : Sets} (M : Marks R marks sets) (a b : ℕ) (la : a < R .nodes) (lb : b < R .nodes) where
+module _ {R : Region} {marks : List (List ℕ)} {kinds : List ℕ} (M : Marks R marks kinds) (a b : ℕ) (la : a < R .nodes) (lb : b < R .nodes) where
   pub line-race : {closed names line : List ℕ} → Closed R closed → Names R names → asked R b ≡ true
       → LineOf closed marks names (profileAt marks a) (getD names a 0) line → lineRace line b ≡ raceAt R a b
   unfolding raceBy raceAt

@@ -1,14 +1,13 @@
 // The bytes of Races, off the masks of a chart: its names and sets of nodes, lines from these, and all pairs by the lines.
 ghost use mathlib.Core.Path.{_≡_};
 ghost use mathlib.Core.Bool.{false};
-ghost use mathlib.Core.List.{_++_};
-ghost use Prim.Native.Nat.{_≤_};
+ghost use mathlib.Core.List.{List, _++_};
+ghost use Prim.Native.Nat.{ℕ, _≤_};
 ghost use lib.ListN.{length, drop};
 ghost use Rattle.lists.specs.Triangle.{pairCount};
 ghost use Rattle.chart.specs.Checked.{reading};
 ghost use Rattle.mark_tables.specs.Tables.{Accepted};
 ghost use Rattle.answer_constructs.specs.Marks.{Marks};
-ghost use Rattle.answer_constructs.specs.declared.chains.Sets.{Sets};
 ghost use Rattle.theory_calls.specs.Access.{total, badAccesses};
 ghost use Rattle.theory_calls.specs.Races.{races as racesOf};
 use crate::lines::fill_lines;
@@ -27,7 +26,7 @@ use masks::unions::BITS;
 // The bytes, of a list that row 20 lets pass.
 pub fn put_races(s: &[u8], chart: Chart, marks: &MaskTable, accesses: &[u8], out: &mut [u8])
     requires { ⌜ Accepted (now s) chart
-        × ((sets : Sets) × Marks (reading (now s) chart) (now marks) sets)
+        × ((kinds : List ℕ) × Marks (reading (now s) chart) (now marks) kinds)
         × (badAccesses (reading (now s) chart) (now accesses) ≡ false)
         × (pairCount (total (now accesses)) ≤ length (now out)) ⌝ }
     ensures { λ _.

@@ -17,7 +17,7 @@ use Rattle.theory_answers.specs.Sheet.{entry, row}
 use Rattle.theory_answers.specs.declared.Size.{Size}
 use Rattle.mark_tables.specs.Tables.{Closed}
 use Rattle.answer_constructs.specs.Marks.{Sized, Marks}
-use Rattle.answer_constructs.specs.declared.chains.Sets.{Sets}
+use Rattle.answer_constructs.specs.declared.kinds.Sets.{Sets}
 use Rattle.answer_pairs.specs.Rules.{profileAt, answer-by}
 use Rattle.answer_pairs.specs.declared.rules.Profile.{Profile}
 use Rattle.answer_sheet.specs.Eights.{covered}
@@ -39,11 +39,11 @@ unfolding entry
 entry-closed R f a b h = rw h
 
 -- the row of a node that a claim may name, by masks
-module _ {R : Region} {marks : List (List ℕ)} {sets : Sets} {closed : List ℕ} (M : Marks R marks sets) (size : Size) (Z : Sized R size sets) (C : Closed R closed) where
+module _ {R : Region} {marks : List (List ℕ)} {closed : List ℕ} (sets : Sets) (M : Marks R marks (sets .kinds)) (size : Size) (Z : Sized R size sets) (C : Closed R closed) where
   entry-by : (a j : ℕ) → a < R .nodes → j < R .nodes → asked R a ≡ true → rowOf closed sets marks (profileAt marks a) j ≡ entry R (answerFor R size) a j
   unfolding rowOf covered entry
   entry-by a j la lj o = elim (truth (asked R j)) [
-    | inl h ↦ rw (C .at j lj, h, o) (sym (answer-by M size Z a j la lj))
+    | inl h ↦ rw (C .at j lj, h, o) (sym (answer-by sets M size Z a j la lj))
     | inr h ↦ rw (C .at j lj, h, o)
   ]
 

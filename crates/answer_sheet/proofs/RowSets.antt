@@ -14,9 +14,9 @@ use Rattle.lists.specs.Mask.{or-cases, or-left as in-left, or-right as in-right
 use Rattle.lists.specs.Bits.{has}
 use Rattle.lists.specs.Common.{and-both, both-and, common}
 use Rattle.answer_constructs.specs.Marks.{startsIn, endsIn, heldIn}
-use Rattle.answer_constructs.specs.declared.chains.Sets.{Sets}
+use Rattle.answer_constructs.specs.declared.kinds.Sets.{Sets}
 use Rattle.masks.specs.declared.unions.Words.{Words}
-use Rattle.answer_pairs.specs.Rules.{kindsOf, profileAt, numbered-same, byRules, bySize, ruleBy, ruledBy, answerBy}
+use Rattle.answer_pairs.specs.Rules.{profileAt, numbered-same, byRules, bySize, ruleBy, ruledBy, answerBy}
 use Rattle.answer_pairs.specs.declared.rules.Profile.{Profile}
 use Rattle.answer_nodes.specs.Shared.{common-of}
 use Rattle.answer_nodes.specs.NodeSets.{SharedFrom, Sharing}
@@ -60,7 +60,7 @@ module _ (closed : List ℕ) (marks : List (List ℕ)) (sets : Sets) (own : Prof
 
   -- a rule's set has it
   abbrev Met : Bool → (ℕ → Bool) → Type 0
-  Met o rule = (k : ℕ) → k < 4 → rule k ≡ (o && common (bitAnd (own .held) (getD (kindsOf sets) k 0)) (profileAt marks x .held))
+  Met o rule = (k : ℕ) → k < 4 → rule k ≡ (o && common (bitAnd (own .held) (getD (sets .kinds) k 0)) (profileAt marks x .held))
 
   row-entry : {s e z : Bool} (rule : ℕ → Bool) → let o = eqb (getD closed x 0) 0 in
       s ≡ (o && common (own .starts) (profileAt marks x .starts)) → e ≡ (o && common (own .ends) (profileAt marks x .ends))
@@ -76,7 +76,7 @@ module _ (closed : List ℕ) (marks : List (List ℕ)) (sets : Sets) (own : Prof
           rw (
             S,
             E,
-            numbered-same 4 rule (ruleBy sets (own .held) y) (λ k l. T k l ∙ meets (own .held) (getD (kindsOf sets) k 0) y),
+            numbered-same 4 rule (ruleBy (sets .kinds) (own .held) y) (λ k l. T k l ∙ meets (own .held) (getD (sets .kinds) k 0) y),
             Z,
             either-meets (own .held) y (sets .missing),
           )
@@ -85,7 +85,7 @@ module _ (closed : List ℕ) (marks : List (List ℕ)) (sets : Sets) (own : Prof
 -- 64 entries, by their numbers before and after the team's size is looked at
 word-row : (closed : List ℕ) (marks : List (List ℕ)) (sets : Sets) (own : Profile) (w : ℕ) (f g : ℕ → ℕ) (s e z : ℕ) (rule : ℕ → ℕ)
     → SharedFrom closed (startsIn marks) (own .starts) (64 * w) s → SharedFrom closed (endsIn marks) (own .ends) (64 * w) e
-    → ((k : ℕ) → k < 4 → SharedFrom closed (heldIn marks) (bitAnd (own .held) (getD (kindsOf sets) k 0)) (64 * w) (rule k))
+    → ((k : ℕ) → k < 4 → SharedFrom closed (heldIn marks) (bitAnd (own .held) (getD (sets .kinds) k 0)) (64 * w) (rule k))
     → SharedFrom closed (heldIn marks) (sets .missing) (64 * w) z
     → ((j : ℕ) → f j ≡ byRules (has (bitAnd s e) j) (λ k. has (rule k) j))
     → ((j : ℕ) → j < 64 → g j ≡ bySize (sets .alone) (common (own .held) (sets .missing) || has z j) (f j))
@@ -114,12 +114,12 @@ phase-word closed marks sets own w s e O S E =
     number : ℕ → ℕ
     number j = 1 - bitAnd s e / 2 ^ j % 2
 
-    kind : (k : ℕ) → k < 4 → SharedFrom closed (heldIn marks) (bitAnd (own .held) (getD (kindsOf sets) k 0)) (64 * w) 0
-    kind k l = none-shared closed (heldIn marks) (64 * w) (bitAnd (own .held) (getD (kindsOf sets) k 0)) (rw (O .holds-none) (and-zero-l (getD (kindsOf sets) k 0)))
+    kind : (k : ℕ) → k < 4 → SharedFrom closed (heldIn marks) (bitAnd (own .held) (getD (sets .kinds) k 0)) (64 * w) 0
+    kind k l = none-shared closed (heldIn marks) (64 * w) (bitAnd (own .held) (getD (sets .kinds) k 0)) (rw (O .holds-none) (and-zero-l (getD (sets .kinds) k 0)))
 
 module _ (closed : List ℕ) (marks : List (List ℕ)) (sets : Sets) (own : Profile) {s e z : Words} {low middle high : List ℕ}
     (S : Sharing closed (startsIn marks) (own .starts) s) (E : Sharing closed (endsIn marks) (own .ends) e)
-    (T : RuleSets closed (heldIn marks) (own .held) (kindsOf sets) low middle high)
+    (T : RuleSets closed (heldIn marks) (own .held) (sets .kinds) low middle high)
     (Z : Sharing closed (heldIn marks) (sets .missing) z) {lacks : Bool} (L : lacks ≡ common (own .held) (sets .missing))
   where
     pub low-row : (p q : Planes) → ((j : ℕ) → digit p j ≡ byRules (has (bitAnd (s .low) (e .low)) j) (λ k. has (getD low k 0) j))

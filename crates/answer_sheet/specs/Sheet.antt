@@ -8,7 +8,7 @@ use lib.Bits.{bitAnd}
 use lib.ListN.{getD}
 use Rattle.masks.specs.declared.unions.Words.{Words}
 use Rattle.answer_constructs.specs.Marks.{startsIn, endsIn}
-use Rattle.answer_constructs.specs.declared.chains.Sets.{Sets}
+use Rattle.answer_constructs.specs.declared.kinds.Sets.{Sets}
 use Rattle.answer_pairs.specs.Rules.{profileAt, answerBy}
 use Rattle.answer_pairs.specs.declared.rules.Profile.{Profile}
 use Rattle.answer_nodes.specs.NodeSets.{SharedFrom, Sharing}

@@ -6,7 +6,7 @@ ghost use lib.Dec.{eqb};
 ghost use lib.ListN.{length, getD};
 ghost use Rattle.lists.specs.Bits.{has};
 ghost use Rattle.answer_constructs.specs.Marks.{heldIn};
-ghost use Rattle.answer_pairs.specs.Rules.{kindsOf, byRules, bySize};
+ghost use Rattle.answer_pairs.specs.Rules.{byRules, bySize};
 ghost use Rattle.answer_nodes.specs.NodeSets.{OfSets};
 ghost use Rattle.answer_sheet.specs.Eights.{Spread, Fence, digit};
 ghost use Rattle.answer_sheet.specs.Sheet.{RowIs, PhaseOnly, PhaseRow, RuleSets};
@@ -15,15 +15,14 @@ use crate::eights::Planes;
 use crate::eights::WORDS;
 use crate::eights::put_phase;
 use crate::eights::put_word;
-use answer_constructs::chains::Sets;
+use answer_constructs::kinds::RULES;
+use answer_constructs::kinds::Sets;
 use answer_constructs::mask_table::ENDS;
 use answer_constructs::mask_table::HELD;
 use answer_constructs::mask_table::STARTS;
 use answer_nodes::NodeSets;
 use answer_nodes::sharing;
 use answer_pairs::rules::Profile;
-use answer_pairs::rules::RULES;
-use answer_pairs::rules::kinds_of;
 use answer_pairs::rules::same;
 use chart::format::Chart;
 use masks::bits::common;
@@ -114,9 +113,9 @@ fn fill_rules(
     high: &mut [u64; RULES],
 )
     requires { ⌜ (length (now low) ≡ 4) × (length (now middle) ≡ 4) × (length (now high) ≡ 4) ⌝ }
-    ensures { λ _. ⌜ OfSets (now (nodes .entry)) (λ closed marks. RuleSets closed (heldIn marks) held (kindsOf sets) (now (low .exit)) (now (middle .exit)) (now (high .exit))) ⌝ }
+    ensures { λ _. ⌜ OfSets (now (nodes .entry)) (λ closed marks. RuleSets closed (heldIn marks) held (sets .kinds) (now (low .exit)) (now (middle .exit)) (now (high .exit))) ⌝ }
 {
-    let kinds = kinds_of(sets);
+    let kinds = sets.kinds;
     let mut k = 0;
     while k < RULES {
         let words = sharing(held & kinds[k], HELD, nodes);

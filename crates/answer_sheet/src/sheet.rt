@@ -17,7 +17,7 @@ use crate::eights::fill_fence;
 use crate::eights::fill_spread;
 use crate::rows::keep_row;
 use crate::rows::work_row;
-use answer_constructs::chains::Sets;
+use answer_constructs::kinds::KindTable;
 use answer_constructs::mask_table::MaskTable;
 use answer_constructs::sizes::sets_for;
 use answer_nodes::SETS;
@@ -75,10 +75,10 @@ pub fn fill_sheet(
     chart: Chart,
     size: Size,
     marks: &MaskTable,
-    kinds: Sets,
+    kinds: &KindTable,
     out: &mut [u8],
 )
-    requires { ⌜ Accepted (now s) chart × Marks (reading (now s) chart) (now marks) kinds × (chart .nodes * chart .nodes ≤ length (now out)) ⌝ }
+    requires { ⌜ Accepted (now s) chart × Marks (reading (now s) chart) (now marks) (now kinds) × (chart .nodes * chart .nodes ≤ length (now out)) ⌝ }
     ensures { λ _.
         let R = reading (now (s .entry)) chart in
         let result = sheet R (answerFor R size) in

@@ -3,10 +3,11 @@
 ghost use mathlib.Core.Path.{_≡_};
 ghost use Rattle.theory_calls.specs.Judged.{judgedFor};
 use answer_claims::list::judge_claims;
+use answer_constructs::kinds::RULES;
 use answer_constructs::mask_table::ROWS;
-use answer_masks::Surveyed;
 use answer_masks::survey;
 use chart::format::Chart;
+use chart::format::Checked;
 use theory_answers::Size;
 use theory_calls::Verdict;
 
@@ -15,8 +16,9 @@ pub fn judge(s: &[u8], region: usize, size: Size, claims: &[u8]) -> Verdict
     ensures { λ r. ⌜ r ≡ judgedFor (now (s .entry)) region size (now (claims .entry)) ⌝ }
 {
     let mut marks = [[0u64; Chart::NODES]; ROWS];
-    match survey(s, region, &mut marks) {
-        Surveyed::Refused(refusal) => Verdict::Refused(refusal),
-        Surveyed::Marked(chart, sets) => judge_claims(s, chart, size, claims, &marks, sets),
+    let mut kinds = [0u64; RULES];
+    match survey(s, region, &mut marks, &mut kinds) {
+        Checked::Refused(refusal) => Verdict::Refused(refusal),
+        Checked::Passed(chart) => judge_claims(s, chart, size, claims, &marks, &kinds),
     }
 }

@@ -7,10 +7,11 @@ ghost use Rattle.call_judge.specs.Two.{numbers, falsePart, falsePlace};
 use crate::number::number_of;
 use crate::parts::false_part;
 use answer_claims::list::judge_claims;
+use answer_constructs::kinds::RULES;
 use answer_constructs::mask_table::ROWS;
-use answer_masks::Surveyed;
 use answer_masks::survey;
 use chart::format::Chart;
+use chart::format::Checked;
 use theory_answers::Size;
 use theory_calls::Verdict;
 
@@ -25,14 +26,15 @@ pub fn judge_both(s: &[u8], region: usize, x: &[u8], y: &[u8]) -> Verdicts
     ensures { λ r. ⌜ (r .first ≡ judged (now (s .entry)) region (now (x .entry))) × (r .second ≡ judged (now (s .entry)) region (now (y .entry))) ⌝ }
 {
     let mut marks = [[0u64; Chart::NODES]; ROWS];
-    match survey(s, region, &mut marks) {
-        Surveyed::Refused(refusal) => Verdicts {
+    let mut kinds = [0u64; RULES];
+    match survey(s, region, &mut marks, &mut kinds) {
+        Checked::Refused(refusal) => Verdicts {
             first: Verdict::Refused(refusal),
             second: Verdict::Refused(refusal),
         },
-        Surveyed::Marked(chart, sets) => {
-            let first = judge_claims(s, chart, Size::Any, x, &marks, sets);
-            let second = judge_claims(s, chart, Size::Any, y, &marks, sets);
+        Checked::Passed(chart) => {
+            let first = judge_claims(s, chart, Size::Any, x, &marks, &kinds);
+            let second = judge_claims(s, chart, Size::Any, y, &marks, &kinds);
             Verdicts { first, second }
         }
     }

@@ -9,14 +9,15 @@ ghost use Rattle.theory_calls.specs.Locks.{locksResult, locksWrittenFor, locksL
 ghost use Rattle.mark_tables.specs.Tables.{Accepted};
 ghost use Rattle.answer_constructs.specs.Marks.{Marks};
 ghost use Rattle.output.specs.Output.{outputRows, writtenBy, leftBy};
-use answer_constructs::chains::Sets;
+use answer_constructs::kinds::KindTable;
+use answer_constructs::kinds::RULES;
 use answer_constructs::mask_table::MaskTable;
 use answer_constructs::mask_table::ROWS;
 use answer_constructs::sizes::room_sized;
 use answer_locks::put_locks;
-use answer_masks::Surveyed;
 use answer_masks::survey;
 use chart::format::Chart;
+use chart::format::Checked;
 use output::Written;
 use theory_answers::Size;
 
@@ -26,10 +27,10 @@ fn write_locks(
     chart: Chart,
     size: Size,
     marks: &MaskTable,
-    sets: Sets,
+    kinds: &KindTable,
     out: &mut [u8],
 ) -> Written
-    requires { ⌜ Accepted (now s) chart × Marks (reading (now s) chart) (now marks) sets ⌝ }
+    requires { ⌜ Accepted (now s) chart × Marks (reading (now s) chart) (now marks) (now kinds) ⌝ }
     ensures { λ r.
         let bytes = length (locksResult (reading (now (s .entry)) chart) size) in
         ⌜ r ≡ writtenBy (outputRows [] (length (now (out .entry))) bytes (sizeRows size)) bytes ⌝ }
@@ -40,7 +41,7 @@ fn write_locks(
     match room_sized(chart.constructs, out.len(), size) {
         Written::Refused(refusal) => Written::Refused(refusal),
         Written::Bytes(bytes) => {
-            put_locks(s, chart, size, marks, sets, out);
+            put_locks(s, chart, size, marks, kinds, out);
             Written::Bytes(bytes)
         }
     }
@@ -52,8 +53,9 @@ pub fn locks(s: &[u8], region: usize, size: Size, out: &mut [u8]) -> Written
     ensures { λ _. ⌜ now (out .exit) ≡ locksLeftFor (now (s .entry)) region size (now (out .entry)) ⌝ }
 {
     let mut marks = [[0u64; Chart::NODES]; ROWS];
-    match survey(s, region, &mut marks) {
-        Surveyed::Refused(refusal) => Written::Refused(refusal),
-        Surveyed::Marked(chart, sets) => write_locks(s, chart, size, &marks, sets, out),
+    let mut kinds = [0u64; RULES];
+    match survey(s, region, &mut marks, &mut kinds) {
+        Checked::Refused(refusal) => Written::Refused(refusal),
+        Checked::Passed(chart) => write_locks(s, chart, size, &marks, &kinds, out),
     }
 }

@@ -8,15 +8,16 @@ ghost use Rattle.theory_answers.specs.Size.{sizeRows};
 ghost use Rattle.mark_tables.specs.Tables.{Accepted};
 ghost use Rattle.answer_constructs.specs.Marks.{Marks};
 ghost use Rattle.theory_calls.specs.Pair.{numbersRow, answered, pairAnsweredFor};
-use answer_constructs::chains::Sets;
+use answer_constructs::kinds::KindTable;
+use answer_constructs::kinds::RULES;
 use answer_constructs::mask_table::MaskTable;
 use answer_constructs::mask_table::ROWS;
 use answer_constructs::sizes::bad_size;
 use answer_constructs::sizes::sets_for;
-use answer_masks::Surveyed;
 use answer_masks::survey;
 use answer_pairs::numbers::bad_node;
 use chart::format::Chart;
+use chart::format::Checked;
 use chart::format::Refusal;
 use theory_answers::Answer;
 use theory_answers::Size;
@@ -28,11 +29,11 @@ fn answer_pair(
     chart: Chart,
     size: Size,
     marks: &MaskTable,
-    sets: Sets,
+    kinds: &KindTable,
     a: usize,
     b: usize,
 ) -> Answered
-    requires { ⌜ Accepted (now s) chart × Marks (reading (now s) chart) (now marks) sets ⌝ }
+    requires { ⌜ Accepted (now s) chart × Marks (reading (now s) chart) (now marks) (now kinds) ⌝ }
     ensures { λ r.
         let R = reading (now (s .entry)) chart in
         ⌜ r ≡ answered (firstOf (numbersRow R a b ∷ sizeRows size)) (answerFor R size a b) ⌝ }
@@ -46,7 +47,7 @@ fn answer_pair(
     if bad_size(size) {
         return Answered::Refused(Refusal::SIZE);
     }
-    let number = answer_pairs::rules::pair(a, b, marks, sets_for(s, chart, size, sets));
+    let number = answer_pairs::rules::pair(a, b, marks, sets_for(s, chart, size, kinds));
     Answered::Answer(Answer { number })
 }
 
@@ -55,8 +56,9 @@ pub fn pair(s: &[u8], region: usize, size: Size, a: usize, b: usize) -> Answered
     ensures { λ r. ⌜ r ≡ pairAnsweredFor (now (s .entry)) region size a b ⌝ }
 {
     let mut marks = [[0u64; Chart::NODES]; ROWS];
-    match survey(s, region, &mut marks) {
-        Surveyed::Refused(refusal) => Answered::Refused(refusal),
-        Surveyed::Marked(chart, sets) => answer_pair(s, chart, size, &marks, sets, a, b),
+    let mut kinds = [0u64; RULES];
+    match survey(s, region, &mut marks, &mut kinds) {
+        Checked::Refused(refusal) => Answered::Refused(refusal),
+        Checked::Passed(chart) => answer_pair(s, chart, size, &marks, &kinds, a, b),
     }
 }

@@ -1,22 +1,23 @@
 // Races as a call on slices (02, Note 9): for all pairs of a list of accesses, whether they race, and whether a lock keeps them apart. What the bytes
 // say about finished runs is in crate `theory_calls`, specs/RacesCorrect.antt.
 ghost use mathlib.Core.Path.{_≡_};
-ghost use mathlib.Core.List.{[], _∷_};
+ghost use mathlib.Core.List.{List, [], _∷_};
+ghost use Prim.Native.Nat.{ℕ};
 ghost use lib.ListN.{length};
 ghost use Rattle.chart.specs.Checked.{reading};
 ghost use Rattle.mark_tables.specs.Tables.{Accepted};
 ghost use Rattle.answer_constructs.specs.Marks.{Marks};
-ghost use Rattle.answer_constructs.specs.declared.chains.Sets.{Sets};
 ghost use Rattle.output.specs.Output.{outputRows, writtenBy, leftBy};
 ghost use Rattle.theory_calls.specs.Access.{accessesRow};
 ghost use Rattle.theory_calls.specs.Races.{races as racesOf, racesWritten, racesLeft};
+use answer_constructs::kinds::RULES;
 use answer_constructs::mask_table::MaskTable;
 use answer_constructs::mask_table::ROWS;
-use answer_masks::Surveyed;
 use answer_masks::survey;
 use answer_races::bytes::put_races;
 use answer_races::list::bad_accesses;
 use chart::format::Chart;
+use chart::format::Checked;
 use chart::format::Refusal;
 use output::Written;
 use output::room_for;
@@ -30,7 +31,7 @@ fn write_races(
     accesses: &[u8],
     out: &mut [u8],
 ) -> Written
-    requires { ⌜ Accepted (now s) chart × ((sets : Sets) × Marks (reading (now s) chart) (now marks) sets) ⌝ }
+    requires { ⌜ Accepted (now s) chart × ((kinds : List ℕ) × Marks (reading (now s) chart) (now marks) kinds) ⌝ }
     ensures { λ r.
         let R = reading (now (s .entry)) chart in
         let list = now (accesses .entry) in
@@ -61,8 +62,9 @@ pub fn races(s: &[u8], region: usize, accesses: &[u8], out: &mut [u8]) -> Writte
     ensures { λ _. ⌜ now (out .exit) ≡ racesLeft (now (s .entry)) region (now (accesses .entry)) (now (out .entry)) ⌝ }
 {
     let mut marks = [[0u64; Chart::NODES]; ROWS];
-    match survey(s, region, &mut marks) {
-        Surveyed::Refused(refusal) => Written::Refused(refusal),
-        Surveyed::Marked(chart, _) => write_races(s, chart, &marks, accesses, out),
+    let mut kinds = [0u64; RULES];
+    match survey(s, region, &mut marks, &mut kinds) {
+        Checked::Refused(refusal) => Written::Refused(refusal),
+        Checked::Passed(chart) => write_races(s, chart, &marks, accesses, out),
     }
 }

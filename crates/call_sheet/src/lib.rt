@@ -10,14 +10,15 @@ ghost use Rattle.mark_tables.specs.Tables.{Accepted};
 ghost use Rattle.answer_constructs.specs.Marks.{Marks};
 ghost use Rattle.output.specs.Output.{outputRows, writtenBy, leftBy};
 ghost use Rattle.theory_calls.specs.Sheet.{sheetWrittenFor, sheetLeftFor};
-use answer_constructs::chains::Sets;
+use answer_constructs::kinds::KindTable;
+use answer_constructs::kinds::RULES;
 use answer_constructs::mask_table::MaskTable;
 use answer_constructs::mask_table::ROWS;
 use answer_constructs::sizes::room_sized;
-use answer_masks::Surveyed;
 use answer_masks::survey;
 use answer_sheet::sheet::fill_sheet;
 use chart::format::Chart;
+use chart::format::Checked;
 use output::Written;
 use theory_answers::Size;
 
@@ -27,10 +28,10 @@ fn write_sheet(
     chart: Chart,
     size: Size,
     marks: &MaskTable,
-    sets: Sets,
+    kinds: &KindTable,
     out: &mut [u8],
 ) -> Written
-    requires { ⌜ Accepted (now s) chart × Marks (reading (now s) chart) (now marks) sets ⌝ }
+    requires { ⌜ Accepted (now s) chart × Marks (reading (now s) chart) (now marks) (now kinds) ⌝ }
     ensures { λ r.
         let R = reading (now (s .entry)) chart in
         let bytes = length (sheetOf R (answerFor R size)) in
@@ -44,7 +45,7 @@ fn write_sheet(
     match room_sized(n * n, out.len(), size) {
         Written::Refused(refusal) => Written::Refused(refusal),
         Written::Bytes(bytes) => {
-            fill_sheet(s, chart, size, marks, sets, out);
+            fill_sheet(s, chart, size, marks, kinds, out);
             Written::Bytes(bytes)
         }
     }
@@ -56,8 +57,9 @@ pub fn sheet(s: &[u8], region: usize, size: Size, out: &mut [u8]) -> Written
     ensures { λ _. ⌜ now (out .exit) ≡ sheetLeftFor (now (s .entry)) region size (now (out .entry)) ⌝ }
 {
     let mut marks = [[0u64; Chart::NODES]; ROWS];
-    match survey(s, region, &mut marks) {
-        Surveyed::Refused(refusal) => Written::Refused(refusal),
-        Surveyed::Marked(chart, sets) => write_sheet(s, chart, size, &marks, sets, out),
+    let mut kinds = [0u64; RULES];
+    match survey(s, region, &mut marks, &mut kinds) {
+        Checked::Refused(refusal) => Written::Refused(refusal),
+        Checked::Passed(chart) => write_sheet(s, chart, size, &marks, &kinds, out),
     }
 }

@@ -90,8 +90,7 @@ returns c =
     let p = spread a in
     let g = given p in
     let e = start g in
-    let (Z, M) = z .sets-for .ensures in
-    locks-put _ (e .args .chart) (e .pre .0) (M _ _ (e .pre .1)) (e .args .size) Z (z .before .load-closed .ensures) (f .close-lacking .ensures) (g .fill-given .ensures)
+    locks-put _ (e .args .chart) (e .pre .0) (e .pre .1) (e .args .size) (z .sets-for .ensures .0) (z .before .load-closed .ensures) (f .close-lacking .ensures) (g .fill-given .ensures)
     (p .spread .ensures) (a .fill-around .ensures .1) (h .search .ensures _ (m .gather-names .ensures)) (a .fill-around .ensures .0) (e .pre .2) (b .put-bytes .ensures)
 
 pub put-found-spec : {M : Type 1} → statement M

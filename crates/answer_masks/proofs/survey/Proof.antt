@@ -9,7 +9,6 @@ use Rattle.mark_tables.proofs.Accepted.{accepted}
 use Rattle.mark_tables.proofs.Rows.{refused-before}
 use Rattle.mark_regions.proofs.Entering.{read-whole, entered-refused}
 use Rattle.mark_regions.proofs.Naming.{refused-first}
-use Rattle.answer_masks.specs.Surveyed.{checkedOf}
 use Rattle.answer_masks.proofs.survey.Statement.{statement}
 use Rattle.answer_masks.proofs.survey.Tie as tie
 
@@ -24,7 +23,7 @@ enum-known-chart c = search needs
 
 survey-region-requires : tie.Need-survey-region-requires
 survey-region-requires c κs =
-    let m = c .before .before .before .before .before in
+    let m = c .before .before .before .before .before .before in
     let k = m .before .before in
     let h = sym (k .check .ensures .0) ∙ m .chart .given .1 in
     ((accepted _ _ h, λ _. h, k .before .before .before .before .pre), k .check .ensures .1 _ (m .chart .given .1))
@@ -32,7 +31,7 @@ survey-region-requires c κs =
 returns : tie.Need-returns
 unfolding countsOf
 returns c =
-    let chosen = c .before .before .before .before in
+    let chosen = c .before .before .before .before .before in
     let m = chosen .before .before in
     let k = m .before .before in
     let e = k .before .before .before .before in
@@ -41,18 +40,18 @@ returns c =
 
 survey-inner-requires : tie.Need-survey-inner-requires
 survey-inner-requires c κs =
-    let left = c .before .before .before in
+    let left = c .before .before .before .before in
     let m = left .before .before in
     let k = m .before .before in
     ((sym (k .check .ensures .0) ∙ m .chart .given .1, left .if1 .left, k .before .before .before .before .pre), k .check .ensures .1 _ (m .chart .given .1))
 
 returns-2 : tie.Need-returns-2
-unfolding checkedOf checkedBy
+unfolding checkedBy
 returns-2 c =
     let k = c .before .before .before in
     let e = k .before .before .before .before in
     let n = refused-before (e .args .s .now) _ (sym (k .check .ensures .0) ∙ c .before .refusal .given .1) in
-    (rw (entered-refused _ _ _ (sym (refused-first (e .args .s .now) (e .args .region) _ n))), λ chart sets q. absurd (bad (cc)))
+    (rw (entered-refused _ _ _ (sym (refused-first (e .args .s .now) (e .args .region) _ n))), λ chart q. absurd (bad (cc)))
 
 returns-3 : tie.Need-returns-3
 returns-3 c = c .survey-inner .ensures

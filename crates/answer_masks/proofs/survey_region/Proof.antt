@@ -13,7 +13,6 @@ use Rattle.mark_tables.proofs.Accepted.{well-formed}
 use Rattle.mark_tables.proofs.Tabling.{blank-none}
 use Rattle.mark_regions.proofs.Entering.{few, not-none, nodes-below, cut-off, connects}
 use Rattle.answer_constructs.proofs.Nodes.{all-marks}
-use Rattle.answer_masks.specs.Surveyed.{checkedOf}
 use Rattle.answer_masks.proofs.survey_region.Statement.{statement}
 use Rattle.answer_masks.proofs.survey_region.Tie as tie
 
@@ -48,7 +47,7 @@ refuses-requires : tie.Need-refuses-requires
 refuses-requires c κs = search needs
 
 returns : tie.Need-returns
-unfolding checkedOf checkedBy
+unfolding checkedBy
 returns c =
     let asked = c .before in
     let l = loaded (asked .before) in
@@ -60,7 +59,7 @@ returns c =
         λ q. rw (cut-off _ _ (start l .pre .0 .1 q) (sym lost ∙ sym (whole q) ∙ c .if1 .taken)),
         λ n. let f = not n in let t = c .if1 .taken in absurd (bad (cc)),
       ),
-      λ chart sets q. absurd (bad (cc)),
+      λ chart q. absurd (bad (cc)),
     )
 
 returns-requires : tie.Need-returns-requires
@@ -79,7 +78,7 @@ fill-held-requires c κs =
     (is-accepted l, found .returns .ensures, rw (start l .pre .0 .2) refl)
 
 returns-2 : tie.Need-returns-2
-unfolding checkedOf checkedBy checked
+unfolding checkedBy checked
 returns-2 c =
     let off = c .before .before .before .before .before .before in
     let asked = off .before in
@@ -100,10 +99,9 @@ returns-2 c =
             rw (admits, counts),
         λ n. refl,
       ),
-      λ chart sets q.
+      λ chart q.
           let a : e .args .chart ≡ chart = cc in
-          let b : c .fill-held .result ≡ sets = cc in
-          rw (← a, ← b) (record {
+          rw (← a) (record {
             accepted = A;
             marked = all-marks _ _ A (e .args .marks .now) _ _ _ (rw (e .pre .0 .2) refl) starts ends (c .fill-held .ensures .1) (c .fill-held .ensures .0);
           }),

@@ -4,7 +4,6 @@ use mathlib.Core.Path.{refl, ap, sym, _∙_}
 use Rattle.chart.specs.Checked.{countsOf, readFor}
 use Rattle.chart.specs.declared.format.Chart.{Chart}
 use Rattle.check_chart.proofs.Outcome.{passed-none, refused-some}
-use Rattle.answer_masks.specs.Surveyed.{checkedOf}
 use Rattle.call_races.proofs.Outcome.{chart-refused, chart-passed}
 use borrow.Author.Needs.{needs}
 use Rattle.call_races.proofs.races.Statement.{statement}
@@ -12,7 +11,7 @@ use Rattle.call_races.proofs.races.Tie as tie
 
 -- where the function was called
 abbrev start : tie.After-survey → tie.Start
-start c = c .before .before .before .before .before
+start c = c .before .before .before .before .before .before
 
 survey-requires : tie.Need-survey-requires
 survey-requires c κs = refl
@@ -26,24 +25,22 @@ enum-known-chart c = search needs
 write-races-requires : tie.Need-write-races-requires
 write-races-requires c κs =
     let m = c .before .before .before in
-    let S = m .before .before .survey .ensures .1 _ _ (m .chart .given .1) in
+    let S = m .before .before .survey .ensures .1 _ (m .chart .given .1) in
     (S .accepted, (_, S .marked))
 
 returns : tie.Need-returns
-unfolding checkedOf
 returns c =
     let k = c .before .before .before in
     let e = start k in
     let s = e .args .s .now in
     let p = e .args .region in
     chart-refused s p (e .args .accesses .now) (e .args .out .now) _
-    (refused-some _ (readFor (countsOf s) p) _ (sym (k .survey .ensures .0) ∙ ap checkedOf (c .before .refusal .given .1)))
+    (refused-some _ (readFor (countsOf s) p) _ (sym (k .survey .ensures .0) ∙ c .before .refusal .given .1))
 
 same-length : tie.Need-same-length
 same-length c = search needs
 
 returns-2 : tie.Need-returns-2
-unfolding checkedOf
 returns-2 c =
     let w = c .before .before in
     let m = w .before .before .before .before in
@@ -51,7 +48,7 @@ returns-2 c =
     let e = start k in
     let s = e .args .s .now in
     let p = e .args .region in
-    let n = passed-none _ (readFor (countsOf s) p) _ (sym (k .survey .ensures .0) ∙ ap checkedOf (m .chart .given .1)) in
+    let n = passed-none _ (readFor (countsOf s) p) _ (sym (k .survey .ensures .0) ∙ m .chart .given .1) in
     chart-passed s p (e .args .accesses .now) (e .args .out .now) (sym (ap (λ (chart : Chart). chart .region) (n .1))) (n .0) (w .write-races .ensures .0) (w .write-races .ensures .1)
 
 pub races-spec : {M : Type 1} → statement M

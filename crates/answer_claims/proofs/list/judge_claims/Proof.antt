@@ -70,8 +70,8 @@ returns-4 c =
     let f = c .before in
     let z = f .before .before in
     let o = z .before in
-    let (Z, M) = f .sets-for .ensures in
-    rw (rest o, z .bad-size .ensures, f .before .if3 .left) (c .first-false .ensures (R o) (start o .args .size) (M _ _ (start o .pre .1)) Z (good o))
+    let (Z, same) = f .sets-for .ensures in
+    rw (rest o, z .bad-size .ensures, f .before .if3 .left) (c .first-false .ensures (R o) (start o .args .size) (rw same (start o .pre .1)) Z (good o))
 
 pub judge-claims-spec : {M : Type 1} → statement M
 judge-claims-spec =

@@ -17,7 +17,7 @@ answer-by-requires c κs = search needs
 returns : tie.Need-returns
 returns c R size M Z la lb =
     let y = c .before in
-    rw (answer-by M size Z _ _ la lb, ← y .profile-of2 .ensures, ← y .before .profile-of .ensures) (c .answer-by .ensures)
+    rw (answer-by _ M size Z _ _ la lb, ← y .profile-of2 .ensures, ← y .before .profile-of .ensures) (c .answer-by .ensures)
 
 pub pair-spec : {M : Type 1} → statement M
 pair-spec = tie.close (tie.spec profile-of-requires profile-of-requires-2 answer-by-requires returns)

@@ -1,11 +1,9 @@
 -- `answer_pairs::rules::ruled_by` meets its contract. The loop's invariant: no rule passed applies.
 -- Assumes nothing.
-use mathlib.Core.Path.{_≡_, refl, sym, _∙_, subst}
+use mathlib.Core.Path.{_≡_, refl, sym, _∙_}
 use mathlib.Core.Bool.{true, false}
-use mathlib.Core.List.{List}
-use Prim.Native.Nat.{ℕ, _-_, _≤_, _<_}
+use Prim.Native.Nat.{_-_, _≤_, _<_}
 use native.Mathlib.Omega.{arith}
-use lib.Bits.{bitAnd}
 use lib.ListN.{getD}
 use borrow.Author.Needs.{needs}
 use borrow.Author.Tests.{not-true, not-false}
@@ -42,9 +40,6 @@ returns-2 : tie.Need-returns-2 Inv-loop μ-loop
 unfolding ruledBy byRules
 returns-2 c = rw (starts-shared (c .before .before), sym (c .before .common2 .ensures) ∙ not-true _ (c .if2 .taken))
 
-kinds-of-requires : tie.Need-kinds-of-requires Inv-loop μ-loop
-kinds-of-requires c κs = tt
-
 loop-holds : tie.Need-loop-holds Inv-loop μ-loop
 unfolding any
 loop-holds c = (omega arith, refl)
@@ -70,13 +65,11 @@ returns-3 c =
     let l = c .before .before .before in
     let e = l .before .before .before .before in
     let a = e .before .before .before .before .args in
-    let f = ruleBy (a .sets) (a .x .held) (a .y .held) in
+    let f = ruleBy (a .sets .kinds) (a .x .held) (a .y .held) in
     let k = l .loop .k in
     let below : k < 4 = omega arith in
-    let is = l .before .kinds-of .ensures in
-    let p : f k ≡ true = subst (λ (t : List ℕ). common (bitAnd (a .x .held) (a .y .held)) (getD t k 0) ≡ true) is (sym (c .before .common3 .ensures) ∙ c .if3 .taken) in
-    let none = subst (λ (t : List ℕ). any k (λ j. common (bitAnd (a .x .held) (a .y .held)) (getD t j 0)) ≡ false) is (l .loop .inv .1) in
-    rw (starts-shared (e .before .before), ends-shared e, at-any 4 f k below p, first-is 4 f k below p none) (omega arith)
+    let p : f k ≡ true = sym (c .before .common3 .ensures) ∙ c .if3 .taken in
+    rw (starts-shared (e .before .before), ends-shared e, at-any 4 f k below p, first-is 4 f k below p (l .loop .inv .1)) (omega arith)
 
 add-k : tie.Need-add-k Inv-loop μ-loop
 add-k c = omega arith
@@ -94,11 +87,8 @@ unfolding ruledBy byRules numbered
 returns-4 c =
     let l = c .before in
     let e = l .before .before .before .before in
-    let a = e .before .before .before .before .args in
     let q : l .loop .k ≡ 4 = omega arith in
-    let none : any 4 (ruleBy (a .sets) (a .x .held) (a .y .held)) ≡ false =
-    subst (λ (t : List ℕ). any 4 (λ j. common (bitAnd (a .x .held) (a .y .held)) (getD t j 0)) ≡ false) (l .before .kinds-of .ensures) (rw q at (l .loop .inv .1)) in
-    rw (starts-shared (e .before .before), ends-shared e, none)
+    rw (starts-shared (e .before .before), ends-shared e, rw q at (l .loop .inv .1))
 
 pub ruled-by-spec : {M : Type 1} → statement M
 ruled-by-spec =
@@ -110,7 +100,6 @@ ruled-by-spec =
     returns
     common-requires-2
     returns-2
-    kinds-of-requires
     loop-holds
     mul-common
     array-read-common

@@ -1,6 +1,6 @@
 -- `answer_sheet::rows::fill_rules` meets its contract. The loop's invariant: the sets of the rules passed are there.
 -- Assumes nothing.
-use mathlib.Core.Path.{_≡_, _∙_, subst}
+use mathlib.Core.Path.{_≡_, _∙_}
 use mathlib.Core.List.{List}
 use Prim.Native.Nat.{ℕ, _*_, _-_, _≤_, _<_}
 use native.Mathlib.Omega.{arith}
@@ -28,9 +28,6 @@ Inv-loop held nodes low₀ middle₀ high₀ kinds k₀ low middle high k =
 
 abbrev μ-loop : tie.MeasureT-loop
 μ-loop held nodes low₀ middle₀ high₀ kinds k₀ low middle high k = 4 - k
-
-kinds-of-requires : tie.Need-kinds-of-requires Inv-loop μ-loop
-kinds-of-requires c κs = tt
 
 loop-holds : tie.Need-loop-holds Inv-loop μ-loop
 loop-holds c =
@@ -80,24 +77,17 @@ loop-again c =
       length-set (v .low) k _ ∙ v .inv .1,
       length-set (v .middle) k _ ∙ v .inv .2,
       length-set (v .high) k _ ∙ v .inv .3,
-      λ closed marks I. stored (Shares (e .held) (l .before .kinds-of .result) closed marks 0) (v .low) k _ (omega (arith, v .inv .1)) (c .sharing .ensures closed marks I .low) (v .inv .4 closed marks I),
-      λ closed marks I. stored (Shares (e .held) (l .before .kinds-of .result) closed marks 1) (v .middle) k _ (omega (arith, v .inv .2)) (c .sharing .ensures closed marks I .middle) (v .inv .5 closed marks I),
-      λ closed marks I. stored (Shares (e .held) (l .before .kinds-of .result) closed marks 2) (v .high) k _ (omega (arith, v .inv .3)) (c .sharing .ensures closed marks I .high) (v .inv .6 closed marks I),
+      λ closed marks I. stored (Shares (e .held) (e .sets .kinds) closed marks 0) (v .low) k _ (omega (arith, v .inv .1)) (c .sharing .ensures closed marks I .low) (v .inv .4 closed marks I),
+      λ closed marks I. stored (Shares (e .held) (e .sets .kinds) closed marks 1) (v .middle) k _ (omega (arith, v .inv .2)) (c .sharing .ensures closed marks I .middle) (v .inv .5 closed marks I),
+      λ closed marks I. stored (Shares (e .held) (e .sets .kinds) closed marks 2) (v .high) k _ (omega (arith, v .inv .3)) (c .sharing .ensures closed marks I .high) (v .inv .6 closed marks I),
     )
-
--- by the masks of the kinds, however they were found
-abbrev Found : ℕ → List ℕ → List (List ℕ) → ℕ → List ℕ → List ℕ → Type 0
-Found held closed marks w sets kinds = (k : ℕ) → k < 4 → Shares held kinds closed marks w k (getD sets k 0)
 
 returns : tie.Need-returns Inv-loop μ-loop
 returns c closed marks I =
-    let l = c .before in
-    let v = l .loop in
-    let held = l .before .before .args .held in
-    let is = l .before .kinds-of .ensures in record {
-      in-low = subst (Found held closed marks 0 (v .low)) is (λ k h. v .inv .4 closed marks I k (omega arith));
-      in-middle = subst (Found held closed marks 1 (v .middle)) is (λ k h. v .inv .5 closed marks I k (omega arith));
-      in-high = subst (Found held closed marks 2 (v .high)) is (λ k h. v .inv .6 closed marks I k (omega arith));
+    let v = c .before .loop in record {
+      in-low = λ k h. v .inv .4 closed marks I k (omega arith);
+      in-middle = λ k h. v .inv .5 closed marks I k (omega arith);
+      in-high = λ k h. v .inv .6 closed marks I k (omega arith);
     }
 
 pub fill-rules-spec : {M : Type 1} → statement M
@@ -106,7 +96,6 @@ fill-rules-spec =
     (tie.spec
     Inv-loop
     μ-loop
-    kinds-of-requires
     loop-holds
     mul-sharing
     array-read-sharing

@@ -1,6 +1,6 @@
 -- `answer_sheet::sheet::fill_sheet` meets its contract. The loop's invariant: the rows passed stand at the front of the buffer.
 -- Assumes nothing.
-use mathlib.Core.Path.{_≡_, refl, ap, sym, _∙_}
+use mathlib.Core.Path.{_≡_, refl, ap, sym, _∙_, subst}
 use Prim.Native.Nat.{ℕ, _+_, _*_, _-_, _≤_, _<_}
 use native.Mathlib.Omega.{arith}
 use native.Mathlib.Nat.{mul-le-mul-right}
@@ -21,12 +21,12 @@ use Rattle.answer_sheet.proofs.sheet.fill_sheet.Statement.{statement}
 use Rattle.answer_sheet.proofs.sheet.fill_sheet.Tie as tie
 
 abbrev Inv-loop : tie.InvT-loop
-Inv-loop s marks out₀ sets closed nodes fence spread last₀ kept₀ n a₀ out last kept a =
+Inv-loop s marks kinds out₀ sets closed nodes fence spread last₀ kept₀ n a₀ out last kept a =
     (a ≤ n) × (length last ≡ 192) × ((j : ℕ) → j < 192 → getD last j 0 ≡ rowOf closed sets marks kept j)
-    × ((R : Region) (size : Size) → R .nodes ≡ n → Marks R marks sets → Sized R size sets → Closed R closed → out ≡ after (entry R (answerFor R size)) (R .nodes) a out₀)
+    × ((R : Region) (size : Size) → R .nodes ≡ n → Marks R marks (sets .kinds) → Sized R size sets → Closed R closed → out ≡ after (entry R (answerFor R size)) (R .nodes) a out₀)
 
 abbrev μ-loop : tie.MeasureT-loop
-μ-loop s marks out₀ sets closed nodes fence spread last₀ kept₀ n a₀ out last kept a = n - a
+μ-loop s marks kinds out₀ sets closed nodes fence spread last₀ kept₀ n a₀ out last kept a = n - a
 
 sets-for-requires : tie.Need-sets-for-requires Inv-loop μ-loop
 sets-for-requires c κs = c .before .before .pre .0
@@ -82,8 +82,8 @@ passed : (l : tie.At-loop Inv-loop μ-loop) → let e = start (l .before) in l .
 passed l =
     let e = start (l .before) in
     let loaded = gathered (l .before) .before .before .before in
-    let (Z, M) = sized loaded .sets-for .ensures in
-    l .loop .inv .3 (read e) (e .args .size) (nodes-length _ (e .args .chart) (e .pre .0 .laid)) (M _ _ (e .pre .1)) Z (loaded .load-closed .ensures)
+    let (Z, same) = sized loaded .sets-for .ensures in
+    l .loop .inv .3 (read e) (e .args .size) (nodes-length _ (e .args .chart) (e .pre .0 .laid)) (subst (Marks (read e) (e .args .marks .now)) (sym same) (e .pre .1)) Z (loaded .load-closed .ensures)
 
 long : (l : tie.At-loop Inv-loop μ-loop) → length (l .loop .out) ≡ length (start (l .before) .args .out .now)
 long l =
@@ -173,7 +173,7 @@ loop-again c =
       next,
       λ R size n M Z C.
           let filled = f .fill-row .ensures R (answerFor R size) (n ∙ sym (part-length (e .args .chart .nodes) _ _ (l .loop .out) (ends i) (room i))) C
-          (λ o j h. next j (omega (arith, n, e .pre .0 .laid .nodes-most, h)) ∙ kept-row M size Z C (l .loop .a) j _ _ (omega (arith, n, i .loop-test .taken)) h (y .keep-row .ensures .1) (p .profile-of .ensures) o)
+          (λ o j h. next j (omega (arith, n, e .pre .0 .laid .nodes-most, h)) ∙ kept-row _ M size Z C (l .loop .a) j _ _ (omega (arith, n, i .loop-test .taken)) h (y .keep-row .ensures .1) (p .profile-of .ensures) o)
           in
           after-more (entry R (answerFor R size)) (R .nodes) (l .loop .a) _ _ (e .args .out .now) (l .loop .out) _ (ap (λ (k : ℕ). l .loop .a * k) (sym n))
           (ends i ∙ ap (λ (k : ℕ). l .loop .a * e .args .chart .nodes + k) (sym n)) (done R size n M Z C) filled,

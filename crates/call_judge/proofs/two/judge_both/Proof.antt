@@ -6,7 +6,6 @@ use Rattle.chart.specs.Checked.{countsOf, readFor}
 use Rattle.chart.specs.declared.format.Chart.{Chart}
 use Rattle.check_chart.proofs.Outcome.{passed-none, refused-some}
 use Rattle.theory_answers.specs.declared.Size.the-variants.{Any}
-use Rattle.answer_masks.specs.Surveyed.{checkedOf}
 use Rattle.call_judge.proofs.Facts.{refused-judged, listed-judged}
 use Rattle.call_judge.proofs.two.judge_both.Statement.{statement}
 use Rattle.call_judge.proofs.two.judge_both.Tie as tie
@@ -22,36 +21,34 @@ enum-known-chart c = search needs
 
 judge-claims-requires : tie.Need-judge-claims-requires
 judge-claims-requires c κs =
-    let m = c .before .before in
-    let S = m .before .before .survey .ensures .1 _ _ (m .chart .given .1) in
+    let m = c .before .before .before in
+    let S = m .before .before .survey .ensures .1 _ (m .chart .given .1) in
     (S .accepted, S .marked)
 
 judge-claims-requires-2 : tie.Need-judge-claims-requires-2
 judge-claims-requires-2 c κs =
-    let m = c .before .before .before .before in
-    let S = m .before .before .survey .ensures .1 _ _ (m .chart .given .1) in
+    let m = c .before .before .before .before .before .before in
+    let S = m .before .before .survey .ensures .1 _ (m .chart .given .1) in
     (S .accepted, S .marked)
 
 returns : tie.Need-returns
-unfolding checkedOf
 returns c =
     let k = c .before .before .before in
-    let e = k .before .before .before .before .before in
+    let e = k .before .before .before .before .before .before in
     let s = e .args .s .now in
     let p = e .args .region in
-    let n = refused-some _ (readFor (countsOf s) p) _ (sym (k .survey .ensures .0) ∙ ap checkedOf (c .before .refusal .given .1)) in
+    let n = refused-some _ (readFor (countsOf s) p) _ (sym (k .survey .ensures .0) ∙ c .before .refusal .given .1) in
     (refused-judged s p Any _ _ n, refused-judged s p Any _ _ n)
 
 returns-2 : tie.Need-returns-2
-unfolding checkedOf
 returns-2 c =
-    let f = c .before .before in
-    let m = f .before .before .before in
+    let f = c .before .before .before in
+    let m = f .before .before .before .before in
     let k = m .before .before in
-    let e = k .before .before .before .before .before in
+    let e = k .before .before .before .before .before .before in
     let s = e .args .s .now in
     let p = e .args .region in
-    let n = passed-none _ (readFor (countsOf s) p) _ (sym (k .survey .ensures .0) ∙ ap checkedOf (m .chart .given .1)) in
+    let n = passed-none _ (readFor (countsOf s) p) _ (sym (k .survey .ensures .0) ∙ m .chart .given .1) in
     let named = sym (ap (λ (chart : Chart). chart .region) (n .1)) in
     (listed-judged s p Any _ _ (n .0) (rw named at (f .judge-claims .ensures)), listed-judged s p Any _ _ (n .0) (rw named at (c .judge-claims2 .ensures)))
 

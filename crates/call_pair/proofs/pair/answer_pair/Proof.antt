@@ -90,8 +90,8 @@ returns-4 c =
     let f = c .before in
     let z = f .before .before in
     let o = z .before in
-    let (Z, M) = f .sets-for .ensures in
-    rw (rest o, z .bad-size .ensures, f .before .if3 .left, ← c .pair .ensures (R (asked o)) (args o .args .size) (M _ _ (args o .pre .1)) Z (below-a o) (below-b o))
+    let (Z, same) = f .sets-for .ensures in
+    rw (rest o, z .bad-size .ensures, f .before .if3 .left, ← c .pair .ensures (R (asked o)) (args o .args .size) (rw same (args o .pre .1)) Z (below-a o) (below-b o))
 
 pub answer-pair-spec : {M : Type 1} → statement M
 answer-pair-spec =

@@ -11,7 +11,6 @@ use Rattle.chart.proofs.Rows.{first-decides}
 use Rattle.check_chart.proofs.Outcome.{passed-none, refused-some}
 use Rattle.theory_paths.specs.Admission.{regionRows}
 use Rattle.theory_answers.specs.Size.{sizeRows}
-use Rattle.answer_masks.specs.Surveyed.{checkedOf}
 use Rattle.theory_calls.specs.Pair.{numbersRow, pairRowsFor, answered, pairAnsweredFor}
 use Rattle.call_pair.proofs.Passed.{pair-passed}
 use Rattle.call_pair.proofs.pair.pair.Statement.{statement}
@@ -28,29 +27,28 @@ enum-known-chart c = search needs
 
 answer-pair-requires : tie.Need-answer-pair-requires
 answer-pair-requires c κs =
-    let m = c .before .before in
-    let S = m .before .before .survey .ensures .1 _ _ (m .chart .given .1) in
+    let m = c .before .before .before in
+    let S = m .before .before .survey .ensures .1 _ (m .chart .given .1) in
     (S .accepted, S .marked)
 
 returns : tie.Need-returns
-unfolding pairAnsweredFor pairRowsFor answered checkedOf
+unfolding pairAnsweredFor pairRowsFor answered
 returns c =
     let k = c .before .before .before in
-    let e = k .before .before .before in
+    let e = k .before .before .before .before in
     let s = e .args .s .now in
     let p = e .args .region in
-    let n = refused-some _ (readFor (countsOf s) p) _ (sym (k .survey .ensures .0) ∙ ap checkedOf (c .before .refusal .given .1)) in
+    let n = refused-some _ (readFor (countsOf s) p) _ (sym (k .survey .ensures .0) ∙ c .before .refusal .given .1) in
     rw (first-decides (regionRows s p) (numbersRow (regionOf p (decode s)) (e .args .a) (e .args .b) ∷ sizeRows (e .args .size)) _ n)
 
 returns-2 : tie.Need-returns-2
-unfolding checkedOf
 returns-2 c =
-    let m = c .before .before .before in
+    let m = c .before .before .before .before in
     let k = m .before .before in
-    let e = k .before .before .before in
+    let e = k .before .before .before .before in
     let s = e .args .s .now in
     let p = e .args .region in
-    let n = passed-none _ (readFor (countsOf s) p) _ (sym (k .survey .ensures .0) ∙ ap checkedOf (m .chart .given .1)) in
+    let n = passed-none _ (readFor (countsOf s) p) _ (sym (k .survey .ensures .0) ∙ m .chart .given .1) in
     let named = sym (ap (λ (chart : Chart). chart .region) (n .1)) in
     pair-passed s p _ named (n .0) (e .args .size) (e .args .a) (e .args .b) (c .answer-pair .ensures)
 
