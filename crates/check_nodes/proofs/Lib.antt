@@ -1,4 +1,5 @@
 pub mod Alone
 pub mod Outer
 pub mod Counted
+pub mod Ones
 pub mod Framing

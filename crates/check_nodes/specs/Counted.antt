@@ -13,7 +13,3 @@ use Rattle.chart.specs.Format.{Decoded, nodeAt}
 pub record Counted (D : Decoded) (passes : ℕ → Bool) (n : ℕ) (found : List ℕ) : Type 0 where
   pub long : length found ≡ 256
   pub at : (c : ℕ) → getD found c 0 ≡ count n (λ x. passes (nodeAt (D .nodes) x .kind) && eqb (nodeAt (D .nodes) x .number) c)
-
--- The test of one kind.
-abbrev pub isFrame : ℕ → ℕ → Bool
-isFrame want kind = eqb kind want

@@ -1,16 +1,16 @@
--- Where the constructs begin and end, as the count of row 7 finds it.
+-- Where the constructs begin and end, as row 7 finds it.
 -- Assumes nothing.
 use mathlib.Core.Path.{_≡_}
-use mathlib.Core.Bool.{_&&_, cond}
+use mathlib.Core.Logic.{_⊎_, _≢_}
+use mathlib.Core.Bool.{Bool}
 use mathlib.Core.List.{List}
-use Prim.Native.Nat.{ℕ, _+_, _<_}
-use lib.Dec.{eqb}
-use lib.ListN.{length, getD, set}
+use Prim.Native.Nat.{ℕ, _+_, _*_, _%_, _<_}
+use lib.Dec.{eqb, leb}
+use lib.ListN.{length, getD}
+use Rattle.lists.specs.Range.{any, count}
 use Rattle.chart.specs.Format.{Decoded, nodeAt}
 use Rattle.chart.specs.Scope.{beginNode, endNode}
 use Rattle.chart.specs.Reading.{frameOf}
-use Rattle.chart.proofs.Facts.{FrameAt}
-use Rattle.check_nodes.specs.Counted.{Counted, isFrame}
 
 -- For each construct its node of a kind, begin or end.
 pub record Framed (D : Decoded) (kind : ℕ) (frames : List ℕ) : Type 0 where
@@ -22,25 +22,28 @@ pub record Framed (D : Decoded) (kind : ℕ) (frames : List ℕ) : Type 0 where
 abbrev pub BothFramed : Decoded → List ℕ → List ℕ → Type 0
 BothFramed D begins ends = Framed D beginNode begins × Framed D endNode ends
 
--- Counts and places that one node more can be noted in.
-pub record Room (found places : List ℕ) : Type 0 where
-  pub numbers : length found ≡ 256
-  pub few : (c : ℕ) → getD found c 0 < 192
-  pub constructs : length places ≡ 64
+-- Where a node is noted, by its kind and number: a row of 64 places for each kind.
+abbrev pub placeOf : Decoded → ℕ → ℕ
+placeOf D x = nodeAt (D .nodes) x .kind * 64 + nodeAt (D .nodes) x .number % 64
 
--- One node more, by its kind and number: where it is of the kind that is wanted, it is counted, and x is its number's place.
-pub record Turn (want kind number x : ℕ) (found places found′ places′ : List ℕ) : Type 0 where
-  pub long : length found′ ≡ 256
-  pub counts : (c : ℕ) → getD found′ c 0 ≡ getD found c 0 + cond (isFrame want kind && eqb number c) 1 0
-  pub place : places′ ≡ cond (isFrame want kind) (set places number x) places
+-- In place of a node, that none was noted.
+abbrev pub notNoted : ℕ
+notNoted = 255
 
--- The nodes of a kind among the first x. A number may have several of them as yet: its place is one of them.
-pub record Noted (D : Decoded) (kind x : ℕ) (found places : List ℕ) : Type 0 where
-  pub counted : Counted D (isFrame kind) x found
-  pub long : length places ≡ 64
-  pub node : (c : ℕ) → getD places c 0 < 192
-  pub at : (c y : ℕ) → y < x → FrameAt (D .nodes) kind c y → (getD places c 0 < x) × FrameAt (D .nodes) kind c (getD places c 0)
+-- The node of this kind that was noted for construct c.
+abbrev pub notedAt : ℕ → List ℕ → ℕ → ℕ
+notedAt kind noted c = getD noted (kind * 64 + c) 0
 
--- The begins among the first x, and the ends.
-abbrev pub BothNoted : Decoded → ℕ → List ℕ → List ℕ → List ℕ → List ℕ → Type 0
-BothNoted D x begun ended begins ends = Noted D beginNode x begun begins × Noted D endNode x ended ends
+-- Some of the first n constructs has no node of this kind noted.
+abbrev pub lacking : ℕ → ℕ → List ℕ → Bool
+lacking kind n noted = any n (λ c. eqb (notedAt kind noted c) notNoted)
+
+-- What stands in a place when the first x nodes are noted: one of those whose place it is, or, where there are none, that none was noted.
+abbrev pub Stands : Decoded → ℕ → ℕ → ℕ → Type 0
+Stands D x place v = ((v < x) × (placeOf D v ≡ place)) ⊎ ((v ≡ notNoted) × ((y : ℕ) → y < x → placeOf D y ≢ place))
+
+-- The first x nodes, and how many of them are begins and ends.
+pub record Noted (D : Decoded) (x : ℕ) (noted : List ℕ) (frames : ℕ) : Type 0 where
+  pub long : length noted ≡ 256
+  pub at : (place : ℕ) → place < 256 → Stands D x place (getD noted place 0)
+  pub counted : frames ≡ count x (λ y. leb beginNode (nodeAt (D .nodes) y .kind))

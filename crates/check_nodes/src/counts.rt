@@ -1,22 +1,24 @@
-// Rows 7 and 8 of the refusals: nodes are counted by their kinds and numbers.
+// Rows 7 and 8 of the refusals: nodes are noted and counted by their kinds and numbers.
 ghost use mathlib.Core.Path.{_≡_};
-ghost use mathlib.Core.Bool.{false, _&&_, not, cond};
+ghost use mathlib.Core.Bool.{false, _&&_, cond};
 ghost use Prim.Native.Nat.{ℕ, _+_, _≤_, _<_};
 ghost use lib.Dec.{eqb, leb};
-ghost use lib.ListN.{getD, length};
+ghost use lib.ListN.{getD, length, replicate};
 ghost use Rattle.lists.specs.Range.{any, count};
+ghost use Rattle.lists.specs.Store.{Written};
 ghost use Rattle.chart.specs.Format.{outside, decode};
-ghost use Rattle.chart.specs.Scope.{barrierNode, beginNode, endNode};
+ghost use Rattle.chart.specs.Scope.{barrierNode};
 ghost use Rattle.chart.specs.Nested.{isParallel};
 ghost use Rattle.chart.specs.Refusal.{badNodes, badFrames, barrierOf, tooManyIn, badBarriers};
 ghost use Rattle.chart.specs.Checked.{Laid};
 ghost use Rattle.check_nodes.specs.Counted.{Counted};
-ghost use Rattle.check_nodes.specs.Framed.{Room, Turn, BothNoted, BothFramed};
+ghost use Rattle.check_nodes.specs.Framed.{notNoted, notedAt, lacking, Noted, BothFramed};
 use chart::cursor::wide;
 use chart::format::Chart;
 use chart::format::Construct;
 use chart::format::Frames;
 use chart::format::Node;
+use masks::bits::either;
 
 // How many numbers a node may have.
 const NUMBERS: usize = 256;
@@ -32,71 +34,51 @@ fn count_if(holds: bool, number: u8, found: &mut [u8; NUMBERS])
     }
 }
 
-// Where the node is of this kind, it counts for its number, and x is noted as the number's place.
-fn note_frame(node: Node, kind: u8, x: usize, found: &mut [u8; NUMBERS], places: &mut Frames)
-    requires { ⌜ (x < 192) × (node .kind ≡ kind → node .number < 64) × Room (now found) (now places) ⌝ }
-    ensures { λ _. ⌜ Turn kind (node .kind) (node .number) x (now (found .entry)) (now (places .entry)) (now (found .exit)) (now (places .exit)) ⌝ }
-{
-    if node.kind == kind {
-        let c = wide(node.number);
-        found[c] += 1;
-        places[c] = (x % 256) as u8;
-    }
-}
+// The nodes by their kinds and numbers: a row of 64 places for each of the four kinds. A node with the number 255 comes to the last place of
+// its row, which is no construct's.
+type NodeTable = [u8; PLACES];
 
-// A begin or an end is noted; of any other node the kind alone is asked.
-fn count_frame(
-    node: Node,
-    x: usize,
-    begun: &mut [u8; NUMBERS],
-    ended: &mut [u8; NUMBERS],
-    begins: &mut Frames,
-    ends: &mut Frames,
-)
-    requires { ⌜ (x < 192) × (beginNode ≤ node .kind → node .number < 64) × Room (now begun) (now begins) × Room (now ended) (now ends) ⌝ }
-    ensures { λ _. ⌜ Turn beginNode (node .kind) (node .number) x (now (begun .entry)) (now (begins .entry)) (now (begun .exit)) (now (begins .exit)) ⌝ }
-    ensures { λ _. ⌜ Turn endNode (node .kind) (node .number) x (now (ended .entry)) (now (ends .entry)) (now (ended .exit)) (now (ends .exit)) ⌝ }
-{
-    if Node::BEGIN <= node.kind {
-        note_frame(node, Node::BEGIN, x, begun, begins);
-        note_frame(node, Node::END, x, ended, ends);
-    }
-}
+const PLACES: usize = 4 * Construct::FRAMES;
 
-// How many begins and how many ends each construct has, and where they stand.
-fn count_frames(
-    s: &[u8],
-    chart: Chart,
-    begun: &mut [u8; NUMBERS],
-    ended: &mut [u8; NUMBERS],
-    begins: &mut Frames,
-    ends: &mut Frames,
-)
-    requires { ⌜ Laid (now s) chart × (badNodes (decode (now s)) ≡ false) ⌝ }
-    requires { ⌜ BothNoted (decode (now s)) 0 (now begun) (now ended) (now begins) (now ends) ⌝ }
-    ensures { λ _. ⌜ BothNoted (decode (now (s .entry))) (chart .nodes) (now (begun .exit)) (now (ended .exit)) (now (begins .exit)) (now (ends .exit)) ⌝ }
+// In place of a node, that none was noted.
+const NOT_NOTED: u8 = 255;
+
+// Each node is noted in its place, of several the last there; how many are begins and ends. No turn branches: of which kind the next node is
+// cannot be foreseen.
+fn note_nodes(s: &[u8], chart: Chart, noted: &mut NodeTable) -> usize
+    requires { ⌜ Laid (now s) chart × (badNodes (decode (now s)) ≡ false) × (now noted ≡ replicate 256 notNoted) ⌝ }
+    ensures { λ r. ⌜ Noted (decode (now (s .entry))) (chart .nodes) (now (noted .exit)) r ⌝ }
 {
     let n = chart.nodes;
+    let mut frames = 0;
     let mut x = 0;
     while x < n {
-        count_frame(Node::read(s, chart, x), x, begun, ended, begins, ends);
+        let node = Node::read(s, chart, x);
+        let kind = wide(node.kind);
+        // 1 for a begin and an end, else 0
+        frames += kind / 2;
+        noted[kind * Construct::FRAMES + wide(node.number) % Construct::FRAMES] = (x % 256) as u8;
         x += 1;
     }
+    frames
 }
 
-// Whether one of the first c counts is not 1.
-fn not_ones(found: &[u8; NUMBERS], c: usize) -> bool
-    requires { ⌜ (c ≤ 48) × (length (now found) ≡ 256) ⌝ }
-    ensures { λ r. ⌜ r ≡ any c (λ k. not (eqb (getD (now (found .entry)) k 0) 1)) ⌝ }
+// The node of this kind of each construct, as noted, and whether some construct has none.
+fn take_frames(noted: &NodeTable, kind: u8, constructs: usize, frames: &mut Frames) -> bool
+    requires { ⌜ (kind ≤ 3) × (constructs ≤ 48) × (length (now noted) ≡ 256) × (now frames ≡ replicate 64 0) ⌝ }
+    ensures { λ r. ⌜ r ≡ lacking kind constructs (now (noted .entry)) ⌝ }
+    ensures { λ _. ⌜ Written (notedAt kind (now (noted .entry))) constructs (now (frames .exit)) ⌝ }
 {
-    let mut k = 0;
-    while k < c {
-        if found[k] != 1 {
-            return true;
-        }
-        k += 1;
+    let row = wide(kind) * Construct::FRAMES;
+    let mut lacks = false;
+    let mut c = 0;
+    while c < constructs {
+        let node = noted[row + c];
+        frames[c] = node;
+        lacks = either(lacks, node == NOT_NOTED);
+        c += 1;
     }
-    false
+    lacks
 }
 
 // Row 7, and for each construct its begin and its end where the row does not apply. Without constructs there is none that could lack a frame.
@@ -110,14 +92,15 @@ pub fn bad_frames(s: &[u8], chart: Chart, begins: &mut Frames, ends: &mut Frames
     if chart.constructs == 0 {
         return false;
     }
-    let mut begun = [0u8; NUMBERS];
-    let mut ended = [0u8; NUMBERS];
-    count_frames(s, chart, &mut begun, &mut ended, begins, ends);
+    let mut noted = [NOT_NOTED; PLACES];
+    let frames = note_nodes(s, chart, &mut noted);
     let c = chart.constructs;
-    if not_ones(&begun, c) {
+    if frames != 2 * c {
         return true;
     }
-    not_ones(&ended, c)
+    let no_begin = take_frames(&noted, Node::BEGIN, c, begins);
+    let no_end = take_frames(&noted, Node::END, c, ends);
+    either(no_begin, no_end)
 }
 
 // What a node counts for the outermost region: one if it is a barrier there.
