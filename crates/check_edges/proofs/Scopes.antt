@@ -20,6 +20,7 @@ use Rattle.chart.specs.Reading.{frameOf}
 use Rattle.chart.specs.Refusal.{badNodes, badEdge, rises}
 use Rattle.chart.proofs.Facts.{FrameAt, OneFrame, isFrame, frame-is, is-frame, nodes-fit, frame-construct}
 use Rattle.chart.proofs.Reading.{Frame, begin, end}
+use Rattle.chart.proofs.Tables.{in-chart}
 use Rattle.chart.proofs.Scopes.{byteOf, frame-byte, lies-number, lies-parent, scope-own, scope-other}
 use Rattle.check_edges.specs.Tables.{noLeaving, noArriving, ScopesOf, FilledTo, ScopeTable, EdgeScopes}
 
@@ -102,26 +103,31 @@ found-node nodes kind c one =
     let p = first-passes (length nodes) test (at-any (length nodes) test (one .node) (one .below) (frame-is nodes kind c (one .node) (one .there))) in
     one .only _ (p .0) (is-frame nodes kind c _ (p .1))
 
+-- x is the one node of this kind, begin or end, that construct c has
+module _ (D : Decoded) {kind c x : ℕ} (frame : beginNode ≤ kind) (one : OneFrame (D .nodes) kind c) (h : x ≡ frameOf (D .nodes) kind c) where
+  here : x ≡ one .node
+  here = h ∙ found-node (D .nodes) kind c one
+
+  frame-in : x < length (D .nodes)
+  frame-in = rw here (one .below)
+
+  pub frame-there : FrameAt (D .nodes) kind c x
+  frame-there = rw here (one .there)
+
+  pub frame-else : (y : ℕ) → y ≢ x → FilledTo D kind (c + 1) y → FilledTo D kind c y
+  frame-else y d q g = elim (ℕ-discrete (nodeAt (D .nodes) y .number) c) [
+    | yes z ↦ absurd (d (one .only y (in-chart D y (omega arith)) (g, z) ∙ sym here))
+    | no z ↦ omega (arith, q g)
+  ]
+
 -- one construct more: its parent is stored at its node of the other kind
 pub filled-more : (f : Frame) {none n c x v : ℕ} {D : Decoded} {table : List ℕ} → length (D .nodes) ≡ n → n < 256 → OneFrame (D .nodes) (byteOf (other f)) c → x ≡ frameOf (D .nodes) (byteOf (other f)) c
     → ScopesOf (FilledTo D (byteOf (other f)) c) (byteOf f) none D n table → v ≡ parentOf (D .constructs) c → v < 256
     → ScopesOf (FilledTo D (byteOf (other f)) (c + 1)) (byteOf f) none D n (set table x v)
-filled-more f {n = n} {c = c} {x = x} {D = D} e l one h T v = stored (omega (arith, below)) (omega (arith, below)) (omega arith) (λ y k q. k) T older (λ q. v ∙ sym (other-scope f D x c there))
-  where
-    here : x ≡ one .node
-    here = h ∙ found-node (D .nodes) (byteOf (other f)) c one
-
-    below : x < length (D .nodes)
-    below = rw here (one .below)
-
-    there : FrameAt (D .nodes) (byteOf (other f)) c x
-    there = rw here (one .there)
-
-    older : (y : ℕ) → y < n → y ≢ x → FilledTo D (byteOf (other f)) (c + 1) y → FilledTo D (byteOf (other f)) c y
-    older y k d q g = elim (ℕ-discrete (nodeAt (D .nodes) y .number) c) [
-      | yes z ↦ absurd (d (one .only y (omega arith) (g, z) ∙ sym here))
-      | no z ↦ omega (arith, q g)
-    ]
+filled-more f {c = c} {x = x} {D = D} e l one h T v =
+    let b = frame-byte (other f) in
+    let below = frame-in D b one h in
+    stored (omega (arith, below)) (omega (arith, below)) (omega arith) (λ y k q. k) T (λ y k d. frame-else D b one h y d) (λ q. v ∙ sym (other-scope f D x c (frame-there D b one h)))
 
 pub filled-all : (f : Frame) {none n c : ℕ} {D : Decoded} {table : List ℕ} → badNodes D ≡ false → length (D .nodes) ≡ n → length (D .constructs) ≤ c
     → ScopesOf (FilledTo D (byteOf (other f)) c) (byteOf f) none D n table → ScopeTable (byteOf f) none D table

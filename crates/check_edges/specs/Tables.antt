@@ -1,14 +1,14 @@
 -- What the checks note of a chart's nodes: their scopes, and two tables of these that tell row 9 of one edge by itself.
 -- Assumes nothing.
 use mathlib.Core.Path.{_≡_}
-use mathlib.Core.Bool.{Bool, false, not}
+use mathlib.Core.Bool.{Bool, false, not, cond}
 use mathlib.Core.List.{List}
 use Prim.Native.Nat.{ℕ, _≤_, _<_}
 use lib.Dec.{eqb}
 use lib.ListN.{length, getD}
 use Rattle.chart.specs.Format.{Decoded, decode, nodeAt, edgeAt}
 use Rattle.chart.specs.Scope.{beginNode, endNode, scopeAt}
-use Rattle.chart.specs.Refusal.{badNodes, badFrames, badEdge}
+use Rattle.chart.specs.Refusal.{badNodes, badFrames, badEdge, framesSection}
 use Rattle.chart.specs.Checked.{Laid}
 use Rattle.chart.specs.declared.format.Chart.{Chart}
 use Rattle.check_nodes.specs.Framed.{Framed}
@@ -44,6 +44,12 @@ pub record ScopeTable (own none : ℕ) (D : Decoded) (table : List ℕ) : Type 0
 abbrev pub FramesKnown : List ℕ → Chart → List ℕ → List ℕ → Type 0
 FramesKnown s chart begins ends =
     Laid s chart × (badNodes (decode s) ≡ false) × (badFrames (decode s) ≡ false) × Framed (decode s) beginNode begins × Framed (decode s) endNode ends
+
+-- For each byte whether the node of that number frames a section, as its begin or its end by `kind`: 1 or 0, when the first c constructs are
+-- noted.
+pub record SectionsTo (D : Decoded) (kind c : ℕ) (table : List ℕ) : Type 0 where
+  pub long : length table ≡ 256
+  pub at : (x : ℕ) → x < 256 → FilledTo D kind c x → getD table x 0 ≡ cond (framesSection D kind x) 1 0
 
 -- Row 9 of edge i by itself.
 abbrev pub badByItself : Decoded → ℕ → Bool

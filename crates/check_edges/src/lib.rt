@@ -1,14 +1,14 @@
 // Row 9 of the refusals, over the edges.
 ghost use mathlib.Core.Path.{_≡_};
 ghost use mathlib.Core.Bool.{true, false};
-ghost use Prim.Native.Nat.{_+_, _*_, _-_, _≤_, _<_};
+ghost use Prim.Native.Nat.{_+_, _*_, _-_, _<_};
 ghost use lib.ListN.{length};
 ghost use Rattle.lists.specs.Range.{any};
 ghost use Rattle.chart.specs.Format.{decode};
 ghost use Rattle.chart.specs.Scope.{beginNode, endNode, scopeAt};
-ghost use Rattle.chart.specs.Refusal.{badNodes, rises, badEdgeAt, framesSection, joinsSections, badEdges};
+ghost use Rattle.chart.specs.Refusal.{badNodes, rises, badEdgeAt, joinsSections, badEdges};
 ghost use Rattle.chart.specs.Checked.{Laid};
-ghost use Rattle.check_edges.specs.Tables.{noLeaving, noArriving, ScopesOf, FilledTo, ScopeTable, EdgeScopes, FramesKnown, badByItself};
+ghost use Rattle.check_edges.specs.Tables.{noLeaving, noArriving, ScopesOf, FilledTo, ScopeTable, EdgeScopes, FramesKnown, SectionsTo, badByItself};
 use chart::cursor::wide;
 use chart::format::Chart;
 use chart::format::Construct;
@@ -139,44 +139,50 @@ fn bad_edges_by(s: &[u8], chart: Chart, leave: &[u16; BYTES], arrive: &[u16; BYT
     false
 }
 
-// Whether node x, of kind `kind`, a begin or an end, frames a section.
-fn frames_section(s: &[u8], chart: Chart, x: u8, kind: u8) -> bool
-    requires { ⌜ Laid (now s) chart × (badNodes (decode (now s)) ≡ false) × (x < chart .nodes) × (beginNode ≤ kind) ⌝ }
-    ensures { λ r. ⌜ r ≡ framesSection (decode (now (s .entry))) kind x ⌝ }
+// Which nodes are the end of a section, and which the begin, as 1 or 0: by constructs, as most nodes are neither.
+fn mark_sections(
+    s: &[u8],
+    chart: Chart,
+    begins: &Frames,
+    ends: &Frames,
+    from: &mut [u8; BYTES],
+    to: &mut [u8; BYTES],
+)
+    requires { ⌜ FramesKnown (now s) chart (now begins) (now ends) ⌝ }
+    ensures { λ _.
+        let D = decode (now (s .entry)) in
+        ⌜ SectionsTo D endNode (chart .constructs) (now (from .exit)) × SectionsTo D beginNode (chart .constructs) (now (to .exit)) ⌝ }
 {
-    let node = Node::read(s, chart, wide(x));
-    if node.kind != kind {
-        return false;
+    *from = [0u8; BYTES];
+    *to = [0u8; BYTES];
+    let n = chart.constructs;
+    let mut c = 0;
+    while c < n {
+        let section = (Construct::read(s, chart, c).kind == Construct::SECTION) as u8;
+        from[wide(ends[c])] = section;
+        to[wide(begins[c])] = section;
+        c += 1;
     }
-    Construct::read(s, chart, wide(node.number)).kind == Construct::SECTION
 }
 
-// Whether edge i leads from a section's end to a section's begin.
-fn joins_sections_at(s: &[u8], chart: Chart, i: usize) -> bool
-    requires { ⌜ Laid (now s) chart × (badNodes (decode (now s)) ≡ false) × (i < chart .edges) × (badEdgeAt (decode (now s)) i ≡ false) ⌝ }
-    ensures { λ r. ⌜ r ≡ joinsSections (decode (now (s .entry))) i ⌝ }
-{
-    let edge = Edge::read(s, chart, i);
-    if !frames_section(s, chart, edge.from, Node::END) {
-        return false;
-    }
-    frames_section(s, chart, edge.to, Node::BEGIN)
-}
-
-// Row 9 for sections, over edges that are in order otherwise.
-fn joins_sections(s: &[u8], chart: Chart) -> bool
-    requires { ⌜ Laid (now s) chart × (badNodes (decode (now s)) ≡ false) × (any (length (decode (now s) .edges)) (badEdgeAt (decode (now s))) ≡ false) ⌝ }
+// Row 9 for sections: whether some edge leads from a section's end to a section's begin. No turn branches on what it reads: on a chart
+// that was not seen before such a branch is mispredicted.
+fn joins_sections(s: &[u8], chart: Chart, begins: &Frames, ends: &Frames) -> bool
+    requires { ⌜ FramesKnown (now s) chart (now begins) (now ends) ⌝ }
     ensures { λ r. ⌜ r ≡ any (length (decode (now (s .entry)) .edges)) (joinsSections (decode (now (s .entry)))) ⌝ }
 {
+    let mut from = [0u8; BYTES];
+    let mut to = [0u8; BYTES];
+    mark_sections(s, chart, begins, ends, &mut from, &mut to);
     let e = chart.edges;
+    let mut found = 0u8;
     let mut i = 0;
     while i < e {
-        if joins_sections_at(s, chart, i) {
-            return true;
-        }
+        let edge = Edge::read(s, chart, i);
+        found = found | (from[wide(edge.from)] & to[wide(edge.to)]);
         i += 1;
     }
-    false
+    found != 0
 }
 
 // Row 9 but for sections. The order is asked of all edges at once, so that one comparison of scopes is all that is left of each, and it is
@@ -212,5 +218,5 @@ pub fn bad_edges(s: &[u8], chart: Chart, begins: &Frames, ends: &Frames) -> bool
     if !Construct::occurs(s, chart, Construct::SECTION) {
         return false;
     }
-    joins_sections(s, chart)
+    joins_sections(s, chart, begins, ends)
 }

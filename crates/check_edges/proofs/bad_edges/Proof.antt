@@ -42,10 +42,7 @@ returns-3 c =
     rw (passed l) (sym (no-joins (decode s) (sym (c .before .occurs .ensures) ∙ not-true _ (c .if3 .taken))))
 
 joins-sections-requires : tie.Need-joins-sections-requires
-joins-sections-requires c κs =
-    let l = c .before .before in
-    let e = l .before .before .before .before .before in
-    (e .pre .0, e .pre .1, passed l)
+joins-sections-requires c κs = search needs
 
 returns-4 : tie.Need-returns-4
 unfolding badEdges

@@ -1,40 +1,46 @@
--- `check_edges::joins_sections` meets its contract.
+-- `check_edges::joins_sections` meets its contract: after i turns the first i edges are asked.
 -- Assumes nothing.
-use mathlib.Core.Bool.{false}
-use mathlib.Core.Path.{_≡_, refl, sym, ap, _∙_}
+use mathlib.Core.Bool.{cond}
+use mathlib.Core.Path.{_≡_, refl, ap, _∙_}
 use Prim.Native.Nat.{ℕ, _≤_, _-_}
 use native.Mathlib.Omega.{arith}
 use lib.ListN.{length}
-use Rattle.lists.specs.Range.{any, at-any, any-more, none-passes}
+use borrow.Author.Needs.{needs}
+use Rattle.lists.specs.Range.{any}
 use Rattle.chart.specs.Format.{decode}
-use Rattle.chart.specs.Refusal.{badEdgeAt, joinsSections}
-use Rattle.chart.proofs.Records.{edges-length}
+use Rattle.chart.specs.Refusal.{joinsSections}
+use Rattle.chart.proofs.Records.{edges-length, constructs-length}
+use Rattle.check_edges.proofs.Sections.{flag-asks, joins-more}
 use Rattle.check_edges.proofs.joins_sections.Statement.{statement}
 use Rattle.check_edges.proofs.joins_sections.Tie as tie
 
 abbrev Inv-loop : tie.InvT-loop
-Inv-loop s chart e i₀ i = (i ≤ chart .edges) × (any i (joinsSections (decode s)) ≡ false)
+Inv-loop s chart begins ends from to e found₀ i₀ found i = (i ≤ chart .edges) × (found ≡ cond (any i (joinsSections (decode s))) 1 0)
 
 abbrev μ-loop : tie.MeasureT-loop
-μ-loop s chart e i₀ i = chart .edges - i
+μ-loop s chart begins ends from to e found₀ i₀ found i = chart .edges - i
+
+mark-sections-requires : tie.Need-mark-sections-requires Inv-loop μ-loop
+mark-sections-requires c κs = search needs
 
 loop-holds : tie.Need-loop-holds Inv-loop μ-loop
 unfolding any
 loop-holds c = (omega arith, refl)
 
-joins-sections-at-requires : tie.Need-joins-sections-at-requires Inv-loop μ-loop
-joins-sections-at-requires c κs =
-    let l = c .before in
-    let e = l .before .before in
-    let i = l .loop .i in
-    let good = none-passes _ (badEdgeAt (decode (e .args .s .now))) (e .pre .2) i (omega (arith, edges-length _ (e .args .chart) (e .pre .0))) in
-    (e .pre .0, e .pre .1, omega arith, good)
+read-requires : tie.Need-read-requires Inv-loop μ-loop
+read-requires c κs = search needs
 
-returns : tie.Need-returns Inv-loop μ-loop
-returns c =
-    let l = c .before .before .before in
-    let e = l .before .before in
-    sym (at-any _ (joinsSections (decode (e .args .s .now))) (l .loop .i) (omega (arith, edges-length _ (e .args .chart) (e .pre .0))) (sym (c .before .joins-sections-at .ensures) ∙ c .if1 .taken))
+wide-requires : tie.Need-wide-requires Inv-loop μ-loop
+wide-requires c κs = search needs
+
+array-read-found : tie.Need-array-read-found Inv-loop μ-loop
+array-read-found c = search needs
+
+wide-requires-2 : tie.Need-wide-requires-2 Inv-loop μ-loop
+wide-requires-2 c κs = search needs
+
+array-read-found-2 : tie.Need-array-read-found-2 Inv-loop μ-loop
+array-read-found-2 c = search needs
 
 add-i : tie.Need-add-i Inv-loop μ-loop
 add-i c = omega arith
@@ -44,14 +50,27 @@ loop-less c = omega arith
 
 loop-again : tie.Need-loop-again Inv-loop μ-loop
 loop-again c =
-    let l = c .before .before .before in
-    (omega arith, any-more (l .loop .i) _ (l .loop .inv .1) (sym (c .before .joins-sections-at .ensures) ∙ c .if1 .left))
+    let w = c .before in
+    let r = w .before in
+    let l = r .before .before in
+    let m = l .before in
+    let e = m .before .before .before .before in
+    let all = constructs-length _ (e .args .chart) (e .pre .0) in
+    let from = w .wide .ensures in
+    let to = c .wide2 .ensures in
+    let t = m .mark-sections .ensures in (
+      omega arith,
+      joins-more (l .loop .i) (e .pre .1) (omega arith) (t .0) (t .1) (omega (arith, from .0, from .1)) (omega (arith, to .0, to .1))
+          (from .0 ∙ r .read .ensures .0) (to .0 ∙ r .read .ensures .1) (l .loop .inv .1),
+    )
 
-returns-2 : tie.Need-returns-2 Inv-loop μ-loop
-returns-2 c =
-    let e = c .before .before .before in
-    let q : length (decode (e .args .s .now) .edges) ≡ c .before .loop .i = omega (arith, edges-length _ (e .args .chart) (e .pre .0)) in
-    sym (ap (λ (k : ℕ). any k (joinsSections (decode (e .args .s .now)))) q ∙ c .before .loop .inv .1)
+returns : tie.Need-returns Inv-loop μ-loop
+returns c =
+    let l = c .before in
+    let e = l .before .before .before .before .before in
+    let D = decode (e .args .s .now) in
+    let q : l .loop .i ≡ length (D .edges) = omega (arith, edges-length _ (e .args .chart) (e .pre .0)) in
+    rw (l .loop .inv .1, flag-asks) (ap (λ (k : ℕ). any k (joinsSections D)) q)
 
 pub joins-sections-spec : {M : Type 1} → statement M
 joins-sections-spec =
@@ -59,10 +78,14 @@ joins-sections-spec =
     (tie.spec
     Inv-loop
     μ-loop
+    mark-sections-requires
     loop-holds
-    joins-sections-at-requires
-    returns
+    read-requires
+    wide-requires
+    array-read-found
+    wide-requires-2
+    array-read-found-2
     add-i
     loop-less
     loop-again
-    returns-2)
+    returns)
