@@ -30,7 +30,7 @@ use Rattle.answer_met.proofs.Meeting.{met-by, unbarred-by}
 use Rattle.answer_locks.specs.Fitting.{Fitting}
 use Rattle.answer_locks.specs.Search.{partner, pairs, somePair as somePairBy, Searched}
 use Rattle.answer_locks.specs.Bytes.{byteBy}
-use Rattle.answer_locks.specs.declared.search.Tried.{Tried}
+use Rattle.answer_locks.specs.declared.needed.Tried.{Tried}
 use Rattle.answer_locks.proofs.Sized.{lacks, answer-fitting, barred-fitting, lacks-held}
 
 -- a node inside a construct is one that a claim may name

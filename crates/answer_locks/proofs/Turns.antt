@@ -19,7 +19,7 @@ use Rattle.answer_pairs.specs.declared.rules.Profile.{Profile}
 use Rattle.masks.specs.declared.unions.Words.{Words}
 use Rattle.answer_met.specs.Meets.{unbarred, meets, NodeSet, Named}
 use Rattle.answer_locks.specs.Search.{hasNamed, partner, pairs, somePair, Skips, shut, bare, again, Covers, Kept, Adds, Tries, Searched}
-use Rattle.answer_locks.specs.declared.search.Tried.{Tried}
+use Rattle.answer_locks.specs.declared.needed.Tried.{Tried}
 use Rattle.answer_locks.proofs.Partners.{partner-by, partner-more}
 
 absorbed : (a p : Bool) → (p ≡ true → a ≡ true) → a ≡ (a || p)

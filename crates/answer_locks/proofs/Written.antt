@@ -40,7 +40,7 @@ use Rattle.answer_names.proofs.Peers.{critical-byte, spread-names}
 use Rattle.answer_locks.specs.Fitting.{Fitting}
 use Rattle.answer_locks.specs.Search.{Searched}
 use Rattle.answer_locks.specs.Bytes.{byteBy, Put}
-use Rattle.answer_locks.specs.declared.search.Tried.{Tried}
+use Rattle.answer_locks.specs.declared.needed.Tried.{Tried}
 use Rattle.answer_locks.proofs.Needs.{InsideAsked, byte-by}
 
 module _ (s : List ℕ) (chart : Chart) (A : Accepted s chart) where

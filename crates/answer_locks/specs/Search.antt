@@ -13,7 +13,7 @@ use Rattle.masks.specs.declared.unions.Words.{Words}
 use Rattle.answer_pairs.specs.Rules.{profileAt}
 use Rattle.answer_pairs.specs.declared.rules.Profile.{Profile}
 use Rattle.answer_met.specs.Meets.{unbarred, meets}
-use Rattle.answer_locks.specs.declared.search.Tried.{Tried}
+use Rattle.answer_locks.specs.declared.needed.Tried.{Tried}
 
 -- A node of the set has bit c of the names.
 unfoldable pub hasNamed : Words → List (List ℕ) → ℕ → Bool

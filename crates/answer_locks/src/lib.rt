@@ -9,7 +9,7 @@ ghost use Rattle.answer_constructs.specs.Marks.{Marks};
 ghost use Rattle.theory_calls.specs.Locks.{locksResult};
 use crate::bytes::put_bytes;
 use crate::fitting::close_lacking;
-use crate::search::search;
+use crate::needed::search;
 use answer_constructs::kinds::KindTable;
 use answer_constructs::mask_table::MaskTable;
 use answer_constructs::sizes::sets_for;
@@ -28,7 +28,7 @@ use theory_answers::Size;
 
 pub mod bytes;
 pub mod fitting;
-pub mod search;
+pub mod needed;
 
 // The bytes fill the front of `out`, by a search over the nodes.
 fn put_found(

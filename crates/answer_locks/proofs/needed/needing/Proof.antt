@@ -1,4 +1,4 @@
--- `answer_locks::search::needing` meets its contract: the bits that are left wait.
+-- `answer_locks::needed::needing` meets its contract: the bits that are left wait.
 -- Assumes nothing.
 use mathlib.Core.Path.{_≡_}
 use Prim.Native.Nat.{_-_}
@@ -6,8 +6,8 @@ use native.Mathlib.Omega.{arith}
 use lib.Bits.{and-le-r}
 use Rattle.answer_locks.specs.Search.{hasNamed}
 use Rattle.answer_locks.proofs.Picking.{Picking, picking-none, picking-more, picking-all}
-use Rattle.answer_locks.proofs.search.needing.Statement.{statement}
-use Rattle.answer_locks.proofs.search.needing.Tie as tie
+use Rattle.answer_locks.proofs.needed.needing.Statement.{statement}
+use Rattle.answer_locks.proofs.needed.needing.Tie as tie
 
 abbrev Inv-loop : tie.InvT-loop
 Inv-loop mask set named found₀ rest₀ found rest = Picking mask (hasNamed set named) rest found

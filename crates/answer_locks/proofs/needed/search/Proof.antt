@@ -1,4 +1,4 @@
--- `answer_locks::search::search` meets its contract. The loop's invariant: the nodes passed are tried.
+-- `answer_locks::needed::search` meets its contract. The loop's invariant: the nodes passed are tried.
 -- Assumes nothing.
 use mathlib.Core.Path.{_≡_, subst}
 use mathlib.Core.List.{List}
@@ -9,8 +9,8 @@ use Rattle.answer_pairs.specs.declared.rules.Profile.{Profile}
 use Rattle.answer_met.specs.Meets.{Named}
 use Rattle.answer_locks.specs.Search.{Tries, Searched}
 use Rattle.answer_locks.proofs.Turns.{searched-none, searched-more}
-use Rattle.answer_locks.proofs.search.search.Statement.{statement}
-use Rattle.answer_locks.proofs.search.search.Tie as tie
+use Rattle.answer_locks.proofs.needed.search.Statement.{statement}
+use Rattle.answer_locks.proofs.needed.search.Tie as tie
 
 abbrev Inv-loop : tie.InvT-loop
 Inv-loop n marks around closed nodes named tried₀ x₀ tried x =

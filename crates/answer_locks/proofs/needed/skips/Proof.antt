@@ -1,11 +1,11 @@
--- `answer_locks::search::skips` meets its contract.
+-- `answer_locks::needed::skips` meets its contract.
 -- Assumes nothing.
 use mathlib.Core.Path.{refl}
 use borrow.Author.Needs.{needs}
 use Rattle.lists.specs.Truth.{clash}
 use Rattle.answer_locks.specs.Search.{shut, bare, again}
-use Rattle.answer_locks.proofs.search.skips.Statement.{statement}
-use Rattle.answer_locks.proofs.search.skips.Tie as tie
+use Rattle.answer_locks.proofs.needed.skips.Statement.{statement}
+use Rattle.answer_locks.proofs.needed.skips.Tie as tie
 
 returns : tie.Need-returns
 returns c = ((λ h. shut (c .if1 .taken)), λ h. absurd (clash refl h))

@@ -1,9 +1,9 @@
--- `answer_locks::search::try_node` meets its contract: the node is skipped, or tried.
+-- `answer_locks::needed::try_node` meets its contract: the node is skipped, or tried.
 -- Assumes nothing.
 use borrow.Author.Needs.{needs}
 use Rattle.answer_locks.proofs.Turns.{skip-tries, new-tries}
-use Rattle.answer_locks.proofs.search.try_node.Statement.{statement}
-use Rattle.answer_locks.proofs.search.try_node.Tie as tie
+use Rattle.answer_locks.proofs.needed.try_node.Statement.{statement}
+use Rattle.answer_locks.proofs.needed.try_node.Tie as tie
 
 skips-requires : tie.Need-skips-requires
 skips-requires c κs = search needs

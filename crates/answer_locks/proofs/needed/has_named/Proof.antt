@@ -1,10 +1,10 @@
--- `answer_locks::search::has_named` meets its contract.
+-- `answer_locks::needed::has_named` meets its contract.
 -- Assumes nothing.
 use mathlib.Core.Path.{sym, _∙_}
 use borrow.Author.Needs.{needs}
 use Rattle.answer_locks.specs.Search.{hasNamed}
-use Rattle.answer_locks.proofs.search.has_named.Statement.{statement}
-use Rattle.answer_locks.proofs.search.has_named.Tie as tie
+use Rattle.answer_locks.proofs.needed.has_named.Statement.{statement}
+use Rattle.answer_locks.proofs.needed.has_named.Tie as tie
 
 mul-common : tie.Need-mul-common
 mul-common c = search needs
