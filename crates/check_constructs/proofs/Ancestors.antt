@@ -1,6 +1,6 @@
 -- The walk over what stands above a construct: what it has shown when it has come to one, and what it shows at its end.
 -- Assumes nothing.
-use mathlib.Core.Path.{_≡_}
+use mathlib.Core.Path.{_≡_, refl, subst}
 use mathlib.Core.Logic.{_⊎_, inl, inr, _≢_}
 use mathlib.Core.Bool.{Bool, true, false, cond}
 use mathlib.Core.List.{List}
@@ -16,9 +16,10 @@ use Rattle.chart.specs.Scope.{parentOf}
 use Rattle.chart.specs.Nested.{isParallel}
 use Rattle.chart.specs.Nesting.{enclosesNear, excluded, wronglyAbove}
 use Rattle.chart.specs.Refusal.{badAlone}
-use Rattle.chart.proofs.Tree.{Below, below-more}
-use Rattle.chart.proofs.Near.{Near, at, on, near-computed, near-computes, near-open}
+use Rattle.chart.proofs.Tree.{Below, below-more, lower}
+use Rattle.chart.proofs.Near.{at, on, near-computed, near-computes, near-encloses, near-open}
 use Rattle.chart.proofs.NestingFacts.{ConstructFits, construct-fits}
+use Rattle.check_constructs.specs.Kinds.{NearIn}
 
 -- what the first m constructs have that are in order by themselves
 module _ (cs : List Construct) (m : ℕ) (alone : any m (badAlone cs) ≡ false) where
@@ -34,19 +35,21 @@ module _ (cs : List Construct) (m : ℕ) (alone : any m (badAlone cs) ≡ false)
 abbrev pub against : List Construct → ℕ → ℕ → Bool
 against cs c k = excluded (constructAt cs c .kind) (constructAt cs c .name) (constructAt cs k .kind) (constructAt cs k .name)
 
--- k is p or stands above it, in one region
-abbrev NearIn : List Construct → ℕ → ℕ → Type 0
-NearIn cs = Near (parentOf cs) (isParallel cs)
-
 -- The walk upwards from the parent of c has come to p: what stands above c in its region and not at or above p may stand there.
 pub record Walked (cs : List Construct) (c p : ℕ) : Type 0 where
   pub place : Below c p
   pub above : {k : ℕ} → NearIn cs p k → NearIn cs (parentOf cs c) k
   pub passed : (k : ℕ) → NearIn cs (parentOf cs c) k → NearIn cs p k ⊎ (against cs c k ≡ false)
 
-one-up : (cs : List Construct) (c : ℕ) {p k : ℕ} → against cs c p ≡ false → NearIn cs p k → NearIn cs (parentOf cs p) k ⊎ (against cs c k ≡ false)
-one-up cs c f (at n s) = inr f
-one-up cs c f (on n s a) = inl a
+pub near-step : (cs : List Construct) {p k : ℕ} → NearIn cs p k → (p ≡ k) ⊎ NearIn cs (parentOf cs p) k
+near-step cs (at n s) = inl refl
+near-step cs (on n s a) = inr a
+
+pub near-none : (cs : List Construct) (c : ℕ) → ((k : ℕ) → NearIn cs (parentOf cs c) k → against cs c k ≡ true → ⊥) → any (length cs) (wronglyAbove cs c) ≡ false
+unfolding wronglyAbove
+near-none cs c f = any-none (length cs) (wronglyAbove cs c) (λ k l. false-if (λ h.
+    let b = and-both (enclosesNear (parentOf cs) (isParallel cs) (length cs) (parentOf cs c) k) (against cs c k) h in
+    f k (near-computed (parentOf cs) (isParallel cs) (length cs) (parentOf cs c) k (b .0)) (b .1)))
 
 module _ (cs : List Construct) {c : ℕ} (alone : any (c + 1) (badAlone cs) ≡ false) where
   parent-below : (k : ℕ) → k ≤ c → Below k (parentOf cs k)
@@ -62,26 +65,32 @@ module _ (cs : List Construct) {c : ℕ} (alone : any (c + 1) (badAlone cs) ≡ 
   walk-more {p} w n s f = record {
     place = below-more (omega (arith, place-below w n)) (parent-below p (omega (arith, place-below w n)));
     above = λ a. w .above (on n s a);
-    passed = λ k a. elim (w .passed k a) [ inl b ↦ one-up cs c f b | inr g ↦ inr g ];
+    passed = λ k a. elim (w .passed k a) [
+      | inl b ↦ elim (near-step cs b) [ inl q ↦ inr (subst (λ (k : ℕ). against cs c k ≡ false) q f) | inr d ↦ inl d ]
+      | inr g ↦ inr g
+    ];
   }
+
+  -- what stands above c in its region is a construct below c
+  pub near-below : {k : ℕ} → NearIn cs (parentOf cs c) k → k < c
+  near-below a = lower (parentOf cs) c (λ k h. parent-below k (omega arith)) (near-encloses a) c (omega arith) (parent-below c (omega arith))
+
+  pub near-found : {k : ℕ} → c < length cs → NearIn cs (parentOf cs c) k → against cs c k ≡ true → any (length cs) (wronglyAbove cs c) ≡ true
+  unfolding wronglyAbove
+  near-found {k} l a f =
+      let e = near-computes (parentOf cs) (isParallel cs) c (λ k h. parent-below k (omega arith)) a (length cs) c (omega arith) (omega arith) (parent-below c (omega arith)) in
+      at-any (length cs) (wronglyAbove cs c) k (omega (arith, near-below a)) (both-and _ (against cs c k) e f)
 
   pub walk-found : {p : ℕ} → c < length cs → Walked cs c p → p ≢ outside → isParallel cs p ≡ false → against cs c p ≡ true
       → any (length cs) (wronglyAbove cs c) ≡ true
-  unfolding wronglyAbove
-  walk-found {p} l w n s f =
-      let a = near-computes (parentOf cs) (isParallel cs) c (λ k h. parent-below k (omega arith)) (w .above (at n s)) (length cs) c (omega arith) (omega arith)
-      (parent-below c (omega arith)) in
-      at-any (length cs) (wronglyAbove cs c) p (omega (arith, place-below w n)) (both-and _ (against cs c p) a f)
+  walk-found l w n s f = near-found l (w .above (at n s)) f
 
   -- at the edge of the region, or of the chart, nothing more is near
   pub walk-end : {p : ℕ} → Walked cs c p → (p ≡ outside) ⊎ (isParallel cs p ≡ true) → any (length cs) (wronglyAbove cs c) ≡ false
-  unfolding wronglyAbove
-  walk-end w q = any-none (length cs) (wronglyAbove cs c) (λ k l. false-if (λ h.
-      let b = and-both (enclosesNear (parentOf cs) (isParallel cs) (length cs) (parentOf cs c) k) (against cs c k) h in
-      elim (w .passed k (near-computed (parentOf cs) (isParallel cs) (length cs) (parentOf cs c) k (b .0))) [
-        | inl a ↦ elim q [ inl z ↦ near-open a .0 z | inr z ↦ clash z (near-open a .1) ]
-        | inr f ↦ clash (b .1) f
-      ]))
+  walk-end w q = near-none cs c (λ k h f. elim (w .passed k h) [
+    | inl a ↦ elim q [ inl z ↦ near-open a .0 z | inr z ↦ clash z (near-open a .1) ]
+    | inr g ↦ clash f g
+  ])
 
 -- how many levels stand above p at most: parents are lower
 abbrev pub height : ℕ → ℕ

@@ -1,3 +1,4 @@
 pub mod Ancestors
+pub mod KindLaws
 pub mod StrayLaws
 pub mod Table

@@ -1,147 +1,63 @@
 -- `check_constructs::enclosing::bad_above` meets its contract.
 -- Assumes nothing.
-use mathlib.Core.Path.{_≡_, sym, subst, _∙_}
-use mathlib.Core.Logic.{inl, inr}
-use mathlib.Core.Bool.{false}
-use Prim.Native.Nat.{ℕ, _+_, _<_}
+use mathlib.Core.Bool.{false, not}
+use mathlib.Core.Path.{_≡_, sym, ap, subst, _∙_}
+use Prim.Native.Nat.{ℕ, _^_}
 use native.Mathlib.Omega.{arith}
+use lib.Bits.{bitAnd}
 use borrow.Author.Tests.{eq-eqb, ne-eqb}
-use borrow.Author.Needs.{needs}
-use Rattle.chart.specs.Scope.{parallelByte, parentOf}
-use Rattle.chart.specs.Nested.{isParallel}
+use Rattle.lists.specs.Mask.{Has, maskOf, has-none, has-own}
+use Rattle.lists.specs.Common.{common, both-and}
 use Rattle.chart.specs.Format.{decode, constructAt}
+use Rattle.chart.specs.Scope.{criticalByte}
 use Rattle.chart.proofs.Records.{constructs-length}
-use Rattle.check_constructs.proofs.Ancestors.{Walked, against, fits, parents, place-below, walk-start, walk-more, walk-found, walk-end, height, height-falls}
+use Rattle.check_constructs.specs.Kinds.{barredBy}
+use Rattle.check_constructs.proofs.KindLaws.{barred-found, names-left}
+use borrow.Author.Needs.{needs}
 use Rattle.check_constructs.proofs.enclosing.bad_above.Statement.{statement}
 use Rattle.check_constructs.proofs.enclosing.bad_above.Tie as tie
 
-abbrev Inv-loop : tie.InvT-loop
-Inv-loop s chart table c inner p₀ p = Walked (decode s .constructs) c p
+-- the kinds that are asked for are those that may not stand above c
+barred-is : (e : tie.Start) → e .args .barred ≡ maskOf (barredBy (constructAt (decode (e .args .s .now) .constructs) (e .args .c) .kind)) 8
+barred-is e = e .pre .1 .0 .1 ∙ ap (λ (kind : ℕ). maskOf (barredBy kind) 8) (e .pre .1 .0 .0)
 
-abbrev μ-loop : tie.MeasureT-loop
-μ-loop s chart table c inner p₀ p = height p
-
-read-requires : tie.Need-read-requires Inv-loop μ-loop
-read-requires c κs = (c .before .pre .0, c .before .pre .2)
-
-loop-holds : tie.Need-loop-holds Inv-loop μ-loop
-unfolding parentOf
-loop-holds c =
-    let e = c .before .before in
-    let cs = decode (e .args .s .now) .constructs in
-    subst (Walked cs (e .args .c)) (sym (c .read .ensures .1)) (walk-start cs (e .pre .3))
-
-wide-requires : tie.Need-wide-requires Inv-loop μ-loop
-wide-requires c κs = search needs
-
-read-requires-2 : tie.Need-read-requires-2 Inv-loop μ-loop
-read-requires-2 c κs =
-    let l = c .before .before in
-    let e = l .before .before .before in
-    let cs = decode (e .args .s .now) .constructs in
-    (e .pre .0, omega (arith, place-below cs (e .pre .3) (l .loop .inv) (c .before .loop-test .taken), e .pre .2, c .wide .ensures .0))
-
--- what was read of the construct that the walk has come to
-kind-read : (c : tie.After-read2 Inv-loop μ-loop) →
-    let l = c .before .before .before in
-    let e = l .before .before .before in
-    c .read2 .result .kind ≡ constructAt (decode (e .args .s .now) .constructs) (l .loop .p) .kind
-kind-read c = cc (c .read2 .ensures .0, c .before .wide .ensures .0)
-
-parent-read : (c : tie.After-read2 Inv-loop μ-loop) →
-    let l = c .before .before .before in
-    let e = l .before .before .before in
-    c .read2 .result .parent ≡ constructAt (decode (e .args .s .now) .constructs) (l .loop .p) .parent
-parent-read c = cc (c .read2 .ensures .1, c .before .wide .ensures .0)
-
-returns : tie.Need-returns Inv-loop μ-loop
-unfolding isParallel
+returns : tie.Need-returns
 returns c =
-    let r = c .before .before in
-    let l = r .before .before .before in
-    let e = l .before .before .before in
-    sym (walk-end (decode (e .args .s .now) .constructs) (e .pre .3) (l .loop .inv) (inr (eq-eqb _ parallelByte (sym (kind-read r) ∙ c .if1 .taken))))
+    let e = c .before .before in
+    let l = constructs-length _ (e .args .chart) (e .pre .0 .0) in
+    sym (barred-found _ (e .args .c) (e .pre .0 .2) (e .pre .1 .1) (omega (arith, l, e .pre .0 .1)) (rw (← barred-is e, ne-eqb _ 0 (c .if1 .taken))))
 
--- the walk goes on within the region
-within : (c : tie.Else1 Inv-loop μ-loop) →
-    let l = c .before .before .before .before .before in
-    let e = l .before .before .before in
-    isParallel (decode (e .args .s .now) .constructs) (l .loop .p) ≡ false
-unfolding isParallel
-within c = ne-eqb _ parallelByte (λ q. c .if1 .left (kind-read (c .before .before) ∙ q))
+bit-requires : tie.Need-bit-requires
+bit-requires c κs = search needs
 
-excludes-requires : tie.Need-excludes-requires Inv-loop μ-loop
-excludes-requires c κs =
-    let l = c .before .before .before .before .before in
-    let e = l .before .before .before in
-    let cs = decode (e .args .s .now) .constructs in
-    let i = fits cs (e .args .c + 1) (e .pre .3) (e .args .c) (omega arith) in
-    let o = fits cs (e .args .c + 1) (e .pre .3) (l .loop .p) (omega (arith, place-below cs (e .pre .3) (l .loop .inv) (c .before .before .before .before .loop-test .taken))) in
-    let r = l .before .read .ensures .0 in
-    let q = kind-read (c .before .before) in
-    (e .pre .1, omega (arith, i .least, r), omega (arith, i .most, r), omega (arith, o .least, q), omega (arith, o .most, q))
+-- no kind is there that may not be
+kinds-pass : (c : tie.Else1) → let e = c .before .before in
+    common (e .args .above) (maskOf (barredBy (constructAt (decode (e .args .s .now) .constructs) (e .args .c) .kind)) 8) ≡ false
+kinds-pass c = rw (← barred-is (c .before .before), eq-eqb _ 0 (c .if1 .left))
 
--- the test of one construct above, in terms of the decoded chart
-tested : (c : tie.After-excludes Inv-loop μ-loop) →
-    let l = c .before .before .before .before .before .before in
-    let e = l .before .before .before in
-    c .excludes .result ≡ against (decode (e .args .s .now) .constructs) (e .args .c) (l .loop .p)
-tested c =
-    let r = c .before .before .before in
-    let i = r .before .before .before .before .read .ensures in
-    cc (c .excludes .ensures, i .0, i .2, r .read2 .ensures .0, r .read2 .ensures .2, r .before .wide .ensures .0)
-
-returns-2 : tie.Need-returns-2 Inv-loop μ-loop
+returns-2 : tie.Need-returns-2
 returns-2 c =
-    let b = c .before .before in
-    let t = b .before .before .before .before in
-    let l = t .before in
-    let e = l .before .before .before in
-    let cs = decode (e .args .s .now) .constructs in
-    let n = constructs-length _ (e .args .chart) (e .pre .0) in
-    sym (walk-found cs (e .pre .3) (omega (arith, n, e .pre .2)) (l .loop .inv) (t .loop-test .taken) (within b) (sym (tested (c .before)) ∙ c .if2 .taken))
+    let b = c .before in
+    let l = b .before in
+    let e = l .before .before in
+    let none : bitAnd (e .args .above) (2 ^ criticalByte) ≡ 0 = ap (bitAnd (e .args .above)) (sym (b .bit .ensures)) ∙ c .if2 .taken in
+    sym (names-left _ (e .args .c) (e .pre .0 .2) (e .pre .1 .1) (kinds-pass l)
+    (λ k h. has-none criticalByte (subst (λ (m : ℕ). Has m criticalByte) none (both-and _ (2 ^ criticalByte) criticalByte h (has-own criticalByte)))))
 
-loop-less : tie.Need-loop-less Inv-loop μ-loop
-unfolding parentOf
-loop-less c =
-    let r = c .before .before .before .before in
-    let t = r .before .before in
-    let l = t .before in
-    let e = l .before .before .before in
-    let cs = decode (e .args .s .now) .constructs in
-    subst (λ (q : ℕ). height q < height (l .loop .p)) (sym (parent-read r))
-    (height-falls (t .loop-test .taken) (parents cs (e .args .c + 1) (e .pre .3) (l .loop .p) (omega (arith, place-below cs (e .pre .3) (l .loop .inv) (t .loop-test .taken)))))
-
-loop-again : tie.Need-loop-again Inv-loop μ-loop
-unfolding parentOf
-loop-again c =
-    let b = c .before .before in
-    let r = b .before .before in
-    let t = r .before .before in
-    let l = t .before in
-    let e = l .before .before .before in
-    let cs = decode (e .args .s .now) .constructs in
-    subst (Walked cs (e .args .c)) (sym (parent-read r))
-    (walk-more cs (e .pre .3) (l .loop .inv) (t .loop-test .taken) (within b) (sym (tested (c .before)) ∙ c .if2 .left))
-
-returns-3 : tie.Need-returns-3 Inv-loop μ-loop
+returns-3 : tie.Need-returns-3
 returns-3 c =
-    let e = c .before .before .before .before in
-    sym (walk-end (decode (e .args .s .now) .constructs) (e .pre .3) (c .before .loop .inv) (inl (c .loop-test .left)))
+    let l = c .before .before .before in
+    let e = l .before .before in
+    sym (names-left _ (e .args .c) (e .pre .0 .2) (e .pre .1 .1) (kinds-pass l) (λ k h. c .if3 .taken (e .pre .1 .0 .0 ∙ k)))
+
+same-above-requires : tie.Need-same-above-requires
+same-above-requires c κs =
+    let e = c .before .before .before .before .before in
+    (e .pre .0, sym (e .pre .1 .0 .0) ∙ c .if3 .left)
+
+returns-4 : tie.Need-returns-4
+returns-4 c = c .same-above .ensures
 
 pub bad-above-spec : {M : Type 1} → statement M
 bad-above-spec =
-    tie.close
-    (tie.spec
-    Inv-loop
-    μ-loop
-    read-requires
-    loop-holds
-    wide-requires
-    read-requires-2
-    returns
-    excludes-requires
-    returns-2
-    loop-less
-    loop-again
-    returns-3)
+    tie.close (tie.spec returns bit-requires returns-2 returns-3 same-above-requires returns-4)
