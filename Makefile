@@ -3,7 +3,7 @@
 # make test       the gate: all proofs, must-fail edits and tests
 # make frontend   the gcc plugin that writes control flow, the recorder, and the wrappers bohrali-gcc, bohrali-g++, bohrali-gfortran: target/frontend
 # make evidence   real programs recorded on libgomp and LLVM's runtime and replayed (tests/evidence.sh); fetches their sources, takes more than an hour
-# make mutants    the other wrong programs that the prover must refuse (tests/mutants)
+# make mutants    the other wrong programs that the prover must refuse (tests/mutants); takes the better part of an hour
 # make bench      the library's times by those of hand-written Rust
 # make bench-against BEFORE=path/to/libbohrali.a    by those of another build of it
 # make install    command and man page, header, archive, shared library and bohrali.pc, and the front end if it is built, below PREFIX

@@ -44,16 +44,25 @@ instructions() { # instructions PROGRAM
     valgrind --tool=callgrind --callgrind-out-file=/dev/null "$1" 2>&1 >/dev/null | sed -n 's/.*Collected : //p'
 }
 
-measure() { # measure TEAM NAME..: turns of ./plain, ./recorded, ./plain and, where `on` is among the names, ./recorded with a log
-    local team=$1 name
+measure() { # measure TEAM NAME..: ./plain, ./recorded and ./plain by turns, each first in every third; then ./recorded with a log, for `on`
+    local team=$1 name order=(plain off again)
     shift
     rm -f ./*.times
     for turn in $(seq "$turns"); do
-        timed plain ./plain
-        timed off ./recorded
-        timed again ./plain
-        case " $* " in *" on "*) timed on env BOHRALI_LOG=log BOHRALI_FIRST=1000000 BOHRALI_MOST=20000000 ./recorded ;; esac
+        for place in 0 1 2; do
+            name=${order[(turn + place) % 3]}
+            case $name in
+            off) timed off ./recorded ;;
+            *) timed "$name" ./plain ;;
+            esac
+        done
     done
+    case " $* " in *" on "*)
+        for turn in $(seq $((turns < 9 ? turns : 9))); do
+            timed on env BOHRALI_LOG=log BOHRALI_FIRST=1000000 BOHRALI_MOST=20000000 ./recorded
+        done
+        ;;
+    esac
     for name in "$@"; do
         echo "teams of $team, $name: processor time $(ratio "$name" 1), elapsed $(ratio "$name" 2)"
     done
