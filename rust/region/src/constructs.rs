@@ -1,7 +1,7 @@
 //! The constructs of a table: numbers without a gap, one begin and one end each, parents.
 
 use crate::chart::{Chart, Construct, Node, NodeKind};
-use crate::kind::{Opening, RowKind};
+use crate::kind::{Directive, RowKind};
 use crate::names::{Name, Names};
 use crate::problem::{column, Problems, Wrong};
 use crate::rows::Row;
@@ -106,20 +106,20 @@ fn expect_parents(rows: &[Row], frames: &[(usize, usize)], problems: &mut Proble
 }
 
 fn records(rows: &[Row], frames: &[(usize, usize)]) -> (Chart, Names) {
-    let openings: Vec<(&Row, &Opening)> = frames
+    let directives: Vec<(&Row, &Directive)> = frames
         .iter()
         .filter_map(|&(begin, _)| match &rows[begin].kind {
-            RowKind::Begin(opening) => Some((&rows[begin], opening)),
+            RowKind::Begin(directive) => Some((&rows[begin], directive)),
             RowKind::Plain | RowKind::Barrier | RowKind::End => None,
         })
         .collect();
-    let names: Vec<Name> = openings.iter().map(|x| x.1.name.clone()).collect();
+    let names: Vec<Name> = directives.iter().map(|x| x.1.name.clone()).collect();
     let (names, numbers) = Names::number(&names);
-    let construct = |((row, opening), name): (&(&Row, &Opening), u16)| Construct {
-        kind: opening.kind,
+    let construct = |((row, directive), name): (&(&Row, &Directive), u16)| Construct {
+        kind: directive.kind,
         parent: row.inside,
         name,
-        filter: opening.filter,
+        filter: directive.filter,
     };
     let edges = (0u8..=u8::MAX).zip(rows);
     let chart = Chart {
@@ -127,7 +127,7 @@ fn records(rows: &[Row], frames: &[(usize, usize)]) -> (Chart, Names) {
         edges: edges
             .flat_map(|(from, row)| row.next.iter().map(move |&to| (from, to)))
             .collect(),
-        constructs: openings.iter().zip(numbers).map(construct).collect(),
+        constructs: directives.iter().zip(numbers).map(construct).collect(),
     };
     (chart, names)
 }

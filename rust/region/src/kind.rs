@@ -9,13 +9,13 @@ use crate::problem::quoted;
 pub(crate) enum RowKind {
     Plain,
     Barrier,
-    Begin(Opening),
+    Begin(Directive),
     End,
 }
 
 /// What a begin row says of its construct.
 #[derive(Clone, Debug, PartialEq, Eq)]
-pub(crate) struct Opening {
+pub(crate) struct Directive {
     pub kind: ConstructKind,
     pub name: Name,
     pub filter: u16,
@@ -68,14 +68,14 @@ impl RowKind {
         match self {
             RowKind::Plain => "plain",
             RowKind::Barrier => "barrier",
-            RowKind::Begin(opening) => word(opening.kind),
+            RowKind::Begin(directive) => word(directive.kind),
             RowKind::End => "end",
         }
     }
 }
 
-fn begin(kind: ConstructKind) -> Opening {
-    Opening {
+fn begin(kind: ConstructKind) -> Directive {
+    Directive {
         kind,
         name: Name::Unnamed,
         filter: 0,
@@ -83,7 +83,7 @@ fn begin(kind: ConstructKind) -> Opening {
 }
 
 fn masked(filter: u16) -> RowKind {
-    RowKind::Begin(Opening {
+    RowKind::Begin(Directive {
         filter,
         ..begin(ConstructKind::Master)
     })
@@ -95,7 +95,7 @@ fn critical(rest: &[&str]) -> Option<RowKind> {
         [name] => Name::read(name)?,
         _ => return None,
     };
-    Some(RowKind::Begin(Opening {
+    Some(RowKind::Begin(Directive {
         name,
         ..begin(ConstructKind::Critical)
     }))

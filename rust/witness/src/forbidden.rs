@@ -18,7 +18,7 @@ pub fn rule(
     };
     let (thread, to) = (usize::from(*thread), usize::from(*node));
     let mut state = State::fresh(threads, view.start);
-    let mut opening: Vec<usize> = Vec::new();
+    let mut released: Vec<usize> = Vec::new();
     for &(thread, node) in before {
         let (thread, node) = (usize::from(thread), usize::from(node));
         if thread >= threads || node >= view.nodes() {
@@ -28,10 +28,10 @@ pub fn rule(
             state.step(view, thread, node);
             continue;
         }
-        opening.push(node);
-        if opening.len() == threads {
+        released.push(node);
+        if released.len() == threads {
             state = State::fresh(threads, view.start);
-            state.at = std::mem::take(&mut opening);
+            state.at = std::mem::take(&mut released);
         }
     }
     if thread >= threads {
@@ -46,7 +46,7 @@ pub fn rule(
         thread,
         to,
     };
-    lacking.rule(opening.len(), &named)
+    lacking.rule(released.len(), &named)
 }
 
 /// A step that the rules do not have.
