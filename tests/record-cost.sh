@@ -1,7 +1,7 @@
 #!/usr/bin/env bash
 # record-cost.sh [TURNS [TEAM..]]: what the recorder costs examples/playtest, as ratios of processor time and of elapsed time to the program without it,
 # medians of so many turns of all in one run. Again: the program without the recorder once more, by which one sees how far two runs of one program
-# differ. Off: built with --record and BOHRALI_LOG not set. On: all instances of its regions are recorded, without delays.
+# differ. Off: built with --record and BOHRALI_LOG not set. On: all instances of its regions are recorded, without delays, in nine turns at most.
 #
 # TEAM is one or four, both where none is named. In teams of one, with 200,000 rounds, nothing waits: the tests of the flag weigh most, and times
 # repeat. In teams of four, as it is written, with 2,000 rounds, nearly all of its time is waiting and being woken, which differs from run to run by
