@@ -5,18 +5,30 @@
 #
 # TEAM is one or four, both where none is named. In teams of one, with 200,000 rounds, nothing waits: the tests of the flag weigh most, and times
 # repeat. In teams of four, as it is written, with 2,000 rounds, nearly all of its time is waiting and being woken, which differs from run to run by
-# more than such tests can cost. Where valgrind is, the instructions of both are counted, too.
+# more than such tests can cost. Where valgrind is, the instructions of both are counted, too. Nine turns are too few to tell 2 %; without words there
+# are 41, which take some four minutes.
 set -euo pipefail
 cd "$(dirname "$0")/.."
+
+refuse() { # refuse WORDS..
+    echo "record-cost.sh: $*" >&2
+    exit 2
+}
+
+turns=${1:-41}
+shift $(($# > 0))
+if [ $# -eq 0 ]; then set -- one four; fi
+[[ $turns =~ ^[1-9][0-9]{0,3}$ ]] || refuse "turns are a number from 1 to 9999, and not '$turns'"
+for team in "$@"; do
+    [[ $team =~ ^(one|four)$ ]] || refuse "a team is one or four, and not '$team'"
+done
+
 make --silent -C frontend/gcc
 work=$(mktemp -d)
 trap 'rm -rf "$work"' EXIT
 wrapper=$PWD/target/frontend/bohrali-gcc
 source=$PWD/examples/playtest/playtest.c
 cd "$work"
-turns=${1:-9}
-shift $(($# > 0))
-if [ $# -eq 0 ]; then set -- one four; fi
 export OMP_WAIT_POLICY=passive
 TIMEFORMAT='%U %S %R'
 
@@ -84,10 +96,6 @@ for team in "$@"; do
         build 2000
         measure four again off on
         echo "the log has $((($(stat -c %s log) - 64) / 24)) entries"
-        ;;
-    *)
-        echo "a team is one or four, and not $team" >&2
-        exit 2
         ;;
     esac
 done
