@@ -1,7 +1,7 @@
 // Levels closed along edges: a node's level is at most one more than that of a node before it.
 ghost use mathlib.Core.Path.{_≡_};
 ghost use mathlib.Core.Bool.{true, false};
-ghost use Prim.Native.Nat.{ℕ, _≤_, _<_, min};
+ghost use Prim.Native.Nat.{ℕ, _≤_, _<_};
 ghost use lib.Bits.{bitXor};
 ghost use lib.ListN.{getD, length};
 ghost use Rattle.search.specs.Sweep.{Lies, Run, Carried, Closed, Lists};
@@ -19,14 +19,16 @@ impl Level {
     pub const NONE: u8 = 254;
 }
 
-// The smaller of two levels.
-fn smaller(a: u8, b: u8) -> u8
-    ensures { λ r. ⌜ r ≡ min a b ⌝ }
+// The level of a node that had this one, when an edge leads there from a node at the other: one more, where that is fewer. The levels are compared
+// as they are, so that neither the sum nor the comparison waits for the other.
+fn lowered(old: u8, before: u8) -> u8
+    requires { ⌜ before ≤ 254 ⌝ }
+    ensures { λ r. ⌜ r ≡ nearer old before ⌝ }
 {
-    if a < b {
-        return a;
+    if before < old {
+        return before + 1;
     }
-    b
+    old
 }
 
 // What is new where a level takes the place of an old one, 0 for nothing.
@@ -42,7 +44,7 @@ pub fn ascend(levels: &mut [u8; Chart::NODES], x: u8, y: u8) -> u8
     ensures { λ r. ⌜ Risen x y (now (levels .entry)) (now (levels .exit)) r ⌝ }
 {
     let to = y as usize;
-    let all = smaller(levels[to], levels[x as usize] + 1);
+    let all = lowered(levels[to], levels[x as usize]);
     levels[to] = all;
     all
 }
