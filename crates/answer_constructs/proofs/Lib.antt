@@ -4,6 +4,6 @@ pub mod Noted
 pub mod Membership
 pub mod Facts
 pub mod Nodes
-pub mod Places
+pub mod Laying
 pub mod Lacked
 pub mod Past

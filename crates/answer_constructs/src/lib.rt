@@ -7,4 +7,5 @@ pub mod kinds;
 pub mod mask_table;
 pub mod members;
 pub mod peers;
+pub mod places;
 pub mod sizes;

@@ -4,10 +4,10 @@ use mathlib.Core.Path.{_≡_, refl, sym, _∙_, subst}
 use mathlib.Core.Logic.{_≢_, _↔_}
 use mathlib.Core.Bool.{Bool, true, false}
 use mathlib.Core.List.{List}
-use Prim.Native.Nat.{ℕ, _+_, _^_, _<_}
+use Prim.Native.Nat.{ℕ, _+_, _^_, _≤_, _<_}
 use native.Mathlib.Omega.{arith}
-use native.Mathlib.Decide.{ℕ-discrete}
-use lib.Bits.{bitAnd, bitOr, and-lt}
+use native.Mathlib.Decide.{decLt}
+use lib.Bits.{bitAnd, bitOr, and-lt, and-zero-r, or-zero-r}
 use lib.Dec.{eqb}
 use lib.ListN.{getD, set, length-set}
 use lib.Pow.{pow-lt}
@@ -19,13 +19,12 @@ use Rattle.lists.specs.Common.{and-both as bits-both, both-and as both-bits}
 use Rattle.lists.specs.Store.{stored}
 use Rattle.chart.specs.Format.{Construct, decode, constructAt, nodeAt}
 use Rattle.chart.specs.Region.{critical, Region}
-use Rattle.chart.specs.Scope.{criticalByte, kindOf, scope, liesIn, liesAt, scopeAt}
+use Rattle.chart.specs.Scope.{beginNode, criticalByte, kindOf, parentOf, liesAt}
 use Rattle.chart.specs.Nested.{countsIn}
-use Rattle.chart.specs.Refusal.{badNodes}
 use Rattle.chart.specs.Checked.{reading}
 use Rattle.chart.specs.declared.format.Chart.{Chart}
-use Rattle.chart.proofs.Records.{constructs-length}
-use Rattle.chart.proofs.Facts.{fit-nodes}
+use Rattle.chart.proofs.Records.{constructs-length, nodes-length}
+use Rattle.chart.proofs.Scopes.{lies-number, lies-parent}
 use Rattle.chart.proofs.Tree.{Below}
 use Rattle.chart.proofs.Tables.{lies, lies-below}
 use Rattle.chart.proofs.RegionFacts.{Counts}
@@ -34,6 +33,7 @@ use Rattle.theory_answers.specs.Unexcluded.{In}
 use Rattle.mark_tables.specs.Tables.{Accepted}
 use Rattle.mark_tables.proofs.Accepted.{tables}
 use Rattle.answer_constructs.specs.Chains.{maskAt, isLike}
+use Rattle.answer_constructs.specs.Below.{LaidOut}
 use Rattle.answer_constructs.proofs.Facts.{few, is-read}
 use Rattle.answer_constructs.proofs.Constructs.{no-bit, parent-lower, kind-byte}
 use Rattle.answer_names.specs.Names.{GivesName, Given, Small, BitOf, Chained, Spread, Names, OwnBits, Criticals, InCriticals}
@@ -48,9 +48,6 @@ module _ (s : List ℕ) (chart : Chart) (A : Accepted s chart) where
 
   abbrev at : ℕ → Construct
   at d = constructAt (decode s .constructs) d
-
-  pub good-nodes : badNodes (decode s) ≡ false
-  good-nodes = fit-nodes (decode s) (tables s chart A .nodes)
 
   -- a bit of the mask of the region's constructs
   pub member-of : (members c : ℕ) → members ≡ maskOf (countsIn (decode s .constructs) (chart .region)) (chart .constructs) → c < chart .constructs
@@ -104,22 +101,32 @@ module _ (s : List ℕ) (chart : Chart) (A : Accepted s chart) where
             (around-next c (λ q. omega arith) (around-at chains (K .at) (omega arith) (R .parent c) (parent-lower s chart A c l)) (record { small = G c l; only = λ b m h. h; all = λ b m h. h })) (K .at);
       }
 
-  -- a node lies where its scope is, if it has no own
-  pub plain-scope : (x : ℕ) → scopeAt 0 (decode s .nodes) (decode s .constructs) x ≡ lies (decode s) x
-  unfolding scopeAt liesAt scope liesIn
-  plain-scope x = go (ℕ-discrete (nodeAt (decode s .nodes) x .kind) 0)
-    where
-      go : Dec (nodeAt (decode s .nodes) x .kind ≡ 0) → scopeAt 0 (decode s .nodes) (decode s .constructs) x ≡ lies (decode s) x
-      go (yes q) = rw q
-      go (no d) = rw (ne-eqb _ 0 d)
-
-  pub place-below : (x : ℕ) → Below (chart .constructs) (lies (decode s) x)
+  place-below : (x : ℕ) → Below (chart .constructs) (lies (decode s) x)
   place-below x = subst (λ (n : ℕ). Below n (lies (decode s) x)) (constructs-length s chart (A .laid)) (lies-below (decode s) (tables s chart A) x)
 
-  pub spread-at : {given chains : List ℕ} → Chained R given (chart .constructs) chains → (x : ℕ)
+  spread-at : {given chains : List ℕ} → Chained R given (chart .constructs) chains → (x : ℕ)
       → Mask (Around (R .parent) (BitOf given) (lies (decode s) x)) (R .constructs) (maskAt chains (lies (decode s) x))
   unfolding maskAt
   spread-at {chains = chains} K x = around-at chains (K .at) (A .laid .constructs-most) (lies (decode s) x) (place-below x)
+
+  -- a node has the mask of the construct that it lies in
+  laid-at : {chains old masks : List ℕ} → LaidOut (decode s) chains 0 (chart .nodes) old masks → (x : ℕ) → x < chart .nodes → getD masks x 0 ≡ maskAt chains (lies (decode s) x)
+  unfolding liesAt
+  laid-at {chains} L x l =
+      let number = nodeAt (decode s .nodes) x .number in
+      let parent = parentOf (decode s .constructs) number in
+      elim (decLt (nodeAt (decode s .nodes) x .kind) beginNode) [
+        | yes k ↦ L .plain x l k ∙ rw (lies-number number parent k)
+        | no k ↦
+            let b : beginNode ≤ nodeAt (decode s .nodes) x .kind = omega arith in
+            L .frame x l b ∙ rw (and-zero-r (maskAt chains number), or-zero-r (maskAt chains parent), lies-parent number parent b)
+      ]
+
+  pub laid-spread : {given chains old masks : List ℕ} → Chained R given (chart .constructs) chains → LaidOut (decode s) chains 0 (chart .nodes) old masks
+      → Spread R (lies (decode s)) given old masks
+  laid-spread K L =
+      let n = nodes-length s chart (A .laid) in
+      record { at = λ x l. rw (laid-at L x (omega arith)) (spread-at K x); past = λ x l. L .past x (omega arith) }
 
   pub given-small : {given : List ℕ} → Given R Member given → Small R given
   given-small G c l = G .at c l .small

@@ -17,10 +17,9 @@ use answer_constructs::chains::mask_at;
 use answer_constructs::members::members_of;
 use answer_constructs::peers::add_if;
 use answer_constructs::peers::noted_peers;
+use answer_constructs::places::lay_out;
 use chart::format::Chart;
 use chart::format::Construct;
-use chart::format::Node;
-use check_edges::scope;
 use masks::bits::bit;
 use masks::bits::has;
 use masks::unions::BITS;
@@ -84,13 +83,7 @@ pub fn spread(s: &[u8], chart: Chart, given: &Table, masks: &mut [u64; Chart::NO
 {
     let mut chains = [0u64; Chart::CONSTRUCTS];
     fill_chains(s, chart, given, &mut chains);
-    let n = chart.nodes;
-    let mut x = 0;
-    while x < n {
-        let place = scope(s, chart, x, Node::PLAIN);
-        masks[x] = mask_at(&chains, place);
-        x += 1;
-    }
+    lay_out(s, chart, &chains, 0, masks);
 }
 
 // A node has the names around the construct that it lies in.

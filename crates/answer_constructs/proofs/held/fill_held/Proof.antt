@@ -5,6 +5,7 @@ use native.Mathlib.Omega.{arith}
 use borrow.Author.Needs.{needs}
 use Rattle.lists.specs.Store.{zeros}
 use Rattle.answer_constructs.proofs.Nodes.{none-held}
+use Rattle.answer_constructs.proofs.Laying.{laid-held}
 use Rattle.answer_constructs.proofs.held.fill_held.Statement.{statement}
 use Rattle.answer_constructs.proofs.held.fill_held.Tie as tie
 
@@ -26,27 +27,22 @@ fill-chains-requires c κs =
     let e = k .before .before in
     (e .pre .0, e .pre .1, k .kinds-of .ensures 0 (omega arith), refl)
 
-array-read-fill-places : tie.Need-array-read-fill-places
-array-read-fill-places c = omega arith
-
-fill-places-requires : tie.Need-fill-places-requires
-fill-places-requires c κs =
-    let f = c .before .before in
-    let k = f .before .before .before in
-    (k .before .before .pre .0, f .fill-chains .ensures, k .kinds-of .ensures 3 (omega arith), refl)
+array-read-lay-out : tie.Need-array-read-lay-out
+array-read-lay-out c = omega arith
 
 -- where the constructs of each kind were found
-abbrev sorted : tie.After-fill-places → tie.After-kinds-of
-sorted p = p .before .before .before .before .before .before
+abbrev sorted : tie.After-fill-chains → tie.After-kinds-of
+sorted f = f .before .before .before
 
-mark-nodes-requires : tie.Need-mark-nodes-requires
-mark-nodes-requires c κs =
-    let p = c .before .before in
-    let e = sorted p .before .before in
-    (e .pre .0, p .fill-places .ensures, e .pre .2)
+lay-out-requires : tie.Need-lay-out-requires
+lay-out-requires c κs = let e = sorted (c .before .before) .before .before in (e .pre .0, rw (e .pre .2) refl)
 
 returns-2 : tie.Need-returns-2
-returns-2 c = (sorted (c .before .before .before) .kinds-of .ensures, c .mark-nodes .ensures)
+returns-2 c =
+    let f = c .before .before .before in
+    let k = sorted f in
+    let e = k .before .before in
+    (k .kinds-of .ensures, laid-held _ (e .args .chart) (e .pre .0) (f .fill-chains .ensures) (k .kinds-of .ensures 3 (omega arith)) (e .pre .2) (c .lay-out .ensures))
 
 pub fill-held-spec : {M : Type 1} → statement M
-fill-held-spec = tie.close (tie.spec kinds-of-requires returns array-read-fill-chains fill-chains-requires array-read-fill-places fill-places-requires mark-nodes-requires returns-2)
+fill-held-spec = tie.close (tie.spec kinds-of-requires returns array-read-fill-chains fill-chains-requires array-read-lay-out lay-out-requires returns-2)

@@ -1,9 +1,9 @@
--- `answer_constructs::held::held_at` meets its contract.
+-- `answer_constructs::places::find` meets its contract.
 -- Assumes nothing.
 use mathlib.Core.Path.{refl}
 use borrow.Author.Needs.{needs}
-use Rattle.answer_constructs.proofs.held.held_at.Statement.{statement}
-use Rattle.answer_constructs.proofs.held.held_at.Tie as tie
+use Rattle.answer_constructs.proofs.places.find.Statement.{statement}
+use Rattle.answer_constructs.proofs.places.find.Tie as tie
 
 wide-requires : tie.Need-wide-requires
 wide-requires c κs = search needs
@@ -26,7 +26,7 @@ element-copy-out-result c = search needs
 returns : tie.Need-returns
 returns c = let w = c .before in rw (w .before .wide .ensures .0, w .wide2 .ensures .0) refl
 
-pub held-at-spec : {M : Type 1} → statement M
-held-at-spec =
+pub find-spec : {M : Type 1} → statement M
+find-spec =
     tie.close
     (tie.spec wide-requires mul-result wide-requires-2 add-result mul-result-2 element-copy-out-result returns)

@@ -1,4 +1,4 @@
--- `answer_constructs::held::fill_places` meets its contract. The loop's invariant: the places of the constructs passed are there.
+-- `answer_constructs::places::fill_places` meets its contract. The loop's invariant: the places of the constructs passed are there.
 -- Assumes nothing.
 use mathlib.Core.Path.{_≡_, sym, subst}
 use Prim.Native.Nat.{_≤_, _<_, _-_}
@@ -11,18 +11,18 @@ use Rattle.chart.proofs.Tree.{Below}
 use Rattle.answer_constructs.specs.Below.{Places}
 use Rattle.answer_constructs.proofs.Constructs.{index-below}
 use Rattle.answer_constructs.proofs.Nodes.{parent-place}
-use Rattle.answer_constructs.proofs.Places.{places-none, places-more, held-by-places}
-use Rattle.answer_constructs.proofs.held.fill_places.Statement.{statement}
-use Rattle.answer_constructs.proofs.held.fill_places.Tie as tie
+use Rattle.answer_constructs.proofs.Laying.{places-none, places-more}
+use Rattle.answer_constructs.proofs.places.fill_places.Statement.{statement}
+use Rattle.answer_constructs.proofs.places.fill_places.Tie as tie
 
 abbrev Inv-loop : tie.InvT-loop
-Inv-loop s chart chains sections places₀ n c₀ places c = (c ≤ chart .constructs) × Places (decode s) chains sections c places
+Inv-loop s chart chains inside places₀ n c₀ places c = (c ≤ chart .constructs) × Places (decode s) chains inside c places
 
 abbrev μ-loop : tie.MeasureT-loop
-μ-loop s chart chains sections places₀ n c₀ places c = chart .constructs - c
+μ-loop s chart chains inside places₀ n c₀ places c = chart .constructs - c
 
 loop-holds : tie.Need-loop-holds Inv-loop μ-loop
-loop-holds c = (omega arith, rw (c .before .pre .3) (places-none _ _ _))
+loop-holds c = (omega arith, rw (c .before .pre .1) (places-none _ _ _))
 
 -- where the function was called
 abbrev start : tie.In-loop Inv-loop μ-loop → tie.Start Inv-loop μ-loop
@@ -89,9 +89,8 @@ loop-again c =
 returns : tie.Need-returns Inv-loop μ-loop
 returns c =
     let l = c .before in
-    let e = l .before .before in
-    let q : l .loop .c ≡ e .args .chart .constructs = omega arith in
-    held-by-places _ (e .args .chart) (e .pre .0) (e .pre .1) (e .pre .2) (rw q at (l .loop .inv .1))
+    let q : l .loop .c ≡ l .before .before .args .chart .constructs = omega arith in
+    rw q at (l .loop .inv .1)
 
 pub fill-places-spec : {M : Type 1} → statement M
 fill-places-spec =
