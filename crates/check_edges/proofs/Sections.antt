@@ -1,7 +1,7 @@
 -- Edges from section to section: two tables tell them, and there are none where there is no section.
 -- Assumes nothing.
 use mathlib.Core.Path.{_≡_, refl, _∙_}
-use mathlib.Core.Bool.{Bool, true, false, _&&_, _||_, not, cond}
+use mathlib.Core.Bool.{false, cond}
 use mathlib.Core.List.{List}
 use Prim.Native.Nat.{ℕ, _+_, _≤_, _<_}
 use native.Mathlib.Omega.{arith}
@@ -13,6 +13,7 @@ use lib.Seq.{getD-set-same, getD-set-other}
 use borrow.Author.Count.{below-none}
 use borrow.Author.Tests.{eq-eqb, ne-eqb}
 use Rattle.lists.specs.Truth.{clash, false-if, and-both}
+use Rattle.lists.specs.Flags.{and-flags, or-flags}
 use Rattle.lists.specs.Range.{any, any-none, any-next}
 use Rattle.chart.specs.Format.{Decoded, nodeAt, edgeAt, constructAt}
 use Rattle.chart.specs.Scope.{beginNode, endNode, sectionByte}
@@ -51,22 +52,6 @@ sections-more {D} {kind} {c} {x} {v} {table} b one h T e = record {
 section-told : {D : Decoded} {kind c : ℕ} {table : List ℕ} → badNodes D ≡ false → beginNode ≤ kind → length (D .constructs) ≤ c → SectionsTo D kind c table
     → (x : ℕ) → x < 256 → getD table x 0 ≡ cond (framesSection D kind x) 1 0
 section-told {D} h b all T x l = T .at x l (λ k. omega (arith, all, frame-below D x h (in-chart D x (omega arith)) (omega arith)))
-
-and-flags : (a b : Bool) → bitAnd (cond a 1 0) (cond b 1 0) ≡ cond (a && b) 1 0
-and-flags true true = refl
-and-flags true false = refl
-and-flags false true = refl
-and-flags false false = refl
-
-or-flags : (a b : Bool) → bitOr (cond a 1 0) (cond b 1 0) ≡ cond (a || b) 1 0
-or-flags true true = refl
-or-flags true false = refl
-or-flags false true = refl
-or-flags false false = refl
-
-pub flag-asks : (b : Bool) → not (eqb (cond b 1 0) 0) ≡ b
-flag-asks true = refl
-flag-asks false = refl
 
 -- one edge more
 pub joins-more : {D : Decoded} (i : ℕ) {c found a b : ℕ} {from to : List ℕ} → badNodes D ≡ false → length (D .constructs) ≤ c → SectionsTo D endNode c from → SectionsTo D beginNode c to

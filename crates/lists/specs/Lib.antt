@@ -1,4 +1,5 @@
 pub mod Truth
+pub mod Flags
 pub mod Range
 pub mod Means
 pub mod Counting

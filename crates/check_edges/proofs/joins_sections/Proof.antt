@@ -6,11 +6,12 @@ use Prim.Native.Nat.{ℕ, _≤_, _-_}
 use native.Mathlib.Omega.{arith}
 use lib.ListN.{length}
 use borrow.Author.Needs.{needs}
+use Rattle.lists.specs.Flags.{flag-asks}
 use Rattle.lists.specs.Range.{any}
 use Rattle.chart.specs.Format.{decode}
 use Rattle.chart.specs.Refusal.{joinsSections}
 use Rattle.chart.proofs.Records.{edges-length, constructs-length}
-use Rattle.check_edges.proofs.Sections.{flag-asks, joins-more}
+use Rattle.check_edges.proofs.Sections.{joins-more}
 use Rattle.check_edges.proofs.joins_sections.Statement.{statement}
 use Rattle.check_edges.proofs.joins_sections.Tie as tie
 

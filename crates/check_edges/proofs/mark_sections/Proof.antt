@@ -1,13 +1,13 @@
 -- `check_edges::mark_sections` meets its contract: after c turns the begins and the ends of the first c constructs are noted.
 -- Assumes nothing.
-use mathlib.Core.Path.{_≡_, refl, ap, subst, _∙_}
-use mathlib.Core.Bool.{Bool, true, false, cond}
+use mathlib.Core.Path.{_≡_, ap, subst, _∙_}
+use mathlib.Core.Bool.{cond}
 use Prim.Native.Nat.{ℕ, _≤_, _<_, _-_}
 use native.Mathlib.Omega.{arith}
 use lib.Dec.{eqb}
 use lib.ListN.{length}
-use mir.Val.{boolByte}
 use borrow.Author.Needs.{needs}
+use Rattle.lists.specs.Flags.{as-flag}
 use Rattle.chart.specs.Format.{decode}
 use Rattle.chart.specs.Scope.{beginNode, endNode, sectionByte}
 use Rattle.chart.proofs.Facts.{frames-fit}
@@ -16,10 +16,6 @@ use Rattle.check_edges.specs.Tables.{SectionsTo}
 use Rattle.check_edges.proofs.Sections.{sections-none, sections-more}
 use Rattle.check_edges.proofs.mark_sections.Statement.{statement}
 use Rattle.check_edges.proofs.mark_sections.Tie as tie
-
-as-flag : (b : Bool) → boolByte b ≡ cond b 1 0
-as-flag true = refl
-as-flag false = refl
 
 abbrev Inv-loop : tie.InvT-loop
 Inv-loop s chart begins ends from₀ to₀ n c₀ from to c =
