@@ -15,6 +15,7 @@ ghost use Rattle.answer_constructs.specs.Marks.{OfKind};
 use chart::format::Chart;
 use chart::format::Construct;
 use masks::bits::bit;
+use masks::bits::both;
 use masks::unions::BITS;
 use masks::unions::add;
 
@@ -29,17 +30,15 @@ pub fn add_if(holds: bool, c: usize, mask: u64) -> u64
     mask
 }
 
-// Of one kind, with the same name and filter. Only criticals have names and only masters have filters: of each kind one number is compared.
+// Of one kind, with the same name and filter. Only criticals have names and only masters have filters: of each kind one number is compared. All three
+// are compared at once, since on a chart that was not seen before none foretells the next.
 fn alike(a: Construct, b: Construct) -> bool
     ensures { λ r. ⌜ r ≡ (eqb (a .kind) (b .kind) && (eqb (a .name) (b .name) && eqb (a .filter) (b .filter))) ⌝ }
 {
-    if a.kind != b.kind {
-        return false;
-    }
-    if a.name != b.name {
-        return false;
-    }
-    a.filter == b.filter
+    let kind = a.kind == b.kind;
+    let name = a.name == b.name;
+    let filter = a.filter == b.filter;
+    both(kind, both(name, filter))
 }
 
 // The constructs like this one.

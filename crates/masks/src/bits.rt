@@ -1,6 +1,6 @@
 // Bits of a mask, and flags: the leaves that counts, searches and rules are made of.
 ghost use mathlib.Core.Path.{_≡_};
-ghost use mathlib.Core.Bool.{_||_};
+ghost use mathlib.Core.Bool.{_&&_, _||_};
 ghost use Prim.Native.Nat.{_^_, _≤_, _<_};
 ghost use lib.Count.{ones as Count·ones};
 ghost use Rattle.lists.specs.Bits.{has as Bits·has};
@@ -43,6 +43,16 @@ pub fn common(m: u64, n: u64) -> bool
     ensures { λ r. ⌜ r ≡ commonBit m n ⌝ }
 {
     (m & n) != 0
+}
+
+// Both of two tests.
+pub fn both(a: bool, b: bool) -> bool
+    ensures { λ r. ⌜ r ≡ (a && b) ⌝ }
+{
+    if a {
+        return b;
+    }
+    false
 }
 
 // One of two tests.
