@@ -18,6 +18,7 @@ use Rattle.chart.specs.Checked.{reading}
 use Rattle.chart.specs.declared.format.Chart.{Chart}
 use Rattle.chart.proofs.Records.{constructs-length}
 use Rattle.chart.proofs.RegionFacts.{Counts}
+use Rattle.chart.proofs.Tree.{Below}
 use Rattle.mark_tables.specs.Tables.{Accepted}
 use Rattle.answer_constructs.specs.Chains.{Chains, maskAt}
 use Rattle.answer_constructs.specs.Marks.{OfKind}
@@ -58,6 +59,15 @@ places-more {D} {chains} {inside} {done} {places} P l = record {
 mask-inner : (chains : List ℕ) (c : ℕ) → c < 48 → maskAt chains c ≡ getD chains c 0
 unfolding maskAt
 mask-inner chains c l = rw (ne-eqb c outside (λ q. omega arith)) refl
+
+-- a parent's mask stands at its place, and 0 where there is none
+pub parent-found : {D : Decoded} {chains : List ℕ} {inside done p : ℕ} {places : List ℕ} → Below done p → done < 48 → Places D chains inside done places
+    → getD places (p % 64) 0 ≡ maskAt chains p
+unfolding maskAt
+parent-found (inl q) l P = rw (q, P .none)
+parent-found {chains = chains} {p = p} (inr b) l P =
+    let z : p % 64 ≡ p = omega arith in
+    rw z (P .inner p b ∙ sym (mask-inner chains p (omega arith)))
 
 module _ (s : List ℕ) (chart : Chart) (A : Accepted s chart) where
   abbrev kind : ℕ → ℕ

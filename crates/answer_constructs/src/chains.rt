@@ -1,13 +1,14 @@
 // What a node in each construct holds, as masks of constructs.
 ghost use mathlib.Core.Path.{_≡_};
-ghost use mathlib.Core.Bool.{cond};
+ghost use mathlib.Core.Bool.{_||_, cond};
 ghost use Prim.Native.Nat.{_+_, _<_};
+ghost use lib.Dec.{eqb};
 ghost use lib.ListN.{length};
 ghost use Rattle.lists.specs.Bits.{has as hasBit};
 ghost use Rattle.lists.specs.Mask.{Mask, maskOf};
 ghost use Rattle.chart.specs.Format.{outside, decode, constructAt};
 ghost use Rattle.chart.specs.Region.{master};
-ghost use Rattle.chart.specs.Scope.{masterByte, orderedByte, sectionByte};
+ghost use Rattle.chart.specs.Scope.{singleByte, masterByte, orderedByte, sectionByte};
 ghost use Rattle.chart.specs.Nested.{countsIn};
 ghost use Rattle.chart.specs.Checked.{reading};
 ghost use Rattle.chart.proofs.RegionFacts.{Counts};
@@ -37,7 +38,7 @@ pub fn mask_at(masks: &[u64; Chart::CONSTRUCTS], p: u8) -> u64
 
 // Bit c, where construct d does not return.
 fn lasting(c: usize, d: usize, returning: u64) -> u64
-    requires { ⌜ (c < 48) × (d < 48) ⌝ }
+    requires { ⌜ (c < 64) × (d < 64) ⌝ }
     ensures { λ r. ⌜ r ≡ lastingBit returning d c ⌝ }
 {
     if has(returning, d) {
@@ -46,24 +47,46 @@ fn lasting(c: usize, d: usize, returning: u64) -> u64
     bit(c)
 }
 
+// One of two constructs.
+fn pick(first: bool, a: usize, b: usize) -> usize
+    ensures { λ r. ⌜ r ≡ cond first a b ⌝ }
+{
+    if first {
+        return a;
+    }
+    b
+}
+
+// Whether a construct of this kind gives a bit that goes where a construct returns.
+fn may_last(kind: u8) -> bool
+    ensures { λ r. ⌜ r ≡ (eqb kind singleByte || (eqb kind orderedByte || eqb kind sectionByte)) ⌝ }
+{
+    if kind == Construct::SINGLE {
+        return true;
+    }
+    if kind == Construct::ORDERED {
+        return true;
+    }
+    kind == Construct::SECTION
+}
+
 // What a node holds for being inside construct c: a single and, for an ordered, its do, where they do not return; a section where its parent
-// does not; for a master the masters for its thread, since that one goes into all of them.
+// does not; for a master the masters for its thread, since that one goes into all of them. The bit is made before the kind is asked, so that no
+// branch has to foretell it.
 fn own(construct: Construct, c: usize, returning: u64, masters: u64) -> u64
     requires { ⌜ (c < 48) × (construct .kind ≡ orderedByte → construct .parent < 48) × (construct .kind ≡ sectionByte → construct .parent < 48) ⌝ }
     ensures { λ r. ⌜ r ≡ ownMask (construct .kind) (construct .parent) c returning masters ⌝ }
 {
-    if construct.kind == Construct::MASTER {
+    let kind = construct.kind;
+    let parent = wide(construct.parent) % BITS;
+    let given = pick(kind == Construct::ORDERED, parent, c);
+    let asked = pick(kind == Construct::SINGLE, c, parent);
+    let lasts = lasting(given, asked, returning);
+    if kind == Construct::MASTER {
         return masters;
     }
-    if construct.kind == Construct::SINGLE {
-        return lasting(c, c, returning);
-    }
-    if construct.kind == Construct::ORDERED {
-        let parent = wide(construct.parent);
-        return lasting(parent, parent, returning);
-    }
-    if construct.kind == Construct::SECTION {
-        return lasting(c, wide(construct.parent), returning);
+    if may_last(kind) {
+        return lasts;
     }
     0
 }

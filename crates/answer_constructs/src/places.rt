@@ -5,7 +5,6 @@ ghost use lib.ListN.{getD, length, replicate};
 ghost use Rattle.chart.specs.Format.{decode};
 ghost use Rattle.mark_tables.specs.Tables.{Accepted};
 ghost use Rattle.answer_constructs.specs.Below.{placeOf, Places, LaidOut};
-use crate::chains::mask_at;
 use chart::cursor::wide;
 use chart::format::Chart;
 use chart::format::Construct;
@@ -17,7 +16,8 @@ type PlaceTable = [u64; PLACES];
 
 const PLACES: usize = 128;
 
-// A node has what the construct has that it lies in; the begin and the end of a construct have its bits of `inside` too.
+// A node has what the construct has that it lies in; the begin and the end of a construct have its bits of `inside` too. A parent is lower, and so
+// done, and where there is none its number leads to place 63.
 fn fill_places(
     s: &[u8],
     chart: Chart,
@@ -32,7 +32,7 @@ fn fill_places(
     let mut c = 0;
     while c < n {
         let construct = Construct::read(s, chart, c);
-        let above = mask_at(chains, construct.parent);
+        let above = places[wide(construct.parent) % 64];
         places[c] = chains[c];
         places[64 + c] = above | (chains[c] & inside);
         c += 1;

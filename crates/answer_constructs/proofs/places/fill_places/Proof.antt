@@ -1,17 +1,16 @@
 -- `answer_constructs::places::fill_places` meets its contract. The loop's invariant: the places of the constructs passed are there.
 -- Assumes nothing.
-use mathlib.Core.Path.{_≡_, sym, subst}
+use mathlib.Core.Path.{_≡_}
 use Prim.Native.Nat.{_≤_, _<_, _-_}
 use native.Mathlib.Omega.{arith}
 use lib.ListN.{length, length-set}
+use borrow.Author.Needs.{needs}
 use Rattle.chart.specs.Format.{decode}
 use Rattle.chart.specs.Scope.{parentOf}
 use Rattle.chart.proofs.Records.{constructs-length}
-use Rattle.chart.proofs.Tree.{Below}
 use Rattle.answer_constructs.specs.Below.{Places}
-use Rattle.answer_constructs.proofs.Constructs.{index-below}
-use Rattle.answer_constructs.proofs.Nodes.{parent-place}
-use Rattle.answer_constructs.proofs.Laying.{places-none, places-more}
+use Rattle.answer_constructs.proofs.Constructs.{parent-lower}
+use Rattle.answer_constructs.proofs.Laying.{places-none, places-more, parent-found}
 use Rattle.answer_constructs.proofs.places.fill_places.Statement.{statement}
 use Rattle.answer_constructs.proofs.places.fill_places.Tie as tie
 
@@ -34,46 +33,46 @@ low i = omega (arith, start i .pre .0 .laid .constructs-most, i .loop-test .take
 read-requires : tie.Need-read-requires Inv-loop μ-loop
 read-requires c κs = (start c .pre .0 .laid, omega arith)
 
-mask-at-requires : tie.Need-mask-at-requires Inv-loop μ-loop
-unfolding parentOf
-mask-at-requires c κs =
-    let i = c .before in
-    let e = start i in
-    let l : i .before .loop .c < length (decode (e .args .s .now) .constructs) = omega (arith, constructs-length _ (e .args .chart) (e .pre .0 .laid), i .loop-test .taken) in
-    index-below (e .pre .0 .laid .constructs-most)
-    (subst (Below (e .args .chart .constructs)) (sym (c .read .ensures .1)) (parent-place _ (e .args .chart) (e .pre .0) (i .before .loop .c) l))
+wide-requires : tie.Need-wide-requires Inv-loop μ-loop
+wide-requires c κs = search needs
+
+mul-above : tie.Need-mul-above Inv-loop μ-loop
+mul-above c = omega arith
+
+element-copy-out-above : tie.Need-element-copy-out-above Inv-loop μ-loop
+element-copy-out-above c = omega (arith, c .before .before .before .loop .inv .1 .long)
 
 mul-places : tie.Need-mul-places Inv-loop μ-loop
-mul-places c = omega (arith, low (c .before .before))
+mul-places c = omega (arith, low (c .before .before .before))
 
 element-copy-out-places : tie.Need-element-copy-out-places Inv-loop μ-loop
-element-copy-out-places c = low (c .before .before)
+element-copy-out-places c = low (c .before .before .before)
 
 mul-places-2 : tie.Need-mul-places-2 Inv-loop μ-loop
-mul-places-2 c = omega (arith, low (c .before .before .before))
+mul-places-2 c = omega (arith, low (c .before .before .before .before))
 
 element-write-places : tie.Need-element-write-places Inv-loop μ-loop
-element-write-places c = omega (arith, low (c .before .before .before), c .before .before .before .before .loop .inv .1 .long)
+element-write-places c = omega (arith, low (c .before .before .before .before), c .before .before .before .before .before .loop .inv .1 .long)
 
 mul-places-3 : tie.Need-mul-places-3 Inv-loop μ-loop
-mul-places-3 c = omega (arith, low (c .before .before .before))
+mul-places-3 c = omega (arith, low (c .before .before .before .before))
 
 element-copy-out-places-2 : tie.Need-element-copy-out-places-2 Inv-loop μ-loop
-element-copy-out-places-2 c = low (c .before .before .before)
+element-copy-out-places-2 c = low (c .before .before .before .before)
 
 add-places : tie.Need-add-places Inv-loop μ-loop
-add-places c = omega (arith, low (c .before .before .before .before))
+add-places c = omega (arith, low (c .before .before .before .before .before))
 
 mul-places-4 : tie.Need-mul-places-4 Inv-loop μ-loop
-mul-places-4 c = omega (arith, low (c .before .before .before .before))
+mul-places-4 c = omega (arith, low (c .before .before .before .before .before))
 
 element-write-places-2 : tie.Need-element-write-places-2 Inv-loop μ-loop
 element-write-places-2 c =
-    let l = c .before .before .before .before .before in
-    omega (arith, low (c .before .before .before .before), length-set (l .loop .places) (l .loop .c) 0, l .loop .inv .1 .long)
+    let l = c .before .before .before .before .before .before in
+    omega (arith, low (c .before .before .before .before .before), length-set (l .loop .places) (l .loop .c) 0, l .loop .inv .1 .long)
 
 add-c : tie.Need-add-c Inv-loop μ-loop
-add-c c = omega (arith, low (c .before .before .before .before))
+add-c c = omega (arith, low (c .before .before .before .before .before))
 
 loop-less : tie.Need-loop-less Inv-loop μ-loop
 loop-less c = omega arith
@@ -81,10 +80,14 @@ loop-less c = omega arith
 loop-again : tie.Need-loop-again Inv-loop μ-loop
 unfolding parentOf
 loop-again c =
-    let m = c .before .before in
-    let r = m .before in
+    let w = c .before .before .before in
+    let r = w .before in
     let i = r .before in
-    (omega arith, rw (m .mask-at .ensures, r .read .ensures .1) (places-more (i .before .loop .inv .1) (low i)))
+    let e = start i in
+    let k = i .before .loop .c in
+    let l : k < length (decode (e .args .s .now) .constructs) = omega (arith, constructs-length _ (e .args .chart) (e .pre .0 .laid), i .loop-test .taken) in
+    let above = parent-found (parent-lower _ (e .args .chart) (e .pre .0) k l) (low i) (i .before .loop .inv .1) in
+    (omega arith, rw (w .wide .ensures .0, r .read .ensures .1, above) (places-more (i .before .loop .inv .1) (low i)))
 
 returns : tie.Need-returns Inv-loop μ-loop
 returns c =
@@ -100,7 +103,9 @@ fill-places-spec =
     μ-loop
     loop-holds
     read-requires
-    mask-at-requires
+    wide-requires
+    mul-above
+    element-copy-out-above
     mul-places
     element-copy-out-places
     mul-places-2
