@@ -23,12 +23,16 @@ use chart::format::Construct;
 use chart::format::Frames;
 use chart::format::Refusal;
 use check_chart::check::check;
-use mark::boundaries::fill;
+use mark::boundaries::conclude;
+use mark::returns::add_ends;
+use mark::returns::asked;
 use mark::returns::returns;
 use mark_regions::inner::bad_region;
 use mark_regions::outermost::refuses;
 use mark_tables::tables::load_tables;
+use search::edges::Extent;
 use search::edges::Parts;
+use search::search::boundaries;
 
 // Row 10, which is asked of the outermost region alone, and the masks of any region of a chart that rows 1 to 9 let pass, given where its
 // constructs begin and end. The region's tables are loaded once, and all masks are found by them.
@@ -50,24 +54,34 @@ fn survey_region(
     let mut stops = [0u8; Chart::NODES];
     let mut nodes = [0u8; Chart::BARRIERS];
     let mut levels = [0u8; Chart::NODES];
-    let extent = load_tables(s, chart, &mut edges, &mut places, &mut stops, &mut nodes);
+    let loaded = load_tables(s, chart, &mut edges, &mut places, &mut stops, &mut nodes);
+    let barriers = loaded.barriers;
+    let parts = loaded.parts;
+    let n = asked(s, chart, begin_nodes, end_nodes, parts);
+    let total = add_ends(end_nodes, n, barriers, &mut nodes);
+    let extent = Extent {
+        barriers,
+        total,
+        nodes: loaded.nodes,
+        parts,
+    };
     let mut ends = [0u64; Chart::NODES];
     let starts = &mut marks[STARTS];
-    let lost = fill(
+    boundaries(
         &edges,
         &places,
-        &nodes,
         extent,
+        &nodes,
         starts,
-        &mut ends,
         &mut levels,
+        &mut ends,
     );
+    let returning = returns(begin_nodes, end_nodes, n, &edges, &places, extent, starts);
+    let lost = conclude(&edges, &nodes, extent, starts, &ends);
     marks[ENDS] = ends;
     if refuses(chart, lost) {
         return Checked::Refused(Refusal::PATHS);
     }
-    let parts = extent.parts;
-    let returning = returns(s, chart, begin_nodes, end_nodes, &edges, &places, parts);
     *kinds = fill_held(s, chart, returning, &mut marks[HELD]);
     Checked::Passed(chart)
 }

@@ -194,8 +194,8 @@ module _ {R : Region} (W : WellFormed R) where
     closed : (x z : ℕ) → Node x → Path (Along d R) (Open R) x z → (Open R z → ⊥) → Node z
     closed x z (c, l, e, j) p n =
         let (b, m, q) = barrier-number R W z (is-barrier _ (false-if (λ h. n (no-barrier _ h)))) in
-        let r : getD nodes b 0 ≡ z = B .at b ∙ q in
         let k : b < total = omega (arith, B .count) in
+        let r : getD nodes b 0 ≡ z = B .at b k ∙ q in
         (b, k, r, grows b c k l j (rw (e, r) p))
 
     abbrev Led : ℕ → Type 0
@@ -214,7 +214,7 @@ module _ {R : Region} (W : WellFormed R) where
     apart b = not (eqb b source) && not (leadsAny d R (getD nodes source 0) (getD nodes b 0))
 
     as-barriers : any total apart ≡ lostBarrier d R source
-    as-barriers = rw (← B .count) (any-same total _ _ (λ b l. rw (B .at b, B .at source)))
+    as-barriers = rw (← B .count) (any-same total _ _ (λ b l. rw (B .at b l, B .at source within)))
 
     -- where T tells of each two barriers whether a path leads from one to the other, past none of them
     module _ (T : ℕ → ℕ → Type 0) (told-path : (b c : ℕ) → T b c → Path (Along d R) (Open R) (getD nodes c 0) (getD nodes b 0))
@@ -293,14 +293,15 @@ module _ {R : Region} (W : WellFormed R) where
       found : (x : ℕ) → R .role x ≡ barrier → (x ≡ getD nodes source 0 → ⊥) → leadsAny d R (getD nodes source 0) x ≡ true
       found x k n =
           let (b, l, q) = barrier-number R W x k in
-          let e : getD nodes b 0 ≡ x = B .at b ∙ q in
-          rw e at (reached b (omega (arith, B .count)) (λ s. n (sym e ∙ ap (λ (c : ℕ). getD nodes c 0) s)))
+          let k : b < total = omega (arith, B .count) in
+          let e : getD nodes b 0 ≡ x = B .at b k ∙ q in
+          rw e at (reached b k (λ s. n (sym e ∙ ap (λ (c : ℕ). getD nodes c 0) s)))
 
       asked : (x : ℕ) → (noBarrier (R .role x) ≡ true) ⊎ (noBarrier (R .role x) ≡ false)
           → (eqb (cond (noBarrier (R .role x)) 0 1) 0 && eqb (getD values x 0) 0) ≡ (not (eqb x (getD nodes source 0)) && not (leadsAny d R (getD nodes source 0) x))
       asked x (inl t) =
           let other : x ≡ getD nodes source 0 → ⊥ = λ e.
-          clash t (ap noBarrier (ap (R .role) (e ∙ B .at source) ∙ number-barrier R W source (omega (arith, B .count)))) in
+          clash t (ap noBarrier (ap (R .role) (e ∙ B .at source within) ∙ number-barrier R W source (omega (arith, B .count)))) in
           rw (t, ne-eqb _ _ other) (same x (no-barrier _ t) (ℕ-discrete (getD values x 0) 0))
       asked x (inr t) = elim (ℕ-discrete x (getD nodes source 0)) [
         | yes e ↦ rw (t, eq-eqb _ _ e)
@@ -308,7 +309,7 @@ module _ {R : Region} (W : WellFormed R) where
       ]
 
       nodes-lost : {stops : List ℕ} → Stops R stops → missing stops values (R .nodes) ≡ lost d R (barrierAt R source)
-      nodes-lost S = rw (← B .at source) (any-same (R .nodes) _ _ (λ x l. rw (S .at x) (asked x (truth (noBarrier (R .role x))))))
+      nodes-lost S = rw (← B .at source within) (any-same (R .nodes) _ _ (λ x l. rw (S .at x) (asked x (truth (noBarrier (R .role x))))))
 
     -- both together
     pub parts-lost : {stops values : List ℕ} → Reaches (Along d R) (Open R) nodes total values → Stops R stops

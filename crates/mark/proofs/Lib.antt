@@ -1,4 +1,5 @@
 pub mod Blanks
+pub mod Further
 pub mod JoiningLaws
 pub mod Rising
 pub mod Searching

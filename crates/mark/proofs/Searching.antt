@@ -4,7 +4,7 @@ use mathlib.Core.Path.{_≡_, refl, ap, sym, _∙_, subst}
 use mathlib.Core.Logic.{_⊎_, inl, inr}
 use mathlib.Core.Bool.{Bool, true, false, _||_, not, cond}
 use mathlib.Core.List.{List}
-use Prim.Native.Nat.{ℕ, _≤_, _<_}
+use Prim.Native.Nat.{ℕ, _+_, _≤_, _<_}
 use native.Mathlib.Omega.{arith}
 use lib.Dec.{eqb}
 use lib.ListN.{length, getD}
@@ -31,11 +31,11 @@ use Rattle.theory_paths.specs.Decide.{noBarrier, no-barrier, barrier-no, free-p
 use Rattle.theory_paths.specs.Graph.{Listed}
 use Rattle.theory_paths.specs.Found.{Clear, Reached, Found, Leveled}
 use Rattle.theory_paths.specs.FoundLaws.{found-carry, leveled-carry}
-use Rattle.theory_paths.specs.Phases.{Direction, forward, backward, leads, isBoundary, barriers, barrierAt, marked, marks, edgesFree, nearest, returning}
+use Rattle.theory_paths.specs.Phases.{Direction, forward, backward, leads, isBoundary, barriers, barrierAt, marked, marks, edgesFree, nearest}
 use Rattle.theory_paths.specs.PhasesLaws.{is-barrier, number-barrier, barrier-number, leads-free, free-leads}
 use Rattle.theory_paths.specs.Cut.{edgesOf}
 use Rattle.check_nodes.specs.Framed.{Framed}
-use Rattle.mark_tables.specs.Tables.{Accepted, Along, Arranged, Handed, Stops, Barriers}
+use Rattle.mark_tables.specs.Tables.{Accepted, Along, Arranged, Handed, Stops, Barriers, Returned}
 use Rattle.mark_tables.proofs.Accepted.{tables, few-constructs, well-formed}
 use Rattle.mark_tables.proofs.Columns.{places-first}
 use Rattle.search.specs.Parts.{row}
@@ -81,23 +81,24 @@ module _ {R : Region} (W : WellFormed R) where
       few : total ≡ length (barriers R)
       few = B .count
 
-      same : (b : ℕ) → edgesFree d R (getD sources b 0) x ≡ edgesFree d R (barrierAt R b) x
-      same b = ap (λ (z : ℕ). edgesFree d R z x) (B .at b)
+      same : (b : ℕ) → b < total → edgesFree d R (getD sources b 0) x ≡ edgesFree d R (barrierAt R b) x
+      same b l = ap (λ (z : ℕ). edgesFree d R z x) (B .at b l)
 
       below : (b : ℕ) → b < length (barriers R) → 0 < edgesFree d R (barrierAt R b) x
           → (0 < getD levels x 0) × (getD levels x 0 ≤ edgesFree d R (barrierAt R b) x)
       below b l h =
-          let (w, q) = edges-path d (getD sources b 0) x (omega (arith, same b)) in
-          let (a, c) = F .least b x (omega arith) o w in
-          (a, omega (arith, same b))
+          let k : b < total = omega arith in
+          let (w, q) = edges-path d (getD sources b 0) x (omega (arith, same b k)) in
+          let (a, c) = F .least b x k o w in
+          (a, omega (arith, same b k))
 
       one : 0 < getD levels x 0 → (b : ℕ) × (b < length (barriers R)) × (edgesFree d R (barrierAt R b) x ≡ getD levels x 0)
       one h =
           let r = F .path x o h in
           let (p, q) = path-edges d (getD sources (r .source) 0) x (r .path) in
           let l : r .source < length (barriers R) = omega (arith, r .below) in
-          let (a, c) = below (r .source) l (omega (arith, same (r .source))) in
-          (r .source, l, omega (arith, same (r .source), r .long))
+          let (a, c) = below (r .source) l (omega (arith, same (r .source) (r .below))) in
+          (r .source, l, omega (arith, same (r .source) (r .below), r .long))
 
 clear-free : (b : Bool) → _≡_ {A = ℕ} (cond b 0 1) 0 → b ≡ true
 clear-free true h = refl
@@ -120,11 +121,12 @@ module _ {R : Region} {stops : List ℕ} (S : Stops R stops) where
 
   -- stops stand on the barriers
   pub standing : WellFormed R → {nodes : List ℕ} {total : ℕ} → Barriers R nodes total → Standing stops nodes total
-  standing W B = record {
-    on = λ b l. stopped _ (ap noBarrier (ap (R .role) (B .at b) ∙ number-barrier R W b (omega (arith, B .count))));
+  standing W {total = total} B = record {
+    on = λ b l. stopped _ (ap noBarrier (ap (R .role) (B .at b l) ∙ number-barrier R W b (omega (arith, B .count))));
     number = λ y n.
         let (b, l, q) = barrier-number R W y (is-barrier _ (false-if (λ t. n (S .at y ∙ rw t)))) in
-        (b, omega (arith, B .count), B .at b ∙ q);
+        let k : b < total = omega (arith, B .count) in
+        (b, k, B .at b k ∙ q);
   }
 
   module _ (d : Direction) {E : ℕ → ℕ → Type 0} (f : (x y : ℕ) → E x y → Along d R x y) (g : (x y : ℕ) → Along d R x y → E x y) where
@@ -159,7 +161,7 @@ module _ {R : Region} {stops : List ℕ} (S : Stops R stops) where
         go : (noBarrier (R .role y) ≡ true) ⊎ (noBarrier (R .role y) ≡ false) → getD masks y 0 ≡ maskOf (marked d R y) (length (barriers R))
         go (inl t) =
             let same : maskOf (λ b. leads d R (getD nodes b 0) y) total ≡ maskOf (λ b. leads d R (getD (barriers R) b 0) y) (length (barriers R))
-            = rw (B .count) (mask-same _ _ _ (λ b l. rw (B .at b))) in
+            = rw (← B .count) (mask-same _ _ _ (λ b l. rw (B .at b l))) in
             free-mask W d nodes total y (getD masks y 0) (along-mask nodes total y (getD masks y 0) (w .clear y (S .at y ∙ rw t)))
             ∙ same
             ∙ mask-same _ (marked d R y) _ (λ b l. rw (t, number-barrier R W b l))
@@ -198,25 +200,32 @@ module _ (s : List ℕ) (chart : Chart) (A : Accepted s chart) where
   none-back c x l w e = W .start-first (subst (λ (y : ℕ). R .edge x y ≡ true) (sym (start-begin c l w)) e)
 
   pub ends-reach : (n : ℕ) → n ≡ length (decode s .constructs)
-      → {edges : List (List ℕ)} {places stops begins ends masks : List ℕ} {parts : Parts} (T : Arranged (reading s chart) edges places stops parts)
+      → {edges : List (List ℕ)} {places stops begins ends sources masks : List ℕ} {parts : Parts} {total : ℕ} (T : Arranged (reading s chart) edges places stops parts)
       → Stops (reading s chart) stops → Framed (decode s) beginNode begins → Framed (decode s) endNode ends
-      → Spread (Listed (row edges 0) (row edges 1) (T .count)) stops ends n masks
-      → maskOf (λ c. has (getD masks (getD begins c 0) 0) c) n ≡ returning (reading s chart)
-  unfolding returning returns
-  ends-reach n q {edges} {stops = stops} {begins} {ends} {masks} T S B E w = rw q (mask-same _ _ _ (λ c l. bit c l (truth (noBarrier (R .role (getD begins c 0))))))
+      → (first : ℕ) → first + n ≤ total → ((c : ℕ) → c < n → getD sources (first + c) 0 ≡ getD ends c 0)
+      → Spread (Listed (row edges 0) (row edges 1) (T .count)) stops sources total masks
+      → Returned (reading s chart) (maskOf (λ c. has (getD masks (getD begins c 0) 0) (first + c)) n)
+  unfolding returns
+  ends-reach n q {edges} {stops = stops} {begins} {ends} {sources} {masks} {total = total} T S B E first few at w = λ c l _.
+      has-of (λ c. has (getD masks (getD begins c 0) 0) (first + c)) n c (omega arith) ∙ bit c l (truth (noBarrier (R .role (getD begins c 0))))
     where
-      edge-in : (c : ℕ) {y : ℕ} → Listed (row edges 0) (row edges 1) (T .count) (getD ends c 0) (getD begins c 0) → getD begins c 0 ≡ y → R .edge (getD ends c 0) y ≡ true
-      edge-in c e q = subst (λ (y : ℕ). R .edge (getD ends c 0) y ≡ true) q (T .listed-edge _ _ e)
+      end : (c : ℕ) → c < length (D .constructs) → getD sources (first + c) 0 ≡ frameOf (D .nodes) endNode c
+      end c l = at c (omega arith) ∙ E .at c l
+
+      edge-in : (c : ℕ) {y : ℕ} → Listed (row edges 0) (row edges 1) (T .count) (getD sources (first + c) 0) (getD begins c 0) → getD begins c 0 ≡ y
+          → R .edge (getD sources (first + c) 0) y ≡ true
+      edge-in c e q = subst (λ (y : ℕ). R .edge (getD sources (first + c) 0) y ≡ true) q (T .listed-edge _ _ e)
 
       bit : (c : ℕ) → c < length (D .constructs) → (noBarrier (R .role (getD begins c 0)) ≡ true) ⊎ (noBarrier (R .role (getD begins c 0)) ≡ false)
-          → has (getD masks (getD begins c 0) 0) c ≡ reachesFree R (frameOf (D .nodes) endNode c) (frameOf (D .nodes) beginNode c)
+          → has (getD masks (getD begins c 0) 0) (first + c) ≡ reachesFree R (frameOf (D .nodes) endNode c) (frameOf (D .nodes) beginNode c)
       bit c l (inl t) =
-          ap (λ (m : ℕ). has m c) (free-mask W forward ends n (getD begins c 0) _ (along-mask S forward (T .listed-edge) (T .edge-listed) ends n (getD begins c 0) _
+          ap (λ (m : ℕ). has m (first + c)) (free-mask W forward sources total (getD begins c 0) _ (along-mask S forward (T .listed-edge) (T .edge-listed) sources total (getD begins c 0) _
           (w .clear (getD begins c 0) (B .node c) (S .at _ ∙ rw t))))
-          ∙ has-of (λ b. reachesFree R (getD ends b 0) (getD begins c 0)) n c (omega arith)
-          ∙ ap (λ (x : ℕ). reachesFree R x (getD begins c 0)) (E .at c l)
+          ∙ has-of (λ b. reachesFree R (getD sources b 0) (getD begins c 0)) total (first + c) (omega arith)
+          ∙ ap (λ (x : ℕ). reachesFree R x (getD begins c 0)) (end c l)
           ∙ ap (reachesFree R (frameOf (D .nodes) endNode c)) (B .at c l)
       bit c l (inr t) =
           let b : R .role (frameOf (D .nodes) beginNode c) ≡ barrier = rw (← B .at c l) (is-barrier _ t) in
-          false-if (λ h. none-back c (getD ends c 0) l b (edge-in c (w .stop (getD begins c 0) (B .node c) (stopped S _ t) .only c (omega arith) (eqb-true _ 1 h)) (B .at c l)))
+          false-if (λ h. none-back c (getD sources (first + c) 0) l b
+          (edge-in c (w .stop (getD begins c 0) (B .node c) (stopped S _ t) .only (first + c) (omega arith) (eqb-true _ 1 h)) (B .at c l)))
           ∙ sym (false-if (λ h. let e = last-edge (free-path R W _ _ h) in none-back c (e .0) l b (e .1)))

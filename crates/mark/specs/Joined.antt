@@ -15,6 +15,8 @@ use Rattle.theory_paths.specs.Path.{Open}
 use Rattle.theory_paths.specs.Found.{Reached, Found}
 use Rattle.theory_paths.specs.Phases.{Direction, forward, backward, barriers, barrierAt}
 use Rattle.mark_tables.specs.Tables.{Along, leadsAny, Arranged, Stops, Barriers}
+use Rattle.search.specs.Search.{Spread, Cleared}
+use Rattle.search.specs.Promises.{Goes, Comes}
 use Rattle.search.specs.declared.edges.Parts.{Parts}
 use Rattle.search.specs.declared.edges.Extent.{Extent}
 
@@ -68,6 +70,12 @@ FoundAlong d nodes total masks P = (R : Region) → WellFormed R → Barriers R 
 abbrev pub TablesOf : List (List ℕ) → List ℕ → List ℕ → List ℕ → Extent → (Region → Type 0) → Type 0
 TablesOf edges places stops nodes extent P =
     (R : Region) → WellFormed R → Arranged R edges places stops (extent .parts) → Stops R stops → Barriers R nodes (extent .barriers) → P R
+
+-- Of each region of which a search from its barriers has found the starts and ends, P holds; the starts are not yet brought to the barriers.
+abbrev pub SpreadOf : List (List ℕ) → List ℕ → Extent → List ℕ → List ℕ → (Region → Type 0) → Type 0
+SpreadOf edges nodes extent starts ends P =
+    (places stops : List ℕ) (R : Region) → WellFormed R → (A : Arranged R edges places stops (extent .parts)) → Stops R stops → Barriers R nodes (extent .barriers)
+    → Spread (Goes edges (A .count)) stops nodes (extent .barriers) starts → Cleared (Comes edges (A .count)) stops nodes (extent .barriers) ends → P R
 
 -- The table is that of the region, parted by stops on its barriers.
 abbrev pub ArrangedBy : Region → List (List ℕ) → List ℕ → Parts → Type 0

@@ -6,7 +6,7 @@ use mathlib.Core.List.{List}
 use mathlib.Core.Option.{Option, none, some}
 use Prim.Native.Nat.{ℕ, _≤_, _<_}
 use native.Mathlib.Omega.{arith}
-use lib.ListN.{length, getD}
+use lib.ListN.{length}
 use Rattle.lists.specs.Truth.{bad}
 use Rattle.chart.specs.Format.{outside, decode}
 use Rattle.chart.specs.Region.{Region}
@@ -22,7 +22,7 @@ use Rattle.theory_paths.specs.Admission.{badPaths, admitRows}
 use Rattle.theory_paths.specs.Phases.{barriers}
 use Rattle.mark_tables.specs.Tables.{Accepted, Barriers}
 use Rattle.mark_tables.proofs.Accepted.{accepted, well-formed}
-use Rattle.mark_tables.proofs.Loading.{barriers-most, barriers-below}
+use Rattle.mark_tables.proofs.Loading.{barriers-most}
 use Rattle.mark_tables.proofs.Rows.{refused-paths, admits}
 use Rattle.mark.specs.Joined.{lostIn}
 use Rattle.mark.proofs.JoiningLaws.{some-barrier, both-ways}
@@ -62,9 +62,6 @@ module _ {s : List ℕ} {chart : Chart} (A : Accepted s chart) {nodes : List ℕ
 
   pub not-none : 0 < total
   not-none = omega (arith, some-barrier (reading s chart) (well-formed s chart A), B .count)
-
-  pub nodes-below : (b : ℕ) → getD nodes b 0 < 192
-  nodes-below b = omega (arith, B .at b, barriers-below s chart A b)
 
 -- row 10, of a chart that is read for its outermost region
 

@@ -121,7 +121,7 @@ barriers-most s chart A =
       tables s chart A .barriers .most (chart .region) (A .named),
     )
 
-pub barriers-below : (s : List ℕ) (chart : Chart) → Accepted s chart → (b : ℕ) → getD (barriers (reading s chart)) b 0 < 192
+barriers-below : (s : List ℕ) (chart : Chart) → Accepted s chart → (b : ℕ) → getD (barriers (reading s chart)) b 0 < 192
 unfolding barriers
 barriers-below s chart A b = go (decLt b (length (select n f)))
   where
@@ -156,4 +156,12 @@ module _ (s : List ℕ) (chart : Chart) (A : Accepted s chart) {stops : List ℕ
   stops-few = omega (arith, select-length 192 (hasStop stops), ap length stops-listed, barriers-most s chart A)
 
   pub listing-all : {nodes : List ℕ} {total : ℕ} → Listing stops 192 nodes total → Barriers (reading s chart) nodes total
-  listing-all L = record { count = L .count ∙ ap length stops-listed; at = λ b. L .at b ∙ ap (λ (l : List ℕ). getD l b 0) stops-listed }
+  listing-all {nodes} L = record {
+    long = L .long;
+    count = L .count ∙ ap length stops-listed;
+    at = λ b _. same b;
+    node = λ b. omega (arith, same b, barriers-below s chart A b);
+  }
+    where
+      same : (b : ℕ) → getD nodes b 0 ≡ getD (barriers (reading s chart)) b 0
+      same b = L .at b ∙ ap (λ (l : List ℕ). getD l b 0) stops-listed

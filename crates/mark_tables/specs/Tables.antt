@@ -113,10 +113,12 @@ asksReturn parallel = false
 abbrev pub Returned : Region → ℕ → Type 0
 Returned R mask = (c : ℕ) → c < R .constructs → asksReturn (R .kind c) ≡ true → has mask c ≡ returns R c
 
--- The nodes of the barriers, by number.
+-- The first nodes of the list are those of the barriers, by number.
 pub record Barriers (R : Region) (nodes : List ℕ) (total : ℕ) : Type 0 where
+  pub long : length nodes ≡ 64
   pub count : total ≡ length (barriers R)
-  pub at : (b : ℕ) → getD nodes b 0 ≡ barrierAt R b
+  pub at : (b : ℕ) → b < total → getD nodes b 0 ≡ barrierAt R b
+  pub node : (b : ℕ) → getD nodes b 0 < 192
 
 -- The masks of the nodes, in a direction.
 abbrev pub Masks : Direction → Region → List ℕ → Type 0

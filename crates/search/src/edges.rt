@@ -32,9 +32,10 @@ impl Parts {
     pub const ROWS: usize = 6;
 }
 
-// How many barriers and nodes there are, and the parts of the edges.
+// How many barriers, sources of a search and nodes there are, and the parts of the edges. The barriers are the first of the sources.
 pub struct Extent {
     pub barriers: usize,
+    pub total: usize,
     pub nodes: usize,
     pub parts: Parts,
 }

@@ -7,14 +7,16 @@ ghost use mathlib.Core.Bool.{true};
 ghost use mathlib.Core.List.{List};
 ghost use Prim.Native.Nat.{ℕ, _+_, _≤_, _<_};
 ghost use lib.ListN.{getD, length, replicate};
-ghost use Rattle.search.specs.Parts.{Split};
+ghost use Rattle.search.specs.Parts.{row, Split};
+ghost use Rattle.search.specs.Fed.{Sowed};
 ghost use Rattle.search.specs.Levels.{Each, Begins};
 ghost use Rattle.search.specs.Search.{Ready, Sown, Lone, Settled};
-ghost use Rattle.search.specs.Promises.{Goes, Table, Departs, Arrives, Proceeds, Recedes, SpreadsAhead, GoesOn, Spreads, Boundaries, Gathers};
+ghost use Rattle.search.specs.Promises.{Goes, Table, Arrives, Proceeds, Recedes, SpreadsAhead, GoesOn, Spreads, Boundaries, Gathers};
 use crate::close::FEW;
 use crate::close::close;
 use crate::edges::Extent;
 use crate::edges::Parts;
+use crate::levels::Level;
 use crate::nearest::fewest;
 use crate::nearest::searched;
 use crate::sources::Sources;
@@ -39,10 +41,40 @@ fn depart(
 )
     requires { ⌜ (total ≤ 64) × (now masks ≡ replicate 192 0) × ((parts : Parts) × Ready (now edges) (now places) parts) ⌝ }
     requires { ⌜ ((b : ℕ) → getD (now sources) b 0 < 192) ⌝ }
-    ensures { λ _. ⌜ Departs (now (edges .entry)) (now (places .entry)) (now (sources .entry)) total (now (masks .exit)) ⌝ }
+    ensures { λ _. ⌜ Sowed (row (now (edges .entry)) 1) (now (places .entry)) (now (sources .entry)) total (now (masks .exit)) ⌝ }
     ensures { λ _. ⌜ Each Begins (now (masks .exit)) (now (levels .exit)) ⌝ }
 {
-    sow(&edges[Parts::TO], places, sources, total, masks, levels);
+    *levels = [Level::NONE; Chart::NODES];
+    sow(&edges[Parts::TO], places, sources, 0, total, masks, levels);
+}
+
+// The bits of the sources that are no barriers. They bring no levels, and what sowing notes of them is left.
+fn depart_more(
+    edges: &[[u8; Chart::EDGES]; Parts::ROWS],
+    places: &[usize; Chart::PLACES],
+    extent: Extent,
+    sources: &[u8; Sources::MOST],
+    levels: &[u8; Chart::NODES],
+    masks: &mut [u64; Chart::NODES],
+)
+    requires { ⌜ (extent .barriers ≤ extent .total) × (extent .total ≤ 64) × Ready (now edges) (now places) (extent .parts) ⌝ }
+    requires { ⌜ ((b : ℕ) → getD (now sources) b 0 < 192) ⌝ }
+    requires { ⌜ Sowed (row (now edges) 1) (now places) (now sources) (extent .barriers) (now masks) × Each Begins (now masks) (now levels) ⌝ }
+    ensures { λ _. ⌜ Sowed (row (now (edges .entry)) 1) (now (places .entry)) (now (sources .entry)) (extent .total) (now (masks .exit)) ⌝ }
+{
+    if extent.total == extent.barriers {
+        return;
+    }
+    let mut noted = *levels;
+    sow(
+        &edges[Parts::TO],
+        places,
+        sources,
+        extent.barriers,
+        extent.total,
+        masks,
+        &mut noted,
+    );
 }
 
 // On from there, past no stop.
@@ -120,12 +152,15 @@ fn recede(edges: &[[u8; Chart::EDGES]; Parts::ROWS], parts: Parts, masks: &mut [
     );
 }
 
-// Whether all paths begin at the first source: there are two, and no edge leaves the second.
-fn lone(places: &[usize; Chart::PLACES], sources: &[u8; Sources::MOST], total: usize) -> bool
+// Whether all paths begin at the first source: there are two, both barriers, and no edge leaves the second.
+fn lone(places: &[usize; Chart::PLACES], sources: &[u8; Sources::MOST], extent: Extent) -> bool
     requires { ⌜ ((b : ℕ) → getD (now sources) b 0 < 192) ⌝ }
-    ensures { λ r. ⌜ (r ≡ true → Lone (now (places .entry)) (now (sources .entry)) total) ⌝ }
+    ensures { λ r. ⌜ (r ≡ true → (extent .barriers ≡ extent .total) × Lone (now (places .entry)) (now (sources .entry)) (extent .total)) ⌝ }
 {
-    if total != 2 {
+    if extent.barriers != 2 {
+        return false;
+    }
+    if extent.total != 2 {
         return false;
     }
     let second = wide(sources[1]);
@@ -161,12 +196,12 @@ fn onward(
     levels: &[u8; Chart::NODES],
     masks: &mut [u64; Chart::NODES],
 )
-    requires { ⌜ (extent .barriers ≤ 64) × ((b : ℕ) → getD (now sources) b 0 < 192) ⌝ }
-    requires { ⌜ ((e : ℕ) × (stops : List ℕ) × Split (now edges) e stops (extent .parts) × Sown (Goes (now edges) e) (now sources) (extent .barriers) (now masks)) ⌝ }
-    ensures { λ _. ⌜ GoesOn (now (edges .entry)) (now (places .entry)) (extent .parts) (now (sources .entry)) (extent .barriers) (now (levels .entry)) (now (masks .entry)) (now (masks .exit)) ⌝ }
+    requires { ⌜ (extent .total ≤ 64) × ((b : ℕ) → getD (now sources) b 0 < 192) ⌝ }
+    requires { ⌜ ((e : ℕ) × (stops : List ℕ) × Split (now edges) e stops (extent .parts) × Sown (Goes (now edges) e) (now sources) (extent .total) (now masks)) ⌝ }
+    ensures { λ _. ⌜ GoesOn (now (edges .entry)) (now (places .entry)) extent (now (sources .entry)) (now (levels .entry)) (now (masks .entry)) (now (masks .exit)) ⌝ }
     ensures { λ _. ⌜ length (now (masks .exit)) ≡ 192 ⌝ }
 {
-    if lone(places, sources, extent.barriers) {
+    if lone(places, sources, extent) {
         settle(sources, levels, masks);
         return;
     }
@@ -194,10 +229,10 @@ fn spread(
     levels: &mut [u8; Chart::NODES],
     ends: &mut [u64; Chart::NODES],
 )
-    requires { ⌜ (extent .barriers ≤ 64) × ((b : ℕ) → getD (now nodes) b 0 < 192) × Each Begins (now starts) (now levels) ⌝ }
-    requires { ⌜ ((ready : Ready (now edges) (now places) (extent .parts)) × Sown (Goes (now edges) (ready .count)) (now nodes) (extent .barriers) (now starts)) ⌝ }
+    requires { ⌜ (extent .barriers ≤ extent .total) × (extent .total ≤ 64) × ((b : ℕ) → getD (now nodes) b 0 < 192) × ((own : List ℕ) × Each Begins own (now levels)) ⌝ }
+    requires { ⌜ ((ready : Ready (now edges) (now places) (extent .parts)) × Sown (Goes (now edges) (ready .count)) (now nodes) (extent .total) (now starts)) ⌝ }
     requires { ⌜ (length (now ends) ≡ 192) × ((y : ℕ) → getD (now ends) y 0 < 18446744073709551616) ⌝ }
-    ensures { λ _. ⌜ Spreads (now (edges .entry)) (now (places .entry)) (extent .parts) (now (nodes .entry)) (extent .barriers)
+    ensures { λ _. ⌜ Spreads (now (edges .entry)) (now (places .entry)) extent (now (nodes .entry))
         (now (starts .entry)) (now (levels .entry)) (now (ends .entry)) (now (starts .exit)) (now (levels .exit)) (now (ends .exit)) ⌝ }
     ensures { λ _. ⌜ length (now (starts .exit)) ≡ 192 ⌝ }
 {
@@ -214,7 +249,8 @@ fn spread(
     recede(edges, extent.parts, ends);
 }
 
-// From the stops, forward and backward: the masks of the nodes that may be passed, and the levels. The starts of the stops are not told yet.
+// From the stops, forward and backward: the masks of the nodes that may be passed, and the levels. The starts of the stops are not told yet. From the
+// sources that are no stops forward alone.
 pub fn boundaries(
     edges: &[[u8; Chart::EDGES]; Parts::ROWS],
     places: &[usize; Chart::PLACES],
@@ -224,17 +260,18 @@ pub fn boundaries(
     levels: &mut [u8; Chart::NODES],
     ends: &mut [u64; Chart::NODES],
 )
-    requires { ⌜ (extent .barriers ≤ 64) × (now starts ≡ replicate 192 0) × (now ends ≡ replicate 192 0) × Ready (now edges) (now places) (extent .parts) ⌝ }
+    requires { ⌜ (extent .barriers ≤ extent .total) × (extent .total ≤ 64) × (now starts ≡ replicate 192 0) × (now ends ≡ replicate 192 0) × Ready (now edges) (now places) (extent .parts) ⌝ }
     requires { ⌜ ((b : ℕ) → getD (now nodes) b 0 < 192) ⌝ }
-    ensures { λ _. ⌜ Boundaries (now (edges .entry)) (now (places .entry)) (extent .parts) (now (nodes .entry)) (extent .barriers)
+    ensures { λ _. ⌜ Boundaries (now (edges .entry)) (now (places .entry)) extent (now (nodes .entry))
         (now (starts .exit)) (now (levels .exit)) (now (ends .exit)) ⌝ }
     ensures { λ _. ⌜ length (now (starts .exit)) ≡ 192 ⌝ }
 {
-    let total = extent.barriers;
-    depart(edges, places, nodes, total, starts, levels);
-    arrive(edges, extent.parts, nodes, total, ends);
+    let barriers = extent.barriers;
+    depart(edges, places, nodes, barriers, starts, levels);
+    depart_more(edges, places, extent, nodes, levels, starts);
+    arrive(edges, extent.parts, nodes, barriers, ends);
     spread(edges, places, extent, nodes, starts, levels, ends);
-    clear(nodes, total, ends);
+    clear(nodes, barriers, ends);
 }
 
 // The starts of all nodes, of which the stops keep none.

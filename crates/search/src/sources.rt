@@ -3,17 +3,16 @@
 ghost use mathlib.Core.Path.{_≡_};
 ghost use mathlib.Core.List.{[], _∷_};
 ghost use Prim.Native.Nat.{ℕ, _≤_, _<_};
-ghost use lib.ListN.{getD, length, replicate};
+ghost use lib.ListN.{getD, length};
 ghost use Rattle.search.specs.Sweep.{Between};
 ghost use Rattle.search.specs.Fed.{Fed, Owned, Sowed, Stored};
 ghost use Rattle.search.specs.Levels.{Each, Begins};
 ghost use Rattle.search.specs.Steps.{Bounded};
-use crate::levels::Level;
 use chart::cursor::wide;
 use chart::format::Chart;
 use masks::bits::bit;
 
-// The nodes that a search starts from, numbered as the bits of its masks: barriers, or the ends of constructs.
+// The nodes that a search starts from, numbered as the bits of its masks: barriers, ends of constructs, or both, barriers first.
 pub struct Sources {
     pub total: usize,
 }
@@ -67,22 +66,24 @@ fn sow_edges(
     }
 }
 
-// The bits of the sources, at the nodes to which their edges lead, where none are before, and levels to start from.
+// The bits of the sources from the first given on, at the nodes to which their edges lead, where those of the sources before it are, and levels to
+// start from.
 pub fn sow(
     values: &[u8; Chart::EDGES],
     places: &[usize; Chart::PLACES],
     sources: &[u8; Sources::MOST],
+    first: usize,
     total: usize,
     masks: &mut [u64; Chart::NODES],
     levels: &mut [u8; Chart::NODES],
 )
-    requires { ⌜ (total ≤ 64) × (now masks ≡ replicate 192 0) × Bounded (now values) (now places) ⌝ }
+    requires { ⌜ (first ≤ total) × (total ≤ 64) × Bounded (now values) (now places) ⌝ }
+    requires { ⌜ Sowed (now values) (now places) (now sources) first (now masks) × Each Begins (now masks) (now levels) ⌝ }
     requires { ⌜ ((b : ℕ) → getD (now sources) b 0 < 192) ⌝ }
     ensures { λ _. ⌜ Sowed (now (values .entry)) (now (places .entry)) (now (sources .entry)) total (now (masks .exit)) ⌝ }
     ensures { λ _. ⌜ Each Begins (now (masks .exit)) (now (levels .exit)) ⌝ }
 {
-    *levels = [Level::NONE; Chart::NODES];
-    let mut b = 0;
+    let mut b = first;
     while b < total {
         let x = wide(sources[b]);
         sow_edges(values, places[x], places[x + 1], bit(b), masks, levels);

@@ -1,107 +1,34 @@
 -- `mark::boundaries::fill` meets its contract.
 -- Assumes nothing.
-use mathlib.Core.Path.{_∙_}
-use Prim.Native.Nat.{_-_}
 use native.Mathlib.Omega.{arith}
-use borrow.Author.Needs.{needs}
-use Rattle.theory_paths.specs.FoundLaws.{listed-turned}
-use Rattle.theory_paths.specs.Phases.{forward, backward}
-use Rattle.mark.proofs.Searching.{ready, standing, found-along, lost-told, all-masks, all-levels}
+use Rattle.theory_paths.specs.Phases.{forward}
+use Rattle.mark.proofs.Searching.{ready, standing, all-levels}
 use Rattle.mark.proofs.boundaries.fill.Statement.{statement}
 use Rattle.mark.proofs.boundaries.fill.Tie as tie
 
--- where the function was called
-abbrev start : tie.After-boundaries → tie.Start
-start c = c .before .before .before .before
-
 boundaries-requires : tie.Need-boundaries-requires
 boundaries-requires c κs =
-    let ((few, some, nodes, starts, ends, (p, D, handed)), below) = c .before .before .before .pre in
-    ((few, starts, ends, ready handed), below)
+    let ((few, none, some, nodes, starts, ends, (p, D, handed)), below) = c .before .before .before .pre in
+    ((omega arith, omega arith, starts, ends, ready handed), below)
 
-reach-stops-requires : tie.Need-reach-stops-requires
-reach-stops-requires c κs =
+conclude-requires : tie.Need-conclude-requires
+conclude-requires c κs =
     let found = c .before .before in
-    let ((few, some, nodes, starts, ends, (p, D, handed)), below) = start found .pre in
-    (few, below, found .boundaries .ensures .1, (_, _, handed .split))
-
-any-apart-requires : tie.Need-any-apart-requires
-any-apart-requires c κs =
-    let ((few, some, _, _, _, _), below) = start (c .before .before .before .before) .pre in
-    ((few, some), below)
-
-any-stuck-requires : tie.Need-any-stuck-requires
-any-stuck-requires c κs =
-    let ((few, some, _, _, _, _), below) = start (c .before .before .before .before .before .before) .pre in
-    ((few, some), below)
-
-any-missed-requires : tie.Need-any-missed-requires
-any-missed-requires c κs = start (c .before .before .before .before .before .before .before .before) .pre .0 .2
-
-either-requires : tie.Need-either-requires
-either-requires c κs = search needs
-
-any-missed-requires-2 : tie.Need-any-missed-requires-2
-any-missed-requires-2 c κs = start (c .before .before .before .before .before .before .before .before .before .before .before) .pre .0 .2
-
-either-requires-2 : tie.Need-either-requires-2
-either-requires-2 c κs = search needs
-
-either-requires-3 : tie.Need-either-requires-3
-either-requires-3 c κs = search needs
+    let ((few, none, some, nodes, starts, ends, (p, D, handed)), below) = found .before .before .before .before .pre in
+    ((few, some, nodes, found .boundaries .ensures .1, (_, _, handed .split)), below)
 
 returns : tie.Need-returns
 returns c =
-    let unreaching = c .before in
-    let missing = unreaching .before in
-    let unreached = missing .before .before in
-    let missed = unreached .before in
-    let stuck = missed .before .before in
-    let apart = stuck .before .before in
-    let gathered = apart .before .before in
-    let found = gathered .before .before .before in
-    let some = start found .pre .0 .1 in (
-      (λ stops R W A S B q.
-          let N = standing S W B in
-          let (s, d, t) = found .boundaries .ensures .0 (A .count) _ (A .split) (A .begins) N in
-          let masks = gathered .reach-stops .ensures (A .count) _ (A .split) N s in
-          let led = found-along S forward (A .listed-edge) (A .edge-listed) (masks .every) in
-          let ahead = lost-told S forward (A .listed-edge) (A .edge-listed) W B 0 some (masks .passable) in
-          let behind = lost-told S backward (λ x y t. A .listed-edge y x (listed-turned x y t)) (λ x y h. listed-turned y x (A .edge-listed y x h)) W B (start found .args .extent .barriers - 1) (omega arith) t in
-          c .either3 .ensures
-          ∙ rw (
-            unreached .either .ensures,
-            unreaching .either2 .ensures,
-            apart .any-apart .ensures forward R W B led,
-            stuck .any-stuck .ensures R W B led,
-            missed .any-missed .ensures,
-            missing .any-missed2 .ensures,
-            q,
-            ahead,
-            behind,
-            B .count,
-          )),
+    let found = c .before .before .before in
+    let none = found .before .before .before .before .pre .0 .1 in (
+      (λ stops R W A S B.
+          let (s, d, t) = found .boundaries .ensures .0 (A .count) _ (A .split) (A .begins) (standing S W B) in
+          c .conclude .ensures .0 _ stops R W A S B (rw none at s) t),
       λ stops R W A S B.
-          let N = standing S W B in
-          let (s, d, t) = found .boundaries .ensures .0 (A .count) _ (A .split) (A .begins) N in
-          let masks = gathered .reach-stops .ensures (A .count) _ (A .split) N s in (
-            (λ y l. all-masks S forward (A .listed-edge) (A .edge-listed) W B (masks .passable) y),
-            (λ y l. all-masks S backward (λ x y t. A .listed-edge y x (listed-turned x y t)) (λ x y h. listed-turned y x (A .edge-listed y x h)) W B t y),
-            all-levels S forward (A .listed-edge) (A .edge-listed) W B d,
-          ),
+          let (s, d, t) = found .boundaries .ensures .0 (A .count) _ (A .split) (A .begins) (standing S W B) in
+          let (starts, ends) = c .conclude .ensures .1 _ stops R W A S B (rw none at s) t in
+          (starts, ends, all-levels S forward (A .listed-edge) (A .edge-listed) W B d),
     )
 
 pub fill-spec : {M : Type 1} → statement M
-fill-spec =
-    tie.close
-    (tie.spec
-    boundaries-requires
-    reach-stops-requires
-    any-apart-requires
-    any-stuck-requires
-    any-missed-requires
-    either-requires
-    any-missed-requires-2
-    either-requires-2
-    either-requires-3
-    returns)
+fill-spec = tie.close (tie.spec boundaries-requires conclude-requires returns)

@@ -3,8 +3,9 @@
 use mathlib.Core.Path.{_≡_, refl, sym, _∙_}
 use mathlib.Core.Bool.{Bool}
 use mathlib.Core.List.{List}
-use Prim.Native.Nat.{ℕ, _≤_, _-_}
+use Prim.Native.Nat.{ℕ, _+_, _-_, _/_, _^_, _≤_}
 use native.Mathlib.Omega.{arith}
+use lib.Pow.{shr-shr}
 use lib.ListN.{getD}
 use borrow.Author.Needs.{needs}
 use Rattle.lists.specs.Mask.{maskOf}
@@ -12,14 +13,18 @@ use Rattle.lists.specs.Bits.{has, mask-next}
 use Rattle.mark.proofs.returns.diagonal.Statement.{statement}
 use Rattle.mark.proofs.returns.diagonal.Tie as tie
 
-abbrev own : List ℕ → List ℕ → ℕ → Bool
-own masks nodes c = has (getD masks (getD nodes c 0) 0) c
+abbrev own : List ℕ → List ℕ → ℕ → ℕ → Bool
+own masks nodes first c = has (getD masks (getD nodes c 0) 0) (first + c)
+
+-- a bit of what is left of a mask
+shifted : (m first c : ℕ) → has (m / 2 ^ first) c ≡ has m (first + c)
+shifted m first c = rw (shr-shr m first c) refl
 
 abbrev Inv-loop : tie.InvT-loop
-Inv-loop masks nodes n all₀ c₀ all c = (c ≤ n) × (all ≡ maskOf (own masks nodes) c)
+Inv-loop masks nodes first n all₀ c₀ all c = (c ≤ n) × (all ≡ maskOf (own masks nodes first) c)
 
 abbrev μ-loop : tie.MeasureT-loop
-μ-loop masks nodes n all₀ c₀ all c = n - c
+μ-loop masks nodes first n all₀ c₀ all c = n - c
 
 loop-holds : tie.Need-loop-holds Inv-loop μ-loop
 unfolding maskOf
@@ -37,6 +42,9 @@ mul-add-bit c = omega arith
 element-copy-out-add-bit : tie.Need-element-copy-out-add-bit Inv-loop μ-loop
 element-copy-out-add-bit c = omega (arith, c .wide .ensures .0, c .before .before .before .before .pre .1 (c .before .before .before .loop .c))
 
+shr-add-bit : tie.Need-shr-add-bit Inv-loop μ-loop
+shr-add-bit c = c .before .before .before .before .before .pre .0 .0
+
 add-bit-requires : tie.Need-add-bit-requires Inv-loop μ-loop
 add-bit-requires c κs = omega arith
 
@@ -52,7 +60,8 @@ loop-again c =
     let l = w .before .before .before in
     let masks = l .before .args .masks .now in
     let nodes = l .before .args .nodes .now in
-    (omega arith, c .add-bit .ensures ∙ rw (w .wide .ensures .0, l .loop .inv .1) (sym (mask-next (own masks nodes) (l .loop .c))))
+    let first = l .before .args .first in
+    (omega arith, c .add-bit .ensures ∙ rw (w .wide .ensures .0, l .loop .inv .1, shifted (getD masks (getD nodes (l .loop .c) 0) 0) first (l .loop .c)) (sym (mask-next (own masks nodes first) (l .loop .c))))
 
 returns : tie.Need-returns Inv-loop μ-loop
 returns c =
@@ -71,6 +80,7 @@ diagonal-spec =
     wide-requires
     mul-add-bit
     element-copy-out-add-bit
+    shr-add-bit
     add-bit-requires
     add-c
     loop-less

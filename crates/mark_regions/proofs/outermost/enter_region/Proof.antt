@@ -9,7 +9,7 @@ use Rattle.mark_tables.specs.Tables.{Accepted}
 use Rattle.mark_tables.proofs.Accepted.{accepted, well-formed}
 use Rattle.mark_tables.proofs.Tabling.{blank-none}
 use Rattle.mark_regions.specs.Entered.{Entry}
-use Rattle.mark_regions.proofs.Entering.{marked-same, few, not-none, nodes-below, cut-off, connects, refuses, marks}
+use Rattle.mark_regions.proofs.Entering.{marked-same, few, not-none, cut-off, connects, refuses, marks}
 use Rattle.mark_regions.proofs.outermost.enter_region.Statement.{statement}
 use Rattle.mark_regions.proofs.outermost.enter_region.Tie as tie
 
@@ -31,8 +31,8 @@ fill-requires : tie.Need-fill-requires
 fill-requires c κs =
     let l = c .before .before .before .before .before .before in
     let A = is-accepted l in
-    let (T, (H, (S, N, Q))) = l .load-tables .ensures in
-    ((few A N, not-none A N, omega (arith, Q, A .laid .nodes-most), start l .pre .1 .0, start l .pre .1 .1, (_, _, H)), nodes-below A N)
+    let (T, (H, (S, N, Q, none))) = l .load-tables .ensures in
+    ((few A N, none, not-none A N, omega (arith, Q, A .laid .nodes-most), start l .pre .1 .0, start l .pre .1 .1, (_, _, H)), N .node)
 
 refuses-requires : tie.Need-refuses-requires
 refuses-requires c κs = search needs
@@ -42,7 +42,7 @@ returns c =
     let asked = c .before in
     let l = loaded (asked .before) in
     let A = is-accepted l in
-    let (T, (H, (S, N, Q))) = l .load-tables .ensures in
+    let (T, (H, (S, N, Q, none))) = l .load-tables .ensures in
     let lost = asked .before .fill .ensures .0 _ _ (well-formed _ _ A) T S N (Q ∙ sym (nodes-length _ _ (A .laid))) in
     let (whole, not) = asked .refuses .ensures in (
       (
@@ -60,7 +60,7 @@ returns-2 c =
     let e = start l in
     let A = is-accepted l in
     let W = well-formed _ _ A in
-    let (T, (H, (S, N, Q))) = l .load-tables .ensures in
+    let (T, (H, (S, N, Q, none))) = l .load-tables .ensures in
     let (lost, marked) = filled .fill .ensures in
     let (starts, ends, levels) = marked _ _ W T S N in
     let (whole, _) = asked .refuses .ensures in (

@@ -27,7 +27,7 @@ returns c =
     let A = stopped .before .before .before .pre .0 in
     let T = edges .load-edges .ensures in
     let (P, first) = found .find-places .ensures in
-    (arranged _ _ A T P, (handed _ _ A T (first _ (T .columns) (T .count)), (stopped .load-stops .ensures, listed .barriers .ensures, refl)))
+    (arranged _ _ A T P, (handed _ _ A T (first _ (T .columns) (T .count)), (stopped .load-stops .ensures, listed .barriers .ensures, refl, refl)))
 
 pub load-tables-spec : {M : Type 1} → statement M
 load-tables-spec =

@@ -16,8 +16,8 @@ settle-requires c κs =
 
 returns : tie.Need-returns
 returns c =
-    let l = c .before .before .before in
-    ((λ e stops T P S w v. settled-spread T _ P (l .lone .ensures (c .before .before .if1 .taken)) S w v (c .settle .ensures)), c .settle .ensures .long)
+    let (q, alone) = c .before .before .before .lone .ensures (c .before .before .if1 .taken) in
+    ((λ e stops T P S w v. settled-spread T _ P alone (rw q at S) w (rw q at v) (c .settle .ensures)), c .settle .ensures .long)
 
 proceed-requires : tie.Need-proceed-requires
 proceed-requires c κs =

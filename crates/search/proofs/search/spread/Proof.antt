@@ -1,5 +1,6 @@
 -- `search::search::spread` meets its contract, whichever way it takes.
 -- Assumes nothing.
+use native.Mathlib.Omega.{arith}
 use borrow.Author.Needs.{needs}
 use Rattle.search.specs.SweepLaws.{carried-long}
 use Rattle.search.proofs.Finding.{sown-fits, spread-ahead, spread-behind}
@@ -12,7 +13,7 @@ few-requires c κs = let (_, ((ready, w), _)) = c .pre in ready .split .plain .t
 
 close-together-requires : tie.Need-close-together-requires
 close-together-requires c κs =
-    let ((few, nodes, begins), ((ready, w), (long, fits))) = c .before .before .before .before .before .pre in (
+    let ((order, few, nodes, (_, begins)), ((ready, w), (long, fits))) = c .before .before .before .before .before .pre in (
       (_, _, ready .split),
       record { starts = w .long; levels = begins .long; ends = long; starts-fit = sown-fits few w; levels-fit = begins-fit begins; ends-fit = fits },
     )
@@ -24,7 +25,7 @@ start c = c .before .before .before .before .before .before
 tell-requires : tie.Need-tell-requires
 tell-requires c κs =
     let swept = c .before .before in
-    let ((few, nodes, begins), _) = start swept .pre in
+    let ((order, few, nodes, (_, begins)), _) = start swept .pre in
     carried-long (begins .long) (swept .close-together .ensures .1 .1 .0)
 
 returns : tie.Need-returns
@@ -32,33 +33,33 @@ returns c =
     let swept = c .before .before .before in
     let (_, ((ready, own), _)) = start swept .pre in
     let (starts, (ends, (levels, settled))) = swept .close-together .ensures in (
-      (λ e stops T P S w B v.
-          (spread-ahead T w (starts .0) (starts .1), leveled-ahead T w B levels (settled (c .before .before .if2 .taken)) (c .tell .ensures), spread-behind T v (ends .0) (ends .1))),
+      (λ e stops own T P S w o B v.
+          (spread-ahead T w (starts .0) (starts .1), leveled-ahead T o B levels (settled (c .before .before .if2 .taken)) (c .tell .ensures), spread-behind T v (ends .0) (ends .1))),
       carried-long (own .long) (starts .0),
     )
 
 searched-requires : tie.Need-searched-requires
 searched-requires c κs =
-    let ((few, nodes, begins), ((ready, w), _)) = start (c .before .before) .pre in
-    ((few, (_, ready)), nodes)
+    let ((order, few, nodes, begins), ((ready, w), _)) = start (c .before .before) .pre in
+    ((omega arith, (_, ready)), nodes)
 
 returns-2 : tie.Need-returns-2
 returns-2 c =
     let swept = c .before .before .before in
     let (_, ((ready, own), _)) = start swept .pre in
     let (starts, (ends, _)) = swept .close-together .ensures in (
-      (λ e stops T P S w B v. (spread-ahead T w (starts .0) (starts .1), c .searched .ensures e stops _ T P S, spread-behind T v (ends .0) (ends .1))),
+      (λ e stops own T P S w o B v. (spread-ahead T w (starts .0) (starts .1), c .searched .ensures e stops _ T P S, spread-behind T v (ends .0) (ends .1))),
       carried-long (own .long) (starts .0),
     )
 
 fewest-requires : tie.Need-fewest-requires
 fewest-requires c κs =
-    let ((few, nodes, begins), ((ready, w), _)) = c .before .before .before .pre in
-    ((few, ready), (nodes, (_, begins)))
+    let ((order, few, nodes, begins), ((ready, w), _)) = c .before .before .before .pre in
+    ((omega arith, ready), (nodes, begins))
 
 onward-requires : tie.Need-onward-requires
 onward-requires c κs =
-    let ((few, nodes, begins), ((ready, w), _)) = c .before .before .before .before .before .before .pre in
+    let ((order, few, nodes, begins), ((ready, w), _)) = c .before .before .before .before .before .before .pre in
     ((few, nodes), (_, _, ready .split, w))
 
 recede-requires : tie.Need-recede-requires
@@ -70,8 +71,8 @@ returns-3 : tie.Need-returns-3
 returns-3 c =
     let moved = c .before .before in
     let measured = moved .before .before .before .fewest .ensures in (
-      (λ e stops T P S w B v.
-          let near = measured e stops _ T P S w B in
+      (λ e stops own T P S w o B v.
+          let near = measured e stops _ T P S o B in
           (moved .onward .ensures .0 e stops T P S w near, near, c .recede .ensures e stops _ _ T v)),
       moved .onward .ensures .1,
     )

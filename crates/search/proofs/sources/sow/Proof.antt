@@ -1,4 +1,4 @@
--- `search::sources::sow` meets its contract: after b turns the bits of the first b sources are sown.
+-- `search::sources::sow` meets its contract: before turn b the bits of the first b sources are sown.
 -- Assumes nothing.
 use mathlib.Core.Path.{_≡_}
 use Prim.Native.Nat.{_^_, _≤_, _<_, _-_}
@@ -8,31 +8,31 @@ use lib.ListN.{getD}
 use borrow.Author.Needs.{needs}
 use Rattle.search.specs.Fed.{Sowed}
 use Rattle.search.specs.Levels.{Each, Begins}
-use Rattle.search.proofs.Sowing.{begins-none, sowed-none, sowed-turn}
+use Rattle.search.proofs.Sowing.{sowed-turn}
 use Rattle.search.proofs.sources.sow.Statement.{statement}
 use Rattle.search.proofs.sources.sow.Tie as tie
 
 abbrev Inv-loop : tie.InvT-loop
-Inv-loop values places sources total masks₀ levels₀ b₀ masks levels b = (b ≤ total) × Sowed values places sources b masks × Each Begins masks levels
+Inv-loop values places sources first total masks₀ levels₀ b₀ masks levels b = (b ≤ total) × Sowed values places sources b masks × Each Begins masks levels
 
 abbrev μ-loop : tie.MeasureT-loop
-μ-loop values places sources total masks₀ levels₀ b₀ masks levels b = total - b
+μ-loop values places sources first total masks₀ levels₀ b₀ masks levels b = total - b
 
 loop-holds : tie.Need-loop-holds Inv-loop μ-loop
-loop-holds c = let blank = c .before .pre .0 .1 in (omega arith, rw blank (sowed-none _ _ _), rw blank begins-none)
+loop-holds c = let ((order, _, _), ((sown, begun), _)) = c .pre in (order, sown, begun)
 
 -- where the function was called
 abbrev start : (l : tie.At-loop Inv-loop μ-loop) → tie.Start Inv-loop μ-loop
-start l = l .before .before
+start l = l .before
 
 element-copy-out-wide : tie.Need-element-copy-out-wide Inv-loop μ-loop
-element-copy-out-wide c = omega (arith, start (c .before) .pre .0 .0)
+element-copy-out-wide c = omega (arith, start (c .before) .pre .0 .1)
 
 wide-requires : tie.Need-wide-requires Inv-loop μ-loop
 wide-requires c κs = search needs
 
 below : (c : tie.After-wide Inv-loop μ-loop) → c .wide .result < 192
-below c = let l = c .before .before .before in omega (arith, c .wide .ensures, start l .pre .1 (l .loop .b))
+below c = let l = c .before .before .before in omega (arith, c .wide .ensures, start l .pre .1 .1 (l .loop .b))
 
 mul-sow-edges : tie.Need-mul-sow-edges Inv-loop μ-loop
 mul-sow-edges c = omega (arith, below c)
@@ -50,17 +50,17 @@ element-copy-out-sow-edges-2 : tie.Need-element-copy-out-sow-edges-2 Inv-loop μ
 element-copy-out-sow-edges-2 c = omega (arith, below (c .before))
 
 bit-requires : tie.Need-bit-requires Inv-loop μ-loop
-bit-requires c κs = let l = c .before .before .before .before .before in omega (arith, start l .pre .0 .0)
+bit-requires c κs = let l = c .before .before .before .before .before in omega (arith, start l .pre .0 .1)
 
 sow-edges-requires : tie.Need-sow-edges-requires Inv-loop μ-loop
 sow-edges-requires c κs =
     let own = c .before .before in
     let at = own .before .before .before in
     let l = at .before .before .before in
-    let ((few, blank, bounded), sources) = start l .pre in
-    let (order, most) = bounded .place (at .wide .result) (below at) in
+    let ((order, few, bounded), (_, sources)) = start l .pre in
+    let (rise, most) = bounded .place (at .wide .result) (below at) in
     let (under, sowed, begun) = l .loop .inv in
-    ((order, most, omega (arith, own .bit .ensures, pow-pos (l .loop .b)), sowed .long, begun), bounded .node)
+    ((rise, most, omega (arith, own .bit .ensures, pow-pos (l .loop .b)), sowed .long, begun), bounded .node)
 
 add-b : tie.Need-add-b Inv-loop μ-loop
 add-b c = omega arith
