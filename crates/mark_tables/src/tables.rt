@@ -42,7 +42,8 @@ pub fn load_tables(
     requires { ⌜ Accepted (now s) chart × Blank (now table) × (now places ≡ replicate 193 0) ⌝ }
     ensures { λ r. ⌜ Arranged (reading (now (s .entry)) chart) (now (table .exit)) (now (places .exit)) (now (stops .exit)) (r .parts) ⌝ }
     ensures { λ r. ⌜ Handed (chart .region) (decode (now (s .entry))) (now (table .exit)) (now (places .exit)) (r .parts) ⌝ }
-    ensures { λ r. ⌜ Stops (reading (now (s .entry)) chart) (now (stops .exit)) × Barriers (reading (now (s .entry)) chart) (now (nodes .exit)) (r .barriers) × (r .nodes ≡ chart .nodes) × (r .total ≡ r .barriers) ⌝ }
+    ensures { λ r. ⌜ Stops (reading (now (s .entry)) chart) (now (stops .exit)) × Barriers (reading (now (s .entry)) chart) (now (nodes .exit)) (r .barriers)
+        × (r .nodes ≡ chart .nodes) × (r .total ≡ r .barriers) ⌝ }
 {
     load_stops(s, chart, stops);
     let barriers = barriers(s, chart, stops, nodes);
