@@ -71,8 +71,8 @@ fn may_last(kind: u8) -> bool
 }
 
 // What a node holds for being inside construct c: a single and, for an ordered, its do, where they do not return; a section where its parent
-// does not; for a master the masters for its thread, since that one goes into all of them. The bit is made before the kind is asked, so that no
-// branch has to foretell it.
+// does not; for a master the masters for its thread, since that one goes into all of them. The bit is made before the kind is asked, which
+// leaves less to a branch by the kind.
 fn own(construct: Construct, c: usize, returning: u64, masters: u64) -> u64
     requires { ⌜ (c < 48) × (construct .kind ≡ orderedByte → construct .parent < 48) × (construct .kind ≡ sectionByte → construct .parent < 48) ⌝ }
     ensures { λ r. ⌜ r ≡ ownMask (construct .kind) (construct .parent) c returning masters ⌝ }
