@@ -1,3 +1,5 @@
 // Lists of claims.
+#![tactic(auto)]
+
 pub mod list;
 pub mod numbers;

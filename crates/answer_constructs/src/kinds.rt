@@ -28,7 +28,7 @@ const KINDS: [u8; RULES] = [
 
 // What the rules read of a region beside its nodes: the constructs of their kinds and, of a team of a known size, whether it has but one thread,
 // and the masters for a thread that it lacks.
-#[derive(Drop)]
+#[derive(Clone, Copy)]
 pub struct Sets {
     pub kinds: KindTable,
     pub alone: bool,

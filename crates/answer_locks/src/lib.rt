@@ -1,4 +1,6 @@
 // The bytes of Locks, off the masks of a chart: which nodes the team can have, the criticals that some pair of them needs, and a byte for each construct.
+#![tactic(auto)]
+
 ghost use Rattle.std.specs.Prelude.{◌≡◌, ◌++◌, ◌≤◌, length, drop};
 ghost use Rattle.chart.specs.Checked.{reading};
 ghost use Rattle.mark_tables.specs.Tables.{Accepted};

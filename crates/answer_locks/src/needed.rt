@@ -43,7 +43,7 @@ fn needing(mask: u64, set: Words, named: &NameSets) -> u64
 }
 
 // The criticals that the nodes tried need, in finished runs and in some run at all, with the masks of the last node and the criticals around it.
-#[derive(Drop)]
+#[derive(Clone, Copy)]
 pub struct Tried {
     pub own: Profile,
     pub around: u64,

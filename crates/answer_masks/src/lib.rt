@@ -1,4 +1,6 @@
 // The entrance of the calls that answer pairs: rows 1 to 10 and 23 of the refusals, and everything that the answers of a region are read off.
+#![tactic(auto)]
+
 ghost use Rattle.std.specs.Prelude.{◌≡◌, ◌≢◌, replicate};
 ghost use Rattle.chart.specs.Format.{outside, decode};
 ghost use Rattle.chart.specs.Refusal.{first_of};

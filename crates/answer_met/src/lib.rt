@@ -1,5 +1,7 @@
 // Sets of nodes that races and needed locks are read off, three words each: the nodes that a node may meet, in finished runs and in any, and for each
 // bit of the masks of names those that have it.
+#![tactic(auto)]
+
 ghost use Rattle.std.specs.Prelude.{◌≡◌, ◌&&◌, not, ℕ, replicate};
 ghost use Rattle.lists.specs.Bits.{has};
 ghost use Rattle.answer_nodes.specs.Gathered.{Past};

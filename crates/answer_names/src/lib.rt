@@ -1,5 +1,7 @@
 // Names of criticals: for each node the criticals of the names around it, as a mask. Two nodes share a name where these share a bit. And the criticals
 // around each node themselves.
+#![tactic(auto)]
+
 ghost use Rattle.std.specs.Prelude.{◌≡◌, ℕ, ◌≤◌, ◌<◌, length, get_or};
 ghost use Rattle.lists.specs.Bits.{has as has_bit};
 ghost use Rattle.lists.specs.Mask.{Mask, mask_of};

@@ -1,5 +1,7 @@
 // Sets of nodes, three words each: for each bit of the nodes' masks the nodes that have it, and the nodes that share a bit with a mask. The sheet, Races
 // and Locks are read off them.
+#![tactic(auto)]
+
 ghost use Rattle.std.specs.Prelude.{◌≡◌, List, [], ℕ, ◌<◌, get_or, replicate};
 ghost use Rattle.answer_nodes.specs.Gathered.{Past};
 ghost use Rattle.answer_nodes.specs.NodeSets.{InSets, Sharing};

@@ -7,7 +7,7 @@ use masks::bits::bit;
 use masks::unions::{BITS, add};
 
 // Neighbours that have one mask, closed nodes among them left out: they are added to the sets of its bits together.
-#[derive(Drop)]
+#[derive(Clone, Copy)]
 pub struct Run {
     pub mask: u64,
     pub set: u64,

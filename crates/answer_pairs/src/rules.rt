@@ -12,7 +12,7 @@ use masks::bits::common;
 use theory_answers::Answer;
 
 // What the rules read of one node: its bits in each row of the table of masks.
-#[derive(Drop)]
+#[derive(Clone, Copy)]
 pub struct Profile {
     pub starts: u64,
     pub ends: u64,

@@ -1,4 +1,6 @@
 // Accesses to variables, and the bytes of their pairs.
+#![tactic(auto)]
+
 pub mod bytes;
 pub mod lines;
 pub mod list;

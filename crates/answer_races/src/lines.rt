@@ -17,7 +17,7 @@ use masks::unions::{Words, join};
 pub type Lines = [Line; Chart::NODES];
 
 // The nodes that a node with these masks may meet.
-#[derive(Drop)]
+#[derive(Clone, Copy)]
 pub struct Kept {
     pub own: Profile,
     pub met: Words,

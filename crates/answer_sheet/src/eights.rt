@@ -27,7 +27,7 @@ pub fn fill_spread(table: &mut [u64; BYTES])
 }
 
 // A number below 8 for each of 64 nodes: 1 where the first set has no bit, and the bits of the number in the other sets.
-#[derive(Drop)]
+#[derive(Clone, Copy)]
 pub struct Planes {
     pub both: u64,
     pub odd: u64,

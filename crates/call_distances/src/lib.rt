@@ -1,4 +1,6 @@
 // Distances as a call on slices (02, Note 13): how far behind the nearest barrier each node lies. The marking tells the fewest edges from a barrier.
+#![tactic(auto)]
+
 ghost use Rattle.std.specs.Prelude.{◌≡◌, cond, [], ◌++◌, ◌≤◌, ◌<◌, eqb, length, drop};
 ghost use Rattle.chart.specs.Checked.{reading};
 ghost use Rattle.theory_paths.specs.Phases.{forward};

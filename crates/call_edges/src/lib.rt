@@ -1,4 +1,6 @@
 // An edge tried, put in, and taken out.
+#![tactic(auto)]
+
 pub mod ask;
 pub mod checking;
 pub mod insert;

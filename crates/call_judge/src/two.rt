@@ -16,7 +16,7 @@ use theory_answers::Size;
 use theory_calls::Verdict;
 
 // The verdicts on the two lists.
-#[derive(Drop)]
+#[derive(Clone, Copy)]
 pub struct Verdicts {
     pub first: Verdict,
     pub second: Verdict,

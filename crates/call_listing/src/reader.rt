@@ -8,7 +8,7 @@ use crate::letters;
 use chart::format::{Chart, Construct, Refusal};
 
 // How far reading came: the place after what was read, its nodes and its constructs; or the refusal at which reading stopped.
-#[derive(Drop)]
+#[derive(Clone, Copy)]
 pub enum Extent {
     UpTo(usize, usize, usize),
     Stopped(Refusal),

@@ -11,7 +11,7 @@ use chart::format::{Chart, Construct, Edge, Node};
 
 // Where filling goes on: the place in the text and the braces that may still be open there, the construct around it, the numbers of the next
 // construct and the next node, the node that follows, and how many edges there are.
-#[derive(Drop)]
+#[derive(Clone, Copy)]
 pub struct Spot {
     pub at: usize,
     pub depth: usize,

@@ -1,5 +1,7 @@
 // Locks as a call on slices: for each construct whether the lock of this critical is needed, or can be dropped, in finished runs or in all. What the
 // bytes say about runs is in crate theory_calls, specs/LocksCorrect.antt.
+#![tactic(auto)]
+
 ghost use Rattle.std.specs.Prelude.{◌≡◌, [], length};
 ghost use Rattle.chart.specs.Checked.{reading};
 ghost use Rattle.theory_answers.specs.Size.{size_rows};

@@ -1,5 +1,7 @@
 // Races as a call on slices (02, Note 9): for all pairs of a list of accesses, whether they race, and whether a lock keeps them apart. What the bytes
 // say about finished runs is in crate `theory_calls`, specs/RacesCorrect.antt.
+#![tactic(auto)]
+
 ghost use Rattle.std.specs.Prelude.{◌≡◌, List, [], ◌∷◌, ℕ, length};
 ghost use Rattle.chart.specs.Checked.{reading};
 ghost use Rattle.mark_tables.specs.Tables.{Accepted};

@@ -6,7 +6,7 @@ ghost use Rattle.call_replay.specs.PairsMet.{meet, meets, next_thread, Sheet, Ke
 use answer_steps::tables::{TeamTable, node_of};
 
 // The rows kept: those of so many nodes, from the first on.
-#[derive(Drop)]
+#[derive(Clone, Copy)]
 pub struct Rows {
     pub first: usize,
     pub count: usize,

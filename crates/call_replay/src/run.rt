@@ -21,7 +21,7 @@ use mark_regions::outermost::Entered;
 use theory_traces::{Replayed, Thread};
 
 // The records of all threads that a team may have, how many of them are the team's (none where the call is refused), and the answer.
-#[derive(Drop)]
+#[derive(Clone, Copy)]
 pub struct Team {
     pub threads: [Thread; Thread::MOST],
     pub count: usize,

@@ -1,4 +1,6 @@
 // Sheet as a call on slices: it writes a result to a lent buffer.
+#![tactic(auto)]
+
 ghost use Rattle.std.specs.Prelude.{◌≡◌, [], length};
 ghost use Rattle.chart.specs.Checked.{reading};
 ghost use Rattle.theory_answers.specs.Answer.{answer_for};

@@ -1,4 +1,6 @@
 // Whether a trace is a witness for two nodes, as a call on slices (definitions: crate `theory_calls`).
+#![tactic(auto)]
+
 ghost use Rattle.std.specs.Prelude.{◌≡◌, [], ◌∷◌, ◌≤◌, ◌<◌};
 ghost use Rattle.chart.specs.Checked.{reading};
 ghost use Rattle.chart.specs.Refusal.{first_of};

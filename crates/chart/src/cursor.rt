@@ -6,7 +6,7 @@ ghost use Rattle.chart.specs.Checked.{Laid, counts_of, read_for};
 
 use crate::format::{Chart, Construct, Edge, Node};
 
-#[derive(Drop)]
+#[derive(Clone, Copy)]
 pub struct Cursor {
     pub at: usize,
 }

@@ -2,7 +2,7 @@
 
 // A chart whose trailer has been read, by its edition and counts, and the region that it is read for; its limits; and the marks of its
 // trailer.
-#[derive(Drop)]
+#[derive(Clone, Copy)]
 pub struct Chart {
     pub edition: usize,
     pub nodes: usize,
@@ -57,7 +57,7 @@ impl Chart {
 }
 
 // A node's record, without its tag, which nothing reads.
-#[derive(Drop)]
+#[derive(Clone, Copy)]
 pub struct Node {
     pub kind: u8,
     pub number: u8,
@@ -75,7 +75,7 @@ impl Node {
     pub const END: u8 = 3;
 }
 
-#[derive(Drop)]
+#[derive(Clone, Copy)]
 pub struct Edge {
     pub from: u8,
     pub to: u8,
@@ -86,7 +86,7 @@ impl Edge {
 }
 
 // The filter is 0 in edition 1, whose records have none.
-#[derive(Drop)]
+#[derive(Clone, Copy)]
 pub struct Construct {
     pub kind: u8,
     pub parent: u8,
@@ -129,7 +129,7 @@ impl Construct {
 pub type Frames = [u8; Construct::FRAMES];
 
 // A refusal is its number alone.
-#[derive(Drop)]
+#[derive(Clone, Copy)]
 pub struct Refusal {
     pub number: u8,
 }
@@ -183,7 +183,7 @@ impl Refusal {
 }
 
 // What checking a chart answers.
-#[derive(Drop)]
+#[derive(Clone, Copy)]
 pub enum Checked {
     Passed(Chart),
     Refused(Refusal),

@@ -1,5 +1,7 @@
 // Rows 5 and 9 of the refusals, on charts without constructs, and of row 9 on any chart the order of the edges. Each byte place tells a
 // number, 0 where no record begins, and the highest decides: with no branch and no place left out the compiler takes 16 places at once.
+#![tactic(auto)]
+
 ghost use Rattle.std.specs.Prelude.{◌≡◌, false, cond, ◌*◌, ◌-◌, ◌<◌, min, max};
 ghost use Rattle.lists.specs.Range.{any};
 ghost use Rattle.chart.specs.Format.{decode};

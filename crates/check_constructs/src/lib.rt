@@ -1,4 +1,6 @@
 // Row 6 of the refusals, over the constructs.
+#![tactic(auto)]
+
 pub mod alone;
 pub mod enclosing;
 pub mod kinds;

@@ -1,4 +1,6 @@
 // Row 9 of the refusals, over the edges.
+#![tactic(auto)]
+
 ghost use Rattle.std.specs.Prelude.{◌≡◌, true, false, ◌+◌, ◌*◌, ◌-◌, ◌<◌, length};
 ghost use Rattle.lists.specs.Range.{any};
 ghost use Rattle.chart.specs.Format.{decode};

@@ -1,4 +1,6 @@
 // Rows 1 to 4 of the refusals, over the trailer.
+#![tactic(auto)]
+
 ghost use Rattle.std.specs.Prelude.{◌≡◌, ◌+◌, ◌*◌, ◌≤◌, ◌<◌, length};
 ghost use Rattle.chart.specs.Format.{decode};
 ghost use Rattle.chart.specs.Refusal.{bad_edition, bad_marks, bad_counts, bad_lengths, first_of, trailer_rows};

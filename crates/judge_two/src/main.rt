@@ -1,5 +1,7 @@
 // Two lists of claims against one chart, from standard input: a byte that names the region, the two lists, each after its length, and the chart. A line
 // for each list's number, as Judge gives it, and one with the bytes of the part from the first false claim on.
+#![tactic(auto)]
+
 mod lines;
 
 use call_judge::two::judge_two;

@@ -6,7 +6,7 @@ use chart::format::{Chart, Construct, Node};
 
 // What is written again and again: a plain node, a barrier, one of the region of parallel 0, the begin and the end of construct k, a critical, a
 // masked of edition 2 for thread k, the edge from k to k + 1, edge k of all those from the first 32 nodes to nodes 1 to 32, or edge k of the longest chart.
-#[derive(Drop)]
+#[derive(Clone, Copy)]
 enum Pattern {
     Plain,
     Barrier,

@@ -11,7 +11,7 @@ use theory_answers::Size;
 
 // How far a line has been read: the part, the place for its next byte, where the nodes and the edges end, and the first half of a byte of
 // the trailer or of a pair; its edition; how long the chart above it is; and the region and the size that its pairs are asked for.
-#[derive(Drop)]
+#[derive(Clone, Copy)]
 struct Line {
     part: u8,
     at: usize,

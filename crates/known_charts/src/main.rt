@@ -1,5 +1,7 @@
 // Runs the library over charts with known answers, whole and damaged, and writes a line for each, and one for each pair asked for: those
 // spelt in standard input, then those at the limits.
+#![tactic(auto)]
+
 mod limits;
 mod lines;
 mod report;

@@ -3,7 +3,7 @@ use crate::spelling::put_field;
 use chart::format::{Chart, Construct, Edge, Node};
 
 // The edition, and where the nodes, the edges and the constructs end.
-#[derive(Drop)]
+#[derive(Clone, Copy)]
 pub struct Ends {
     pub edition: usize,
     pub nodes: usize,

@@ -1,4 +1,6 @@
 // A region entered: refused, or marked.
+#![tactic(auto)]
+
 pub mod entrance;
 pub mod inner;
 pub mod outermost;

@@ -15,7 +15,7 @@ use mark_tables::tables::load_tables;
 use search::edges::Parts;
 
 // A chart whose nodes are marked and how many barriers it has, or the first row that applies.
-#[derive(Drop)]
+#[derive(Clone, Copy)]
 pub enum Entered {
     Marked(Chart, usize),
     Refused(Refusal),

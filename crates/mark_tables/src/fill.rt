@@ -10,7 +10,7 @@ use chart::format::{Chart, Edge};
 use search::edges::{Parts, place};
 
 // How many edges a region has, and their parts.
-#[derive(Drop)]
+#[derive(Clone, Copy)]
 pub struct Loaded {
     pub edges: usize,
     pub parts: Parts,

@@ -1,3 +1,5 @@
 // Masks of bits: one word, and several.
+#![tactic(auto)]
+
 pub mod bits;
 pub mod unions;

@@ -21,7 +21,7 @@ pub fn add(sets: &mut [u64; BITS], mask: u64, set: u64)
 }
 
 // A set of up to 192 members.
-#[derive(Drop)]
+#[derive(Clone, Copy)]
 pub struct Words {
     pub low: u64,
     pub middle: u64,

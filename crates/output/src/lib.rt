@@ -1,5 +1,7 @@
 // What a call answers that writes a result to a lent buffer, and how an answer becomes C's signed number. What the buffer holds then is a
 // definition, in specs/.
+#![tactic(auto)]
+
 ghost use Rattle.std.specs.Prelude.{◌≡◌, []};
 ghost use Rattle.output.specs.Output.{output_rows, written_by};
 
@@ -8,7 +10,7 @@ use chart::format::Refusal;
 pub mod signed;
 
 // What a call that writes answers.
-#[derive(Drop)]
+#[derive(Clone, Copy)]
 pub enum Written {
     Bytes(usize),
     Refused(Refusal),

@@ -1,4 +1,6 @@
 // The printing program on the chart of a listing (02, Note 2), which is read from standard input: the lines of its chart, or the refusal.
+#![tactic(auto)]
+
 use call_listing::drawing::listing;
 use chart::format::Chart;
 use output::Written;

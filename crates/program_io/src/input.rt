@@ -5,7 +5,7 @@ ghost use Rattle.program_io.specs.Part.{part_at};
 use chart::cursor::Cursor;
 
 // Where a list stands in the input, from which place to which; or that it is not whole there, since the input ends before the list does.
-#[derive(Drop)]
+#[derive(Clone, Copy)]
 pub struct Part {
     pub start: usize,
     pub end: usize,

@@ -1,5 +1,7 @@
 // A trace against a chart, from standard input: a byte that names the region, one with the size of the team, the trace after its length, and the chart.
 // A line with what the replay says, then one for each thread and one for each pair of nodes met.
+#![tactic(auto)]
+
 mod lines;
 mod threads;
 

@@ -8,7 +8,7 @@ use chart::format::Chart;
 
 // Of the edges between nodes that may be passed the rising ones stand in front, up to `ups`, the falling ones at the back, from `low` on;
 // of those to stops there are `ins`.
-#[derive(Drop)]
+#[derive(Clone, Copy)]
 pub struct Parts {
     pub ups: usize,
     pub low: usize,
@@ -33,7 +33,7 @@ impl Parts {
 }
 
 // How many barriers, sources of a search and nodes there are, and the parts of the edges. The barriers are the first of the sources.
-#[derive(Drop)]
+#[derive(Clone, Copy)]
 pub struct Extent {
     pub barriers: usize,
     pub total: usize,

@@ -8,7 +8,7 @@ use crate::close::{STEPS, steps_of};
 use chart::format::Chart;
 
 // The fewest edges to a node from a source, while they are swept.
-#[derive(Drop)]
+#[derive(Clone, Copy)]
 pub struct Level {
     pub edges: u8,
 }

@@ -2,6 +2,8 @@
 // (`places`), the edges are parted (`edges`), the sources' bits go along their edges once (`sources`, `telling`), and masks and levels are closed
 // along the others by sweeps until one is quiet (`close`, `levels`); where that takes long, masks by nodes that wait (`waiting`) and levels by one
 // search, breadth first (`breadth`). Why that suffices is in specs/.
+#![tactic(auto)]
+
 pub mod breadth;
 pub mod close;
 pub mod edges;

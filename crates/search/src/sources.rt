@@ -11,7 +11,7 @@ use chart::format::Chart;
 use masks::bits::bit;
 
 // The nodes that a search starts from, numbered as the bits of its masks: barriers, ends of constructs, or both, barriers first.
-#[derive(Drop)]
+#[derive(Clone, Copy)]
 pub struct Sources {
     pub total: usize,
 }

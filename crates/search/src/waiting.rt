@@ -15,14 +15,14 @@ use chart::format::Chart;
 const RING: usize = 256;
 
 // The entries of the ring: so many, from place `head` on.
-#[derive(Drop)]
+#[derive(Clone, Copy)]
 pub struct Queue {
     pub head: usize,
     pub waiting: usize,
 }
 
 // What a node passes on, and one more than the place of its last edge, 0 where it has none.
-#[derive(Drop)]
+#[derive(Clone, Copy)]
 pub struct Sent {
     pub bits: u64,
     pub first: usize,

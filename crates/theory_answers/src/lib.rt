@@ -2,9 +2,10 @@
 // Definitions and lemmas in specs/: Unexcluded is what a reader must believe, the rules in words; Answer, Size, Numbers and Sheet compute it; AnswerLaws
 // and SizeLaws say that the two agree; Starred holds known answers, MoreEdges that a chart with more edges has no more nevers. The types of an
 // answer and of a size are here, since the definitions speak of them; no function is.
+#![tactic(auto)]
 
 // The teams that an answer is for (02, Note 10): those of any size, or those of just so many threads.
-#[derive(Drop)]
+#[derive(Clone, Copy)]
 pub enum Size {
     Any,
     Of(usize),
@@ -17,7 +18,7 @@ impl Size {
 }
 
 // An answer is the number of the first rule that makes the nodes nonconcurrent, 0 where none does; a sheet also says where a barrier is.
-#[derive(Drop)]
+#[derive(Clone, Copy)]
 pub struct Answer {
     pub number: u8,
 }

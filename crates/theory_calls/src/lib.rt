@@ -2,11 +2,13 @@
 // Demand 2, of Admit, Pair, Phases and Sheet, in paths, barriers and constructs; demand 3, of Judge, in finished runs (specs/Correct.antt); Distances
 // and Races in 02's words; Locks and Witnessed in runs. Each record of correctness has its law beside it: the call's definition has it, and no other
 // number and no other bytes do.
+#![tactic(auto)]
+
 use chart::format::Refusal;
 use theory_answers::Answer;
 
 // What Judge answers.
-#[derive(Drop)]
+#[derive(Clone, Copy)]
 pub enum Verdict {
     Passed,
     // the index of the first false claim
@@ -14,7 +16,7 @@ pub enum Verdict {
     Refused(Refusal),
 }
 
-#[derive(Drop)]
+#[derive(Clone, Copy)]
 pub struct Counts {
     pub nodes: usize,
     pub barriers: usize,
@@ -22,21 +24,21 @@ pub struct Counts {
 }
 
 // What Admit answers.
-#[derive(Drop)]
+#[derive(Clone, Copy)]
 pub enum Admission {
     Admitted(Counts),
     Refused(Refusal),
 }
 
 // What Pair answers.
-#[derive(Drop)]
+#[derive(Clone, Copy)]
 pub enum Answered {
     Answer(Answer),
     Refused(Refusal),
 }
 
 // A byte of Distances: the fewest edges to a node from a barrier.
-#[derive(Drop)]
+#[derive(Clone, Copy)]
 pub struct Distance {
     pub edges: u8,
 }
@@ -47,7 +49,7 @@ impl Distance {
 }
 
 // One access of a list: 4 bytes (02, Note 9).
-#[derive(Drop)]
+#[derive(Clone, Copy)]
 pub struct Access {
     pub node: usize,
     // 1 for a write, 0 for a read
@@ -66,7 +68,7 @@ impl Access {
 }
 
 // A byte of Races: what two accesses are to each other.
-#[derive(Drop)]
+#[derive(Clone, Copy)]
 pub struct RaceByte {
     pub race: u8,
 }
@@ -80,7 +82,7 @@ impl RaceByte {
 }
 
 // A byte of Locks: whether the lock of this critical can be dropped.
-#[derive(Drop)]
+#[derive(Clone, Copy)]
 pub struct LockByte {
     pub lock: u8,
 }
@@ -96,7 +98,7 @@ impl LockByte {
 }
 
 // What Witnessed answers.
-#[derive(Drop)]
+#[derive(Clone, Copy)]
 pub enum Witnessed {
     Yes,
     No,

@@ -1,10 +1,12 @@
 // The replay of a recorded run (02, Note 11), as definitions (specs/). What a reader must believe: Legal, which entries of a trace the team rules allow;
 // Correct, what the call promises by it. What is computed: Tests and Decide, the rules as a decision; Replay, entry after entry; Call, over bytes.
 // The laws: the decision is the rules, both ways; a trace is a run, and every run has a trace; the call is correct, and nothing else is.
+#![tactic(auto)]
+
 use chart::format::{Chart, Refusal};
 
 // What an entry does to the state, its thread and its node being known.
-#[derive(Drop)]
+#[derive(Clone, Copy)]
 pub enum Effect {
     // the team rules forbid it
     None,
@@ -19,7 +21,7 @@ pub enum Effect {
 }
 
 // What a replay answers.
-#[derive(Drop)]
+#[derive(Clone, Copy)]
 pub enum Replayed {
     Finished,
     Unfinished,
@@ -29,7 +31,7 @@ pub enum Replayed {
 }
 
 // The record of a thread.
-#[derive(Drop)]
+#[derive(Clone, Copy)]
 pub struct Thread {
     pub node: u8,
     // for each construct, how often the thread has left its begin

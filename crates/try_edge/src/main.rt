@@ -1,5 +1,7 @@
 // Asks whether a chart would be admitted with one edge more (02, Note 6). Standard input has the edge, from and to, the chart's length in two bytes,
 // little-endian, and the buffer that begins with the chart. Prints the receipt, or the number of the refusal.
+#![tactic(auto)]
+
 use call_edges::ask::ask;
 use chart::cursor::{Cursor, wide};
 use program_io::input::{Part, too_long, too_short};
