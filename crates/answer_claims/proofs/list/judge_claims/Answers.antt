@@ -1,0 +1,62 @@
+-- `answer_claims::list::judge_claims` meets its contract: row 12, then row 13, then row 21, then the verdict.
+-- Assumes nothing.
+use mathlib.Core.Path.{◌≡◌, sym, ◌∙◌}
+use mathlib.Core.Bool.{false}
+use Prim.Native.Nat.{◌%◌}
+use native.Mathlib.Omega.{arith}
+use lib.ListN.{length}
+use borrow.Author.Rules.{rules}
+use borrow.Author.Tests.{eq-eqb, ne_eqb}
+use Rattle.chart.specs.Region.{Region}
+use Rattle.chart.specs.Checked.{reading}
+use Rattle.chart.specs.Refusal.{first_of}
+use Rattle.theory_answers.specs.Size.{size_rows}
+use Rattle.theory_calls.specs.Claims.{odd_bytes, bad_numbers}
+use Rattle.theory_calls.specs.Judged.{claim_rows, answered}
+use Rattle.answer_claims.proofs.Fitting.{numbers_fit}
+use Rattle.answer_claims.proofs.list.judge_claims.Goals as goal
+
+pub returns-then-claims-eq1 : goal.returns-then-claims-eq1
+unfolding answered first_of claim_rows odd_bytes
+returns-then-claims-eq1 c = rw (eq-eqb (length c.args.claims.now % 2) 1 (omega (arith, c.if-claims-eq1.true)))
+
+pub bad_numbers-requires : goal.bad_numbers-requires
+bad_numbers-requires c = (c.requires.0, c.requires.1.well-formed)
+
+pub returns-then-bad_numbers : goal.returns-then-bad_numbers
+unfolding answered first_of claim_rows odd_bytes
+returns-then-bad_numbers c =
+    let even = ne_eqb (length c.args.claims.now % 2) 1 (omega (arith, c.if-claims-eq1.false)) in
+    rw (even, sym c.bad_numbers.ensures ∙ c.if-bad_numbers.true)
+
+-- past these rows the size's is left
+module _ (c : goal.Else-bad_numbers) where
+
+  abbrev R : Region
+  R = reading c.args.s.now c.args.chart
+
+  good : bad_numbers R c.args.claims.now ≡ false
+  good = sym c.bad_numbers.ensures ∙ c.if-bad_numbers.false
+
+  rest : first_of (claim_rows R c.args.size c.args.claims.now) ≡ first_of (size_rows c.args.size)
+  unfolding first_of claim_rows odd_bytes
+  rest = rw (ne_eqb (length c.args.claims.now % 2) 1 (omega (arith, c.if-claims-eq1.false)), good)
+
+pub returns-then-bad_size : goal.returns-then-bad_size
+unfolding answered
+returns-then-bad_size c =
+    rw (rest c.before.before, c.bad_size.ensures, c.if-bad_size.true)
+
+pub sets_for-requires : goal.sets_for-requires
+sets_for-requires c = c.requires.0
+
+pub first_false-requires : goal.first_false-requires
+first_false-requires c =
+    let M = c.requires.1 in
+    numbers_fit (R c.before.before.before) _ M.well-formed M.few (good c.before.before.before)
+
+pub returns : goal.returns
+unfolding answered
+returns c =
+    let (Z, same) = (c.sets_for.ensures.sized, c.sets_for.ensures.kinds_value) in
+    rw (rest c.before.before.before.before, c.bad_size.ensures, c.if-bad_size.false) (c.first_false.ensures (R c.before.before.before.before) c.args.size (rw same c.requires.1) Z (good c.before.before.before.before))

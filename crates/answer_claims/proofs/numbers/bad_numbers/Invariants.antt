@@ -1,0 +1,26 @@
+-- The invariants and measures of `answer_claims::numbers::bad_numbers`.
+use mathlib.Core.Path.{◌≡◌, refl, ◌∙◌}
+use mathlib.Core.Bool.{Bool, false}
+use mathlib.Core.List.{List}
+use Prim.Native.Nat.{ℕ, ◌-◌, ◌≤◌, ◌<◌}
+use native.Mathlib.Omega.{arith}
+use native.Mathlib.Numerals.{add-one}
+use lib.ListN.{length, get_or}
+use borrow.Author.Rules.{rules}
+use Rattle.lists.specs.Range.{any}
+use Rattle.chart.specs.Region.{Region}
+use Rattle.chart.specs.Checked.{reading}
+use Rattle.chart.proofs.Records.{nodes-length}
+use Rattle.theory_answers.specs.Numbers.{bad_number}
+use Rattle.theory_calls.specs.Claims.{bad_numbers}
+use Rattle.answer_claims.proofs.numbers.bad_numbers.Given as goal
+
+abbrev pub is_bad : Region → List ℕ → ℕ → Bool
+is_bad R claims j = bad_number R (get_or claims j 0)
+
+abbrev pub invariant-loop-j : goal.invariant-loop-j
+invariant-loop-j l =
+    (l.j ≤ length l.claims) × ((R : Region) → ((x : ℕ) → x < 256 → get_or l.bad x false ≡ bad_number R x) → l.found ≡ any l.j (is_bad R l.claims))
+
+abbrev pub decreases-loop-j : goal.decreases-loop-j
+decreases-loop-j l = length l.claims - l.j

@@ -1,0 +1,15 @@
+-- The invariants and measures of `answer_claims::numbers::mark_bad`.
+use mathlib.Core.Path.{◌≡◌, subst}
+use Prim.Native.Nat.{ℕ, ◌-◌, ◌≤◌}
+use native.Mathlib.Omega.{arith}
+use Rattle.chart.specs.Region.{Region}
+use Rattle.chart.specs.WellFormed.{WellFormed}
+use Rattle.mark_tables.specs.Tables.{Closed}
+use Rattle.answer_claims.proofs.Marked.{Marked, marked-none, marked_more, marked_all}
+use Rattle.answer_claims.proofs.numbers.mark_bad.Given as goal
+
+abbrev pub invariant-loop-x : goal.invariant-loop-x
+invariant-loop-x l = (l.x ≤ l.n) × ((R : Region) → WellFormed R → R.nodes ≡ l.n → Closed R l.closed → Marked R l.x l.bad)
+
+abbrev pub decreases-loop-x : goal.decreases-loop-x
+decreases-loop-x l = l.n - l.x

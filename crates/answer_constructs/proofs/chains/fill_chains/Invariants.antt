@@ -1,0 +1,16 @@
+-- The invariants and measures of `answer_constructs::chains::fill_chains`.
+use mathlib.Core.Path.{◌≡◌}
+use Prim.Native.Nat.{◌≤◌, ◌-◌}
+use native.Mathlib.Omega.{arith}
+use Rattle.chart.specs.Format.{decode}
+use Rattle.chart.specs.Checked.{reading}
+use Rattle.chart.proofs.RegionFacts.{Counts}
+use Rattle.answer_constructs.specs.Chains.{Known, Chains}
+use Rattle.answer_constructs.proofs.Noted.{known-none}
+use Rattle.answer_constructs.proofs.chains.fill_chains.Given as goal
+
+abbrev pub invariant-loop-c : goal.invariant-loop-c
+invariant-loop-c l = (l.c ≤ l.chart.constructs) × Known (decode l.s).constructs l.known × Chains (reading l.s l.chart) (Counts (decode l.s) l.chart.region) l.c l.held
+
+abbrev pub decreases-loop-c : goal.decreases-loop-c
+decreases-loop-c l = l.chart.constructs - l.c

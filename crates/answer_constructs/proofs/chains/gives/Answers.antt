@@ -1,0 +1,12 @@
+-- `answer_constructs::chains::gives` meets its contract.
+-- Assumes nothing.
+use mathlib.Core.Path.{sym, ◌∙◌}
+use borrow.Author.Tests.{not-true, not-false}
+use borrow.Author.Rules.{rules}
+use Rattle.answer_constructs.proofs.chains.gives.Goals as goal
+
+pub returns-then-not-has : goal.returns-then-not-has
+returns-then-not-has c = rw (sym c.has.ensures ∙ not-true _ c.if-not-has.true)
+
+pub returns : goal.returns
+returns c = rw (sym c.has.ensures ∙ not-false _ c.if-not-has.false) c.own.ensures

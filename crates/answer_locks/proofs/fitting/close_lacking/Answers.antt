@@ -1,0 +1,50 @@
+-- `answer_locks::fitting::close_lacking` meets its contract. The loop's invariant: the nodes passed have their flags.
+-- Assumes nothing.
+use mathlib.Core.Path.{◌≡◌, ◌∙◌}
+use mathlib.Core.Bool.{◌&&◌, not}
+use Prim.Native.Nat.{ℕ, ◌-◌, ◌≤◌, ◌<◌}
+use native.Mathlib.Omega.{arith}
+use lib.Dec.{eqb}
+use lib.ListN.{length, get_or, length-set}
+use borrow.Author.Rules.{rules}
+use Rattle.lists.specs.Store.{stored}
+use Rattle.answer_constructs.specs.Marks.{held_in}
+use Rattle.answer_locks.specs.Fitting.{lacking}
+use Rattle.answer_locks.proofs.fitting.close_lacking.Goals as goal
+
+pub loop-x-init : goal.loop-x-init
+loop-x-init c = (omega arith, c.requires.1, λ y l. absurd (omega arith))
+
+-- the node of this turn
+low : (t : goal.In-loop-x) → t.loop-x.x < 192
+low t = omega (arith, t.requires.0)
+
+pub bounds-closed-x : goal.bounds-closed-x
+bounds-closed-x c = low c.before
+
+pub offset_bounds-marks-x : goal.offset_bounds-marks-x
+offset_bounds-marks-x c = omega (arith, low c.before.before)
+
+pub bounds-marks-x : goal.bounds-marks-x
+bounds-marks-x c = low c.before.before
+
+pub bounds-shut-x : goal.bounds-shut-x
+bounds-shut-x c = low c.before.before.before.before.before
+
+pub overflow_add-x : goal.overflow_add-x
+overflow_add-x c = omega arith
+
+pub loop-x-smaller : goal.loop-x-smaller
+loop-x-smaller c = omega arith
+
+pub loop-x-preserved : goal.loop-x-preserved
+loop-x-preserved c =
+    let e = c.args in (
+      omega arith,
+      length-set c.loop-x.shut c.loop-x.x _ ∙ c.loop-x.invariant.1,
+      stored (λ y v. eqb v 0 ≡ (eqb (get_or e.closed.now y 0) 0 && not (lacking e.sets (get_or (held_in e.marks.now) y 0)))) c.loop-x.shut c.loop-x.x _
+          (omega (arith, low c.before.before.before.before.before)) c.shut_flag.ensures c.loop-x.invariant.2,
+    )
+
+pub returns : goal.returns
+returns c = record { at = λ y m. c.loop-x.invariant.2 y (omega arith) }

@@ -1,0 +1,36 @@
+-- `answer_masks::survey` meets its contract: rows 1 to 9 come first, and row 23 never applies to the outermost region.
+-- Assumes nothing.
+use mathlib.Core.Path.{sym, ◌∙◌}
+use borrow.Author.Rules.{rules}
+use Rattle.lists.specs.Truth.{bad}
+use Rattle.chart.specs.Checked.{counts_of, checked_by}
+use Rattle.theory_paths.specs.AdmissionLaws.{outermost-rows}
+use Rattle.mark_tables.proofs.Accepted.{accepted}
+use Rattle.mark_tables.proofs.Rows.{refused-before}
+use Rattle.mark_regions.proofs.Entering.{read_whole, entered-refused}
+use Rattle.mark_regions.proofs.Naming.{refused-first}
+use Rattle.answer_masks.proofs.survey.Goals as goal
+
+pub survey_region-requires : goal.survey_region-requires
+survey_region-requires c =
+    let h = sym c.check.ensures.value ∙ c.in-Passed.is in
+    ((accepted _ _ h, λ _. h, c.requires), c.check.ensures.both_framed _ c.in let p = -Passed.is) in record { accepted = p.0; both_framed = p.1 }
+
+pub returns-then-region-eq-OUTERMOST : goal.returns-then-region-eq-OUTERMOST
+unfolding counts_of
+returns-then-region-eq-OUTERMOST c =
+    let h = sym c.check.ensures.value ∙ c.in-Passed.is in
+    record { value = rw (c.if-region-eq-OUTERMOST.true, outermost-rows c.args.s.now) (c.survey_region.ensures.value.0 (read_whole _ _ h)); survey = c.survey_region.ensures.survey }
+
+pub survey_inner-requires : goal.survey_inner-requires
+survey_inner-requires c =
+    ((sym c.check.ensures.value ∙ c.in-Passed.is, c.if-region-eq-OUTERMOST.false, c.requires), c.check.ensures.both_framed _ c.in let p = -Passed.is) in record { s_value = p.0; both_framed = p.1 }
+
+pub returns-in-Refused : goal.returns-in-Refused
+unfolding checked_by
+returns-in-Refused c =
+    let n = refused-before c.args.s.now _ (sym c.check.ensures.value ∙ c.in-Refused.is) in
+    record { value = rw (entered-refused _ _ _ (sym (refused-first c.args.s.now c.args.region _ n))); survey = λ chart q. absurd (bad (cc)) }
+
+pub returns-else-region-eq-OUTERMOST : goal.returns-else-region-eq-OUTERMOST
+returns-else-region-eq-OUTERMOST c = record { value = c.survey_inner.ensures.value; survey = c.survey_inner.ensures.survey }

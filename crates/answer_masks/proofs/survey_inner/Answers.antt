@@ -1,0 +1,78 @@
+-- `answer_masks::survey_inner` meets its contract: row 10 from the outermost region's marking, row 23, and the region's own masks.
+-- Assumes nothing.
+use mathlib.Core.Path.{◌≡◌, refl, ap, sym, ◌∙◌, subst}
+use mathlib.Core.Logic.{◌≢◌}
+use mathlib.Core.Option.{none}
+use lib.ListN.{length}
+use borrow.Author.Rules.{rules}
+use Rattle.lists.specs.Truth.{bad}
+use Rattle.chart.specs.Format.{outside}
+use Rattle.chart.specs.Refusal.{first_of}
+use Rattle.chart.specs.Checked.{counts_of, read_for, checked_by, reading}
+use Rattle.chart.specs.declared.format.Chart.{Chart}
+use Rattle.chart.specs.declared.format.Checked.TheVariants.{Passed}
+use Rattle.check_chart.proofs.Outcome.{passed_none, refused-some}
+use Rattle.theory_paths.specs.Admission.{admit_rows}
+use Rattle.theory_paths.specs.Phases.{barriers}
+use Rattle.mark_tables.specs.Tables.{Accepted}
+use Rattle.mark_tables.proofs.Accepted.{accepted, accepted-for}
+use Rattle.mark_regions.proofs.Entering.{read_whole, entered-refused, entered-marked}
+use Rattle.mark_regions.proofs.Naming.{refused-first, refused-region, marked-region, named}
+use Rattle.answer_masks.proofs.survey_inner.Goals as goal
+
+-- where the function was called
+-- what the marking of the outermost region answers
+outer : (c : goal.After-survey_region)
+    → (let s = c.args.s.now in c.survey_region.result ≡ checked_by (first_of (admit_rows s)) (counts_of s))
+outer c = c.survey_region.ensures.value.0 (read_whole _ _ c.requires.s_value.0)
+
+-- it was marked
+admits : (c : goal.After-survey_region) (whole : Chart) → c.survey_region.result ≡ Passed whole
+    → (let s = c.args.s.now in (first_of (admit_rows s) ≡ none) × (counts_of s ≡ whole))
+admits c whole q = passed_none _ _ _ (sym (outer c) ∙ q)
+
+pub survey_region-requires : goal.survey_region-requires
+survey_region-requires c =
+    let ((h, _, blank), framed) = (c.requires.s_value, c.requires.both_framed) in
+    record { accepted = (accepted _ _ h, (λ _. h), blank); both_framed = framed }
+
+pub bad_region-requires : goal.bad_region-requires
+bad_region-requires c =
+    ((c.survey_region.ensures.survey _ c.in-Passed.is).accepted.laid, c.requires.s_value.1)
+
+-- row 23
+pub returns-then-bad_region : goal.returns-then-bad_region
+unfolding checked_by
+returns-then-bad_region c =
+    let n = entered-refused _ _ _ (sym (refused-region c.args.s.now c.args.region (admits c.before.before.before.before.before _ c.in-Passed.is).0 (sym c.bad_region.ensures ∙ c.if-bad_region.true))) in
+    record { value = rw n; survey = λ chart q. absurd (bad (cc)) }
+
+-- row 10
+pub returns-in-Refused : goal.returns-in-Refused
+unfolding checked_by
+returns-in-Refused c =
+    let n = refused-some _ _ _ (sym (outer c.before.before.before) ∙ c.in-Refused.is) in
+    record { value = rw (entered-refused _ _ _ (sym (refused-first c.args.s.now c.args.region _ n))); survey = λ chart q. absurd (bad (cc)) }
+
+-- the chart as it is read is none of the outermost region
+inner : (c : goal.After-read_for-inner) → c.read_for-inner.result.region ≢ outside
+inner c q = c.requires.s_value.1 (sym (ap (λ (k : Chart). k.region) c.read_for-inner.ensures) ∙ q)
+
+pub survey_region-requires-in-Passed : goal.survey_region-requires-in-Passed
+survey_region-requires-in-Passed c =
+    let A = (c.survey_region.ensures.survey _ c.in-Passed.is).accepted in
+    let N = named c.args.s.now c.args.region (sym c.bad_region.ensures ∙ c.if-bad_region.false) in record { accepted = (
+        subst (Accepted c.args.s.now) (sym c.read_for-inner.ensures) (accepted-for _ _ A c.args.region N),
+        λ q. absurd (inner c.before.before.before q),
+        refl,
+      ); both_framed = c.requires.both_framed }
+
+pub returns-else-bad_region : goal.returns-else-bad_region
+unfolding checked_by
+returns-else-bad_region c =
+    let s = c.args.s.now in
+    let p = c.args.region in
+    let (admitted, counts) = admits c.before.before.before.before.before.before.before.before.before.before _ c.in-Passed.is in
+    let same = c.read_for-inner.ensures ∙ ap (λ (c : Chart). read_for c p) (sym counts) in
+    let marked = marked-region s p admitted same (ap (λ (c : Chart). length (barriers (reading s c))) same) (sym c.bad_region.ensures ∙ c.if-bad_region.false) in
+    (c.survey_region-in-Passed.ensures.value.1 (inner c.before.before.before.before) ∙ rw (entered-marked _ _ _ (sym marked), same) refl, c.survey_region-in let p = -Passed.ensures.survey) in record { value = p.0; survey = p.1 }

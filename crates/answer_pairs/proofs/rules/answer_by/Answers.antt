@@ -1,0 +1,28 @@
+-- `answer_pairs::rules::answer_by` meets its contract.
+-- Assumes nothing.
+use mathlib.Core.Path.{◌≡◌, sym, ◌∙◌}
+use mathlib.Core.Bool.{false}
+use lib.Bits.{bit_or}
+use borrow.Author.Rules.{rules}
+use Rattle.answer_pairs.specs.Rules.{by_size, answer_by, sized-by, lacks-none}
+use Rattle.answer_pairs.proofs.rules.answer_by.Goals as goal
+
+pub returns-then-sets : goal.returns-then-sets
+unfolding answer_by by_size
+returns-then-sets c = rw c.if-sets.true
+
+pub returns-then-sets-eq0 : goal.returns-then-sets-eq0
+returns-then-sets-eq0 c =
+    let s = c.args in
+    c.ruled_by.ensures ∙ sym (sized-by s.sets s.x s.y c.if-sets.false (lacks-none (bit_or s.x.held s.y.held) c.if-sets-eq0.true))
+
+-- the team has two threads
+two : (c : goal.After-common) → c.args.sets.alone ≡ false
+two c = c.if-sets.false
+
+pub returns-then-common : goal.returns-then-common
+returns-then-common c = sym (sized-by _ _ _ (two c.before) (sym c.common.ensures ∙ c.if-common.true))
+
+pub returns : goal.returns
+returns c =
+    c.ruled_by-2.ensures ∙ sym (sized-by _ _ _ (two c.before.before) (sym c.common.ensures ∙ c.if-common.false))

@@ -1,0 +1,11 @@
+-- `answer_races::lines::line_of` meets its contract.
+-- Assumes nothing.
+use borrow.Author.Rules.{rules}
+use Rattle.answer_races.proofs.LineBits.{line-by}
+use Rattle.answer_races.proofs.lines.line_of.Goals as goal
+
+pub returns : goal.returns
+returns c =
+    let (A, (B, C)) = (c.join-shared.ensures.joined, (c.join-shared.ensures.joined_2, c.join-shared.ensures.joined_3)) in
+    λ closed marks names own M N. line-by closed marks names own c.args.around c.args.met c.join-shared.result _ _ _ c.ranges.around.fits M N A B C
+    c.without.ensures c.without-2.ensures c.without-3.ensures

@@ -1,0 +1,115 @@
+-- `answer_races::pairs::fill_races` meets its contract. The loop's invariant: the rows passed stand at the front of the buffer.
+-- Assumes nothing.
+use mathlib.Core.Path.{◌≡◌, refl, ap, ◌∙◌}
+use mathlib.Core.List.{[]}
+use Prim.Native.Nat.{ℕ, ◌+◌, ◌-◌, ◌/◌, ◌≤◌, ◌<◌}
+use native.Mathlib.Omega.{arith}
+use lib.ListN.{length, get_or, take, drop}
+use Rattle.lists.specs.Rows.{start_of, start-next, filled, filled_none, filled_more, filled-all, part_length}
+use Rattle.lists.specs.Tab.{tab}
+use Rattle.lists.specs.Triangle.{pairs_from, pair_count}
+use Rattle.theory_calls.specs.Access.{total, access_at}
+use Rattle.answer_races.specs.Bytes.{by_line}
+use Rattle.answer_races.specs.PairsLines.{line_byte}
+use Rattle.answer_races.proofs.RowsLaws.{few-pairs, Long, lent-long, row_fits}
+use Rattle.answer_races.proofs.pairs.fill_races.Goals as goal
+
+-- the part of row i lies within the buffer
+room : (t : goal.In-loop-i) → t.loop-i.at + (length t.args.accesses.now / 4 - t.loop-i.i) ≤ length t.loop-i.out
+unfolding total
+room t =
+    omega (arith, row_fits (length t.args.accesses.now / 4) t.loop-i.i (omega arith), t.loop-i.invariant.1, t.loop-i.invariant.2.is-long, t.requires.1)
+
+row-part : (t : goal.In-loop-i) → let n = length t.args.accesses.now / 4 in
+    let end = t.loop-i.at + (n - t.loop-i.i) in
+    length (take (end - t.loop-i.at) (drop t.loop-i.at t.loop-i.out)) ≡ n - t.loop-i.i
+row-part t = part_length _ _ _ t.loop-i.out refl (room t)
+
+-- it ends at a number of 64 bits, and i is one
+few : (t : goal.In-loop-i) → (t.loop-i.at + (length t.args.accesses.now / 4 - t.loop-i.i) ≤ 524800) × (t.loop-i.i < 1024)
+unfolding total pair_count
+few t =
+    let n = length t.args.accesses.now / 4 in
+    let most : n ≤ 1024 = omega (arith, t.requires.0) in
+    let below : t.loop-i.i < n = omega arith in
+    (omega (arith, row_fits n t.loop-i.i below, few-pairs n most, t.loop-i.invariant.1), omega (arith, most, below))
+
+-- the node of access i
+node : (w : goal.After-wide-node) → (w.wide-node.result ≡ (access_at w.args.accesses.now w.loop-i.i).node) × (w.wide-node.result < 192)
+unfolding access_at
+node w = (w.wide-node.ensures.0, omega (arith, w.wide-node.ensures.0, (w.requires.2 w.loop-i.i).0))
+
+pub link-requires : goal.link-requires
+link-requires c = (c.requires.0, refl, refl)
+
+pub loop-i-init : goal.loop-i-init
+unfolding total start_of
+loop-i-init c = (omega arith, refl, record { is-long = refl }, filled_none _ _ _)
+
+pub overflow_mul-i : goal.overflow_mul-i
+overflow_mul-i c = omega arith
+
+pub bounds-accesses-i : goal.bounds-accesses-i
+bounds-accesses-i c = omega arith
+
+pub wide-node-requires : goal.wide-node-requires
+wide-node-requires c = tt
+
+pub overflow_sub-end : goal.overflow_sub-end
+overflow_sub-end c = omega arith
+
+pub overflow_add-end : goal.overflow_add-end
+overflow_add-end c = omega (arith, (few c.before.before).0)
+
+pub offset_bounds-lines-node : goal.offset_bounds-lines-node
+offset_bounds-lines-node c = omega (arith, (node c.before.before).1)
+
+pub bounds-lines-node : goal.bounds-lines-node
+bounds-lines-node c = (node c.before.before).1
+
+pub slice_bounds-fill_row-count : goal.slice_bounds-fill_row-count
+slice_bounds-fill_row-count c = omega arith
+
+pub slice_bounds-fill_row-start : goal.slice_bounds-fill_row-start
+slice_bounds-fill_row-start c = omega arith
+
+pub slice_bounds-fill_row-end : goal.slice_bounds-fill_row-end
+slice_bounds-fill_row-end c = room c.before.before.before.before
+
+pub fill_row-requires : goal.fill_row-requires
+unfolding total
+fill_row-requires c =
+    (c.link.ensures, c.requires.0, omega (arith, row-part c.before.before.before.before.before), omega (arith, row-part c.before.before.before.before.before), (λ j. (c.requires.2 j).0), (c.requires.2 c.loop-i.i).1)
+
+pub overflow_add-i : goal.overflow_add-i
+overflow_add-i c = omega (arith, (few c.before.before.before.before.before.before.before.before).1)
+
+pub loop-i-smaller : goal.loop-i-smaller
+loop-i-smaller c = omega arith
+
+pub loop-i-preserved : goal.loop-i-preserved
+unfolding total
+loop-i-preserved c =
+    let list = c.args.accesses.now in
+    let lines = c.args.lines.now in
+    let i = c.loop-i.i in
+    let (below, at, long, done) = c.loop-i.invariant in (
+      omega arith,
+      omega (arith, at, start-next (pairs_from (total list)) i),
+      lent-long c.loop-i.at (c.loop-i.at + (length list / 4 - i)) c.loop-i.out _ (omega arith) (room c.before.before.before.before.before.before.before.before) c.fill_row.ensures long,
+      filled_more (pairs_from (total list)) (line_byte lines list) i _ _ c.args.out.now c.loop-i.out _ at refl done
+          (c.fill_row.ensures ∙ ap (λ (m : ℕ). tab m (λ k. by_line (get_or lines c.wide-node.result []) (access_at list i) (access_at list (i + k)))) (row-part c.before.before.before.before.before.before.before.before)
+          ∙ ap (λ (a : ℕ). tab (length list / 4 - i) (λ k. by_line (get_or lines a []) (access_at list i) (access_at list (i + k)))) (node c.before.before.before.before.before.before).0),
+    )
+
+pub shape_of-out : goal.shape_of-out
+shape_of-out c = c.loop-i.invariant.2.is-long
+
+pub returns : goal.returns
+unfolding total
+returns c =
+    let list = c.args.accesses.now in
+    let bytes = line_byte c.args.lines.now list in
+    let z : c.loop-i.i ≡ total list = omega arith in
+    c.loop-i.invariant.3 ∙ ap (λ (k : ℕ). filled (pairs_from (total list)) bytes k c.args.out.now) z
+    ∙ filled-all (pairs_from (total list)) bytes (total list) c.args.out.now

@@ -1,0 +1,17 @@
+-- The invariants and measures of `answer_races::same_variable::chain`.
+use mathlib.Core.Path.{◌≡◌, ◌∙◌}
+use Prim.Native.Nat.{ℕ, ◌+◌, ◌-◌, ◌/◌, ◌≤◌, ◌<◌}
+use native.Mathlib.Omega.{arith}
+use lib.ListN.{length, length-replicate, length-set}
+use Rattle.theory_calls.specs.Access.{total}
+use Rattle.answer_races.specs.Linked.{bucket}
+use Rattle.answer_races.proofs.Chains.{Heads, Chains, heads-none, heads-more, chains-more}
+use Rattle.answer_races.proofs.same_variable.chain.Given as goal
+
+abbrev pub invariant-loop-i : goal.invariant-loop-i
+invariant-loop-i l =
+    (l.i ≤ length l.accesses / 4) × (length l.under ≡ 1024) × (length l.heads ≡ 1021)
+    × Heads (bucket l.accesses) (length l.accesses / 4) l.i l.heads × Chains (bucket l.accesses) (length l.accesses / 4) l.i l.under
+
+abbrev pub decreases-loop-i : goal.decreases-loop-i
+decreases-loop-i l = l.i

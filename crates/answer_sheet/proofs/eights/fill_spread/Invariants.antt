@@ -1,0 +1,16 @@
+-- The invariants and measures of `answer_sheet::eights::fill_spread`.
+use mathlib.Core.Path.{◌≡◌, refl, ◌∙◌}
+use Prim.Native.Nat.{ℕ, ◌+◌, ◌*◌, ◌-◌, ◌/◌, ◌%◌, ◌≤◌, ◌<◌}
+use native.Mathlib.Omega.{arith}
+use lib.ListN.{length, get_or, replicate, length-set}
+use Rattle.lists.specs.Store.{stored}
+use Rattle.answer_sheet.specs.Fan.{fan}
+use Rattle.answer_sheet.proofs.Spreads.{bits_of, halved, low-most}
+use Rattle.answer_sheet.proofs.eights.fill_spread.Given as goal
+
+abbrev pub invariant-loop-b : goal.invariant-loop-b
+invariant-loop-b l =
+    (l.b ≤ 256) × (0 < l.b) × (length l.table ≡ 256) × ((j : ℕ) → j < l.b → get_or l.table j 0 ≡ fan (bits_of j) 8)
+
+abbrev pub decreases-loop-b : goal.decreases-loop-b
+decreases-loop-b l = 256 - l.b

@@ -1,0 +1,15 @@
+-- The invariants and measures of `answer_sheet::eights::put_phase`.
+use mathlib.Core.Path.{refl}
+use Prim.Native.Nat.{ℕ, ◌-◌, ◌/◌, ◌%◌, ◌^◌}
+use native.Mathlib.Omega.{arith}
+use Rattle.answer_sheet.proofs.Spreads.{ones, Filled, eights-more}
+use Rattle.answer_sheet.proofs.eights.put_phase.Given as goal
+
+abbrev pub number : ℕ → ℕ → ℕ
+number both j = 1 - both / 2 ^ j % 2
+
+abbrev pub invariant-loop-i : goal.invariant-loop-i
+invariant-loop-i l = Filled (number l.both) l.w l.fence l.initial.row l.row l.i
+
+abbrev pub decreases-loop-i : goal.decreases-loop-i
+decreases-loop-i l = 8 - l.i

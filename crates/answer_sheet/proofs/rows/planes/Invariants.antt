@@ -1,0 +1,20 @@
+-- The invariants and measures of `answer_sheet::rows::planes`.
+use mathlib.Core.Path.{◌≡◌, ap, sym, ◌∙◌}
+use mathlib.Core.Bool.{Bool, cond}
+use Prim.Native.Nat.{ℕ, ◌+◌, ◌-◌, ◌≤◌}
+use native.Mathlib.Omega.{arith}
+use lib.ListN.{get_or}
+use Rattle.lists.specs.Range.{any}
+use Rattle.lists.specs.Truth.{and-true}
+use Rattle.lists.specs.Bits.{has}
+use Rattle.answer_pairs.specs.Rules.{numbered, by_rules}
+use Rattle.answer_nodes.proofs.BitTests.{has-and, has-without}
+use Rattle.answer_sheet.specs.Eights.{digit}
+use Rattle.answer_sheet.proofs.Ranks.{Ruled, none-given, blank-left, next-left, next-number}
+use Rattle.answer_sheet.proofs.rows.planes.Given as goal
+
+abbrev pub invariant-loop-k : goal.invariant-loop-k
+invariant-loop-k l = (l.k ≤ 4) × ((j : ℕ) → Ruled (has l.both j) (λ i. has (get_or l.rules i 0) j) l.k (has l.left j) (digit l.p j))
+
+abbrev pub decreases-loop-k : goal.decreases-loop-k
+decreases-loop-k l = 4 - l.k

@@ -1,0 +1,147 @@
+-- `answer_sheet::sheet::fill_sheet` meets its contract. The loop's invariant: the rows passed stand at the front of the buffer.
+-- Assumes nothing.
+use mathlib.Core.Path.{◌≡◌, refl, ap, sym, ◌∙◌, subst}
+use Prim.Native.Nat.{ℕ, ◌+◌, ◌*◌, ◌-◌, ◌≤◌, ◌<◌}
+use native.Mathlib.Omega.{arith}
+use native.Mathlib.Nat.{mul-le-mul_right}
+use lib.ListN.{length, get_or}
+use Rattle.chart.specs.Region.{Region}
+use Rattle.chart.specs.Checked.{reading}
+use Rattle.chart.proofs.Records.{nodes-length}
+use Rattle.lists.specs.Rows.{square, row_room, row-end, after, after_none, after-length, after_more, after-all, part_length}
+use Rattle.theory_answers.specs.Answer.{answer_for}
+use Rattle.theory_answers.specs.Sheet.{entry, row, sheet}
+use Rattle.theory_answers.specs.declared.Size.{Size}
+use Rattle.mark_tables.specs.Tables.{Closed}
+use Rattle.answer_constructs.specs.Marks.{Sized, Marks}
+use Rattle.answer_constructs.proofs.Past.{rows-past}
+use Rattle.answer_sheet.specs.Sheet.{row_of}
+use Rattle.answer_sheet.proofs.Entries.{kept_row}
+use Rattle.answer_sheet.proofs.sheet.fill_sheet.Goals as goal
+
+pub sets_for-sets-requires : goal.sets_for-sets-requires
+sets_for-sets-requires c = c.requires.0
+
+pub load_closed-requires : goal.load_closed-requires
+load_closed-requires c = c.requires.0
+
+pub gather_all-requires : goal.gather_all-requires
+gather_all-requires c =
+    (λ r l x. rows-past c.requires.1 (nodes-length _ c.args.chart c.requires.0.laid) r x l, refl)
+
+pub fill_fence-requires : goal.fill_fence-requires
+fill_fence-requires c = tt
+
+pub fill_spread-requires : goal.fill_spread-requires
+fill_spread-requires c = tt
+
+pub work_row-requires : goal.work_row-requires
+work_row-requires c = (c.fill_spread.ensures, refl)
+
+pub loop-a-init : goal.loop-a-init
+loop-a-init c = (
+  omega arith,
+  c.work_row.ensures.0,
+  c.work_row.ensures.1 _ _ c.gather_all.ensures c.fill_fence.ensures,
+  λ R size q M Z C. after_none (entry R (answer_for R size)) R.nodes c.args.out.now,
+)
+
+-- the region that the chart is read for, and its answers
+abbrev read : goal.Start → Region
+read e = reading e.args.s.now e.args.chart
+
+abbrev answer : goal.Start → ℕ → ℕ → ℕ
+answer e = answer_for (read e) e.args.size
+
+-- the rows passed are those of its sheet, and so the buffer is as long as it was
+passed : (l : goal.At-loop-a) → l.loop-a.out ≡ after (entry (read l.before.before.before.before.before.before.before.before.before.before.before.before.before.before.before.before.before.before.before) (answer l.before.before.before.before.before.before.before.before.before.before.before.before.before.before.before.before.before.before.before)) (read l.before.before.before.before.before.before.before.before.before.before.before.before.before.before.before.before.before.before.before).nodes l.loop-a.a l.args.out.now
+passed l =
+    let (Z, same) = (l.sets_for-sets.ensures.sized, l.sets_for-sets.ensures.kinds_value) in
+    l.loop-a.invariant.3 (read l.before.before.before.before.before.before.before.before.before.before.before.before.before.before.before.before.before.before.before) l.args.size (nodes-length _ l.args.chart l.requires.0.laid) (subst (Marks (read l.before.before.before.before.before.before.before.before.before.before.before.before.before.before.before.before.before.before.before) l.args.marks.now) (sym same) l.requires.1) Z l.load_closed.ensures
+
+long : (l : goal.At-loop-a) → length l.loop-a.out ≡ length l.args.out.now
+long l =
+    let n = nodes-length _ l.args.chart l.requires.0.laid in
+    let most = mul-le-mul_right {m = l.loop-a.a} {n = l.args.chart.nodes} l.args.chart.nodes l.loop-a.invariant.0 in
+    ap length (passed l) ∙ after-length (entry (read l.before.before.before.before.before.before.before.before.before.before.before.before.before.before.before.before.before.before.before) (answer l.before.before.before.before.before.before.before.before.before.before.before.before.before.before.before.before.before.before.before)) (read l.before.before.before.before.before.before.before.before.before.before.before.before.before.before.before.before.before.before.before).nodes l.loop-a.a l.args.out.now (rw n (omega (arith, most, l.requires.2)))
+
+few : (c : goal.In-loop-a) → c.loop-a.a < 192
+few c = omega (arith, c.requires.0.laid.nodes-most, c.loop-a-test.true)
+
+-- row a ends where the next one starts, within the buffer
+ends : (c : goal.In-loop-a) → let n = c.args.chart.nodes in (c.loop-a.a + 1) * n ≡ c.loop-a.a * n + n
+ends c = row-end c.loop-a.a c.args.chart.nodes
+
+most : (c : goal.In-loop-a) → (c.loop-a.a + 1) * c.args.chart.nodes ≤ 36864
+most c =
+    omega (arith, ends c, row_room c.loop-a.a c.args.chart.nodes c.loop-a-test.true, square c.requires.0.laid.nodes-most)
+
+room : (c : goal.In-loop-a) → (c.loop-a.a + 1) * c.args.chart.nodes ≤ length c.loop-a.out
+room c =
+    omega (arith, ends c, row_room c.loop-a.a c.args.chart.nodes c.loop-a-test.true, c.requires.2, long c.before)
+
+pub profile_of-requires : goal.profile_of-requires
+profile_of-requires c = few c
+
+pub bounds-closed-a : goal.bounds-closed-a
+bounds-closed-a c = few c.before
+
+pub keep_row-kept-requires : goal.keep_row-kept-requires
+keep_row-kept-requires c =
+    (c.fill_spread.ensures, c.loop-a.invariant.1)
+
+pub overflow_mul-a : goal.overflow_mul-a
+overflow_mul-a c = omega (arith, most c.before.before.before.before.before.before.before.before, ends c.before.before.before.before.before.before.before.before)
+
+pub overflow_add-a : goal.overflow_add-a
+overflow_add-a c = omega (arith, few c.before.before.before.before.before.before.before.before)
+
+pub overflow_mul-a-in-loop-a : goal.overflow_mul-a-in-loop-a
+overflow_mul-a-in-loop-a c = omega (arith, most c.before.before.before.before.before.before.before.before)
+
+pub slice_bounds-fill_row-count : goal.slice_bounds-fill_row-count
+slice_bounds-fill_row-count c = omega (arith, ends c.before.before.before.before.before.before.before.before)
+
+pub slice_bounds-fill_row-start : goal.slice_bounds-fill_row-start
+slice_bounds-fill_row-start c = omega (arith, ends c.before.before.before.before.before.before.before.before)
+
+pub slice_bounds-fill_row-end : goal.slice_bounds-fill_row-end
+slice_bounds-fill_row-end c = room c.before.before.before.before.before.before.before.before
+
+pub fill_row-requires : goal.fill_row-requires
+fill_row-requires c =
+    let long = part_length c.args.chart.nodes _ _ c.loop-a.out (ends c.before.before.before.before.before.before.before.before.before) (room c.before.before.before.before.before.before.before.before.before) in
+    (omega (arith, long, c.requires.0.laid.nodes-most), omega (arith, long))
+
+pub overflow_add-a-in-loop-a : goal.overflow_add-a-in-loop-a
+overflow_add-a-in-loop-a c = omega (arith, few c.before.before.before.before.before.before.before.before.before.before.before.before)
+
+pub loop-a-smaller : goal.loop-a-smaller
+loop-a-smaller c = omega arith
+
+pub loop-a-preserved : goal.loop-a-preserved
+unfolding row
+loop-a-preserved c =
+    let (below, wide, kept, done) = c.loop-a.invariant in
+    let next = c.keep_row-kept.ensures.2 _ _ c.gather_all.ensures c.fill_fence.ensures kept in (
+      omega arith,
+      c.keep_row-kept.ensures.0,
+      next,
+      λ R size n M Z C.
+          let filled = c.fill_row.ensures R (answer_for R size) (n ∙ sym (part_length c.args.chart.nodes _ _ c.loop-a.out (ends c.before.before.before.before.before.before.before.before.before.before.before.before) (room c.before.before.before.before.before.before.before.before.before.before.before.before))) C
+          (λ o j h. next j (omega (arith, n, c.requires.0.laid.nodes-most, h)) ∙ kept_row _ M size Z C c.loop-a.a j _ _ (omega (arith, n, c.loop-a-test.true)) h c.keep_row-kept.ensures.1 c.profile_of.ensures o)
+          in
+          after_more (entry R (answer_for R size)) R.nodes c.loop-a.a _ _ c.args.out.now c.loop-a.out _ (ap (λ (k : ℕ). c.loop-a.a * k) (sym n))
+          (ends c.before.before.before.before.before.before.before.before.before.before.before.before ∙ ap (λ (k : ℕ). c.loop-a.a * c.args.chart.nodes + k) (sym n)) (done R size n M Z C) filled,
+    )
+
+pub shape_of-out : goal.shape_of-out
+shape_of-out c = long c.before
+
+pub returns : goal.returns
+unfolding sheet
+returns c =
+    let R = read c.before.before.before.before.before.before.before.before.before.before.before.before.before.before.before.before.before.before.before.before in
+    let f = answer c.before.before.before.before.before.before.before.before.before.before.before.before.before.before.before.before.before.before.before.before in
+    let q : c.loop-a.a ≡ R.nodes = omega (arith, nodes-length _ c.args.chart c.requires.0.laid) in
+    passed c.before ∙ ap (λ (k : ℕ). after (entry R f) R.nodes k c.args.out.now) q ∙ after-all (entry R f) R.nodes R.nodes c.args.out.now

@@ -1,0 +1,15 @@
+-- The invariants and measures of `answer_steps::children::fill_children`.
+use mathlib.Core.Path.{◌≡◌, ◌∙◌, sym}
+use mathlib.Core.Logic.{inl}
+use Prim.Native.Nat.{◌+◌, ◌-◌, ◌≤◌}
+use native.Mathlib.Omega.{arith}
+use lib.ListN.{get_or}
+use Rattle.answer_steps.specs.Children.{Children}
+use Rattle.answer_steps.proofs.Sorts.{children-none}
+use Rattle.answer_steps.proofs.children.fill_children.Given as goal
+
+abbrev pub invariant-loop-x : goal.invariant-loop-x
+invariant-loop-x l = (l.x ≤ l.n) × (l.n ≡ get_or l.initial.table 2033 0) × Children l.which l.x l.initial.table l.table
+
+abbrev pub decreases-loop-x : goal.decreases-loop-x
+decreases-loop-x l = l.n - l.x

@@ -1,0 +1,15 @@
+-- `answer_steps::children::is_ordered` meets its contract.
+-- Assumes nothing.
+use mathlib.Core.Path.{sym, ◌∙◌}
+use borrow.Author.Tests.{eq-eqb, ne_eqb}
+use Rattle.answer_steps.specs.Children.{ordered_at}
+use borrow.Author.Rules.{rules}
+use Rattle.answer_steps.proofs.children.is_ordered.Goals as goal
+
+pub returns-then-at-wide : goal.returns-then-at-wide
+unfolding ordered_at
+returns-then-at-wide c = rw (ne_eqb _ _ (λ z. c.if-at-wide.true (c.at.ensures ∙ z ∙ sym c.wide.ensures.0)))
+
+pub returns : goal.returns
+unfolding ordered_at
+returns c = rw (eq-eqb _ _ (sym c.at.ensures ∙ c.if-at-wide.false ∙ c.wide.ensures.0)) c.has.ensures

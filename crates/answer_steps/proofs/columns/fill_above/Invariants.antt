@@ -1,0 +1,13 @@
+-- The invariants and measures of `answer_steps::columns::fill_above`.
+use mathlib.Core.Path.{◌≡◌, subst}
+use Prim.Native.Nat.{ℕ, ◌-◌, ◌≤◌}
+use native.Mathlib.Omega.{arith}
+use Rattle.chart.specs.Format.{decode}
+use Rattle.answer_steps.specs.Words.{Above}
+use Rattle.answer_steps.proofs.columns.fill_above.Given as goal
+
+abbrev pub invariant-loop-c : goal.invariant-loop-c
+invariant-loop-c l = (l.c ≤ l.chart.constructs) × Above (decode l.s) l.c l.above
+
+abbrev pub decreases-loop-c : goal.decreases-loop-c
+decreases-loop-c l = l.chart.constructs - l.c

@@ -1,0 +1,14 @@
+-- The invariants and measures of `answer_steps::columns::fill_constructs`.
+use mathlib.Core.Path.{◌≡◌, subst}
+use Prim.Native.Nat.{ℕ, ◌+◌, ◌*◌, ◌-◌, ◌≤◌}
+use native.Mathlib.Omega.{arith}
+use Rattle.chart.specs.Format.{decode}
+use Rattle.answer_steps.specs.Words.{Column, construct_word}
+use Rattle.answer_steps.proofs.Filling.{column-none, column-more}
+use Rattle.answer_steps.proofs.columns.fill_constructs.Given as goal
+
+abbrev pub invariant-loop-c : goal.invariant-loop-c
+invariant-loop-c l = (l.c ≤ l.chart.constructs) × Column (1792 + 48 * l.which) l.c (construct_word (decode l.s) l.begins l.ends l.which) l.initial.table l.table
+
+abbrev pub decreases-loop-c : goal.decreases-loop-c
+decreases-loop-c l = l.chart.constructs - l.c

@@ -1,0 +1,8 @@
+-- `answer_steps::effects::move_to` meets its contract.
+-- Assumes nothing.
+use Rattle.answer_steps.proofs.Stores.{shows-moved}
+use borrow.Author.Rules.{rules}
+use Rattle.answer_steps.proofs.effects.move_to.Goals as goal
+
+pub returns : goal.returns
+returns c = λ σ S. shows-moved S c.args.t c.requires.1 c.args.v c.requires.2

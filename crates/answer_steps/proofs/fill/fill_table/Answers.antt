@@ -1,0 +1,113 @@
+-- `answer_steps::fill::fill_table` meets its contract.
+-- Assumes nothing.
+use mathlib.Core.Path.{◌≡◌, ◌∙◌}
+use mathlib.Core.Logic.{◌⊎◌, inl, inr}
+use mathlib.Core.List.{List}
+use Prim.Native.Nat.{ℕ, ◌+◌, ◌≤◌, ◌<◌}
+use native.Mathlib.Omega.{arith}
+use lib.ListN.{length, get_or, length-replicate}
+use Rattle.lists.specs.Store.{zeros}
+use Rattle.answer_steps.specs.Words.{construct_word}
+use Rattle.answer_steps.proofs.Whole.{region-few, tabled}
+use Rattle.answer_steps.proofs.fill.fill_table.Goals as goal
+
+pub members_of-members-requires : goal.members_of-members-requires
+members_of-members-requires c = c.requires
+
+pub fill_above-requires : goal.fill_above-requires
+fill_above-requires c = (c.requires, length-replicate {A = ℕ} 48 0)
+
+pub fill_nodes-requires : goal.fill_nodes-requires
+fill_nodes-requires c = (c.requires, c.fill_above.ensures, omega arith, length-replicate {A = ℕ} 2133 0)
+
+pub fill_nodes-requires-2 : goal.fill_nodes-requires-2
+fill_nodes-requires-2 c = (c.requires, c.fill_above.ensures, omega arith, c.fill_nodes.ensures.long ∙ length-replicate {A = ℕ} 2133 0)
+
+pub fill_nodes-requires-3 : goal.fill_nodes-requires-3
+fill_nodes-requires-3 c = (c.requires, c.fill_above.ensures, omega arith, c.fill_nodes-2.ensures.long ∙ c.fill_nodes.ensures.long ∙ length-replicate {A = ℕ} 2133 0)
+
+pub frames-requires : goal.frames-requires
+frames-requires c = c.requires
+
+pub fill_constructs-requires : goal.fill_constructs-requires
+fill_constructs-requires c = (c.requires, omega arith, c.fill_nodes-3.ensures.long ∙ c.fill_nodes-2.ensures.long ∙ c.fill_nodes.ensures.long ∙ length-replicate {A = ℕ} 2133 0, c.frames.ensures.0.node, c.frames.ensures.1.node)
+
+pub fill_constructs-requires-2 : goal.fill_constructs-requires-2
+fill_constructs-requires-2 c = (c.requires, omega arith, c.fill_constructs.ensures.long ∙ c.fill_nodes-3.ensures.long ∙ c.fill_nodes-2.ensures.long ∙ c.fill_nodes.ensures.long ∙ length-replicate {A = ℕ} 2133 0, c.frames.ensures.0.node, c.frames.ensures.1.node)
+
+pub fill_constructs-requires-3 : goal.fill_constructs-requires-3
+fill_constructs-requires-3 c = (c.requires, omega arith, c.fill_constructs-2.ensures.long ∙ c.fill_constructs.ensures.long ∙ c.fill_nodes-3.ensures.long ∙ c.fill_nodes-2.ensures.long ∙ c.fill_nodes.ensures.long ∙ length-replicate {A = ℕ} 2133 0, c.frames.ensures.0.node, c.frames.ensures.1.node)
+
+pub fill_constructs-requires-4 : goal.fill_constructs-requires-4
+fill_constructs-requires-4 c = (c.requires, omega arith, c.fill_constructs-3.ensures.long ∙ c.fill_constructs-2.ensures.long ∙ c.fill_constructs.ensures.long ∙ c.fill_nodes-3.ensures.long ∙ c.fill_nodes-2.ensures.long ∙ c.fill_nodes.ensures.long ∙ length-replicate {A = ℕ} 2133 0, c.frames.ensures.0.node, c.frames.ensures.1.node)
+
+pub fill_constructs-requires-5 : goal.fill_constructs-requires-5
+fill_constructs-requires-5 c = (c.requires, omega arith, c.fill_constructs-4.ensures.long ∙ c.fill_constructs-3.ensures.long ∙ c.fill_constructs-2.ensures.long ∙ c.fill_constructs.ensures.long ∙ c.fill_nodes-3.ensures.long ∙ c.fill_nodes-2.ensures.long ∙ c.fill_nodes.ensures.long ∙ length-replicate {A = ℕ} 2133 0, c.frames.ensures.0.node, c.frames.ensures.1.node)
+
+pub put_numbers-requires : goal.put_numbers-requires
+put_numbers-requires c = (omega (arith, c.requires.laid.two-nodes), region-few _ c.args.chart c.requires, c.fill_constructs-5.ensures.long ∙ c.fill_constructs-4.ensures.long ∙ c.fill_constructs-3.ensures.long ∙ c.fill_constructs-2.ensures.long ∙ c.fill_constructs.ensures.long ∙ c.fill_nodes-3.ensures.long ∙ c.fill_nodes-2.ensures.long ∙ c.fill_nodes.ensures.long ∙ length-replicate {A = ℕ} 2133 0, c.frames.ensures.0.node, c.frames.ensures.1.node)
+
+-- where the numbers are put, and before it
+module _ (p : goal.After-put_numbers) where
+
+  abbrev table : List ℕ
+  table = p.put_numbers.last.1.1.1.1.0
+
+  few : p.args.chart.constructs ≤ 48
+  few = p.requires.laid.constructs-most
+
+  nodes : p.args.chart.nodes ≤ 192
+  nodes = p.requires.laid.nodes-most
+
+  long : length table ≡ 2133
+  long =
+      p.put_numbers.ensures.beside.long ∙ p.fill_constructs-5.ensures.long ∙ p.fill_constructs-4.ensures.long ∙ p.fill_constructs-3.ensures.long
+      ∙ p.fill_constructs-2.ensures.long ∙ p.fill_constructs.ensures.long ∙ p.fill_nodes-3.ensures.long ∙ p.fill_nodes-2.ensures.long
+      ∙ p.fill_nodes.ensures.long ∙ length-replicate {A = ℕ} 2133 0
+
+  -- nothing stands before the columns, and after the numbers
+  blank : (j : ℕ) → (j < 1024) ⊎ (2037 ≤ j) → get_or table j 0 ≡ 0
+  blank j (inl l) =
+      p.put_numbers.ensures.beside.rest j (inl (omega arith)) ∙ p.fill_constructs-5.ensures.rest j (inl (omega arith)) ∙ p.fill_constructs-4.ensures.rest j (inl (omega arith))
+      ∙ p.fill_constructs-3.ensures.rest j (inl (omega arith)) ∙ p.fill_constructs-2.ensures.rest j (inl (omega arith)) ∙ p.fill_constructs.ensures.rest j (inl (omega arith))
+      ∙ p.fill_nodes-3.ensures.rest j (inl (omega arith)) ∙ p.fill_nodes-2.ensures.rest j (inl (omega arith)) ∙ p.fill_nodes.ensures.rest j (inl (omega arith))
+      ∙ zeros 2133 j
+  blank j (inr l) =
+      p.put_numbers.ensures.beside.rest j (inr (omega arith)) ∙ p.fill_constructs-5.ensures.rest j (inr (omega (arith, few))) ∙ p.fill_constructs-4.ensures.rest j (inr (omega (arith, few)))
+      ∙ p.fill_constructs-3.ensures.rest j (inr (omega (arith, few))) ∙ p.fill_constructs-2.ensures.rest j (inr (omega (arith, few))) ∙ p.fill_constructs.ensures.rest j (inr (omega (arith, few)))
+      ∙ p.fill_nodes-3.ensures.rest j (inr (omega (arith, nodes))) ∙ p.fill_nodes-2.ensures.rest j (inr (omega (arith, nodes))) ∙ p.fill_nodes.ensures.rest j (inr (omega (arith, nodes)))
+      ∙ zeros 2133 j
+
+  count : get_or table 2033 0 ≡ p.args.chart.constructs
+  count = p.put_numbers.ensures.table_after.1
+
+  begins : (x : ℕ) → x < get_or table 2033 0 → get_or table (1936 + x) 0 < 256
+  unfolding construct_word
+  begins x l =
+      let small : x < p.args.chart.constructs = omega (arith, count) in
+      let e = p.put_numbers.ensures.beside.rest (1936 + x) (inl (omega (arith, few))) ∙ p.fill_constructs-5.ensures.rest (1936 + x) (inl (omega (arith, few))) ∙ p.fill_constructs-4.ensures.at x small in
+      omega (arith, e, p.frames.ensures.0.node x)
+
+pub fill_children-requires : goal.fill_children-requires
+fill_children-requires c = record { table_len = (long c.before, omega arith, omega (arith, count c.before, few c.before)); by_index = begins c.before; by_index_2 = λ j l. blank c.before j (inr (omega arith)) }
+
+pub fill_children-requires-2 : goal.fill_children-requires-2
+fill_children-requires-2 c =
+    let one = c.fill_children.ensures.beside in
+    let n = one.rest 2033 (inl (omega arith)) in record { table_len = (one.long ∙ long c.before.before.before, omega arith, omega (arith, n, count c.before.before.before, few c.before.before.before)); by_index = (λ x l. let small : x < 48 = omega (arith, n, count c.before.before.before, few c.before.before.before) in omega (arith, one.rest (1936 + x) (inl (omega arith)), begins c.before.before.before x (omega (arith, n)))); by_index_2 = λ j l. one.rest j (inr (omega arith)) ∙ blank c.before.before.before j (inr (omega arith)) }
+
+pub fill_edges-requires : goal.fill_edges-requires
+fill_edges-requires c =
+    let one = c.fill_children.ensures.beside in
+    let two = c.fill_children-2.ensures.beside in
+    record { accepted = (c.requires, two.long ∙ one.long ∙ long c.before.before.before.before.before); by_index = λ j l. two.rest j (inl (omega arith)) ∙ one.rest j (inl (omega arith)) ∙ blank c.before.before.before.before.before j (inl l) }
+
+pub returns : goal.returns
+returns c =
+    let F = c.frames.ensures in
+    let N = (c.put_numbers.ensures.table_after, (c.put_numbers.ensures.fact, c.put_numbers.ensures.beside)) in
+    let E = c.fill_edges.ensures in
+    tabled _ c.args.chart c.requires _ _ _ c.members_of-members.ensures F.0 F.1 (zeros 2133) (length-replicate {A = ℕ} 2133 0)
+    c.fill_nodes.ensures c.fill_nodes-2.ensures c.fill_nodes-3.ensures c.fill_constructs.ensures c.fill_constructs-2.ensures
+    c.fill_constructs-3.ensures c.fill_constructs-4.ensures c.fill_constructs-5.ensures N.0 N.1.0 N.1.1 c.fill_children.ensures
+    c.fill_children-2.ensures E.0 E.1

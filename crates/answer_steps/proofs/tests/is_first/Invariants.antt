@@ -1,0 +1,21 @@
+-- The invariants and measures of `answer_steps::tests::is_first`.
+use mathlib.Core.Path.{◌≡◌, refl, sym}
+use mathlib.Core.Bool.{true}
+use Prim.Native.Nat.{◌+◌, ◌*◌, ◌-◌, ◌≤◌}
+use native.Mathlib.Omega.{arith}
+use lib.Dec.{leb}
+use lib.ListN.{get_or}
+use borrow.Author.Tests.{le-leb, lt-leb}
+use Rattle.lists.specs.Range.{every}
+use Rattle.theory_team.specs.State.{State}
+use Rattle.theory_traces.specs.Tests.{is_first}
+use Rattle.answer_steps.specs.Tables.{Shows}
+use Rattle.answer_steps.proofs.Laws.{every_more, every-fails}
+use Rattle.answer_steps.proofs.tests.is_first.Given as goal
+
+abbrev pub invariant-loop-k : goal.invariant-loop-k
+invariant-loop-k l =
+    (l.k ≤ l.m) × (l.own ≡ get_or l.team (97 * l.t + 1 + l.c) 0) × ((σ : State) → Shows σ l.team → every l.k (λ j. leb (σ.encounters j l.c) (σ.encounters l.t l.c)) ≡ true)
+
+abbrev pub decreases-loop-k : goal.decreases-loop-k
+decreases-loop-k l = l.m - l.k

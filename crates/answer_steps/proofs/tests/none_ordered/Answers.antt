@@ -1,0 +1,44 @@
+-- `answer_steps::tests::none_ordered` meets its contract. The loop's invariant: none of the threads passed is beside t.
+-- Assumes nothing.
+use mathlib.Core.Path.{◌≡◌, refl, sym, ◌∙◌}
+use mathlib.Core.Bool.{true, ◌||◌, not}
+use Prim.Native.Nat.{◌-◌, ◌≤◌}
+use native.Mathlib.Omega.{arith}
+use lib.Dec.{eqb}
+use borrow.Author.Tests.{not-true, not-false}
+use Rattle.lists.specs.Range.{every}
+use Rattle.chart.specs.Region.{Region}
+use Rattle.theory_team.specs.State.{State}
+use Rattle.theory_answers.specs.Answer.{in_ordered_of}
+use Rattle.theory_traces.specs.Tests.{none_ordered}
+use Rattle.answer_steps.specs.Tables.{Tabled, Shows}
+use Rattle.answer_steps.proofs.Laws.{every_more, every-fails}
+use Rattle.answer_steps.proofs.tests.none_ordered.Goals as goal
+
+pub loop-k-init : goal.loop-k-init
+unfolding every
+loop-k-init c = (omega arith, λ R σ T S. refl)
+
+pub not_beside-requires : goal.not_beside-requires
+not_beside-requires c = (c.requires.0, c.requires.2, c.requires.3, omega arith)
+
+pub returns-then-not-not_beside : goal.returns-then-not-not_beside
+unfolding none_ordered
+returns-then-not-not_beside c = λ R σ T S. sym (every-fails c.args.m _ c.loop-k.k (omega (arith)) (sym (c.not_beside.ensures R σ T S) ∙ not-true _ c.if-not-not_beside.true))
+
+pub overflow_add-k : goal.overflow_add-k
+overflow_add-k c = omega arith
+
+pub loop-k-smaller : goal.loop-k-smaller
+loop-k-smaller c = omega arith
+
+pub loop-k-preserved : goal.loop-k-preserved
+loop-k-preserved c =
+    (omega arith, λ R σ T S. every_more c.loop-k.k _ (c.loop-k.invariant.1 R σ T S) (sym (c.not_beside.ensures R σ T S) ∙ not-false _ c.if-not-not_beside.false))
+
+pub returns : goal.returns
+unfolding none_ordered
+returns c =
+    λ R σ T S.
+    let q : c.loop-k.k ≡ c.args.m = omega (arith) in
+    sym (rw q at (c.loop-k.invariant.1 R σ T S))

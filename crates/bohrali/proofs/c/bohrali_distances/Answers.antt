@@ -1,0 +1,32 @@
+-- `bohrali::c::bohrali_distances` meets its contract.
+-- Assumes nothing.
+use mathlib.Core.Path.{◌≡◌, ap, sym, ◌∙◌}
+use mathlib.Core.List.{[]}
+use native.Mathlib.Omega.{arith}
+use lib.ListN.{length}
+use borrow.Author.Rules.{rules}
+use mir.Syntax.{w64}
+use mir.Val.{to_z, of_z}
+use Rattle.chart.specs.Format.{decode}
+use Rattle.chart.specs.Reading.{region_of}
+use Rattle.theory_paths.specs.Admission.{region_rows}
+use Rattle.output.specs.Output.{number_of}
+use Rattle.output.proofs.Outputs.{had-room}
+use Rattle.output.specs.OutputCorrectLaws.{carried}
+use Rattle.theory_calls.specs.Distances.{distances_result}
+use Rattle.theory_calls.specs.DistancesCorrect.{DistancesCorrect}
+use Rattle.theory_calls.specs.DistancesCorrectLaws.{distances-correct}
+use Rattle.bohrali.proofs.c.bohrali_distances.Goals as goal
+
+-- a result that was written had room, and so fits
+pub number_of-requires : goal.number_of-requires
+number_of-requires c count h =
+    let s = c.args.chart.now in
+    let region = c.args.region in
+    let r = had-room (region_rows s region) [] (length c.args.out.now) (length (distances_result (region_of region (decode s)))) (sym c.distances.ensures.value ∙ h) in
+    omega (arith, r.0, r.1)
+
+pub returns : goal.returns
+returns c =
+    let e : to_z w64 (of_z w64 c.number_of.result) ≡ c.number_of.result = search rules in
+    carried (DistancesCorrect _ _ _) (e ∙ c.number_of.ensures ∙ ap number_of c.distances.ensures.value) c.distances.ensures.out_after (distances-correct _ _ _)

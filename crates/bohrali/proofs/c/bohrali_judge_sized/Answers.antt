@@ -1,0 +1,15 @@
+-- `bohrali::c::bohrali_judge_sized` meets its contract.
+-- Assumes nothing.
+use mathlib.Core.Path.{◌≡◌, ◌∙◌}
+use borrow.Author.Rules.{rules}
+use mir.Syntax.{w64}
+use mir.Val.{to_z, of_z}
+use Rattle.theory_calls.specs.Correct.{CorrectIn}
+use Rattle.theory_calls.specs.CorrectLaws.{correct-in}
+use Rattle.output.specs.OutputCorrectLaws.{told}
+use Rattle.bohrali.proofs.c.bohrali_judge_sized.Goals as goal
+
+pub returns : goal.returns
+returns c =
+    let e : to_z w64 (of_z w64 c.judge.result) ≡ c.judge.result = search rules in
+    told (CorrectIn _ _ _ _) (e ∙ c.judge.ensures) (correct-in let p = _ _ _ _) in record { value = p.0; correct_in = p.1 }

@@ -1,0 +1,15 @@
+-- `bohrali::c::bohrali_locks` meets its contract.
+-- Assumes nothing.
+use mathlib.Core.Path.{◌≡◌, ◌∙◌}
+use borrow.Author.Rules.{rules}
+use mir.Syntax.{w64}
+use mir.Val.{to_z, of_z}
+use Rattle.theory_calls.specs.LocksCorrect.{LocksCorrect}
+use Rattle.theory_calls.specs.LocksCorrectLaws.{locks-correct}
+use Rattle.output.specs.OutputCorrectLaws.{carried}
+use Rattle.bohrali.proofs.c.bohrali_locks.Goals as goal
+
+pub returns : goal.returns
+returns c =
+    let e : to_z w64 (of_z w64 c.locks.result) ≡ c.locks.result = search rules in
+    carried (LocksCorrect _ _ _) (e ∙ c.locks.ensures.value) c.locks.ensures.out_after (locks-correct _ _ _ _)

@@ -1,0 +1,23 @@
+-- `bohrali::written::number_of` meets its contract.
+-- Assumes nothing.
+use mathlib.Core.Path.{◌≡◌, ap, sym, ◌∙◌}
+use borrow.Author.Rules.{rules}
+use mir.Syntax.{w64}
+use mir.Val.{to_z, of_z}
+use Rattle.output.specs.Output.{number_of}
+use Rattle.bohrali.proofs.written.number_of.Goals as goal
+
+pub counted-requires : goal.counted-requires
+counted-requires c = c.requires _ c.in-Bytes.is
+
+pub returns-in-Bytes : goal.returns-in-Bytes
+unfolding number_of
+returns-in-Bytes c =
+    let e : to_z w64 (of_z w64 c.counted.result) ≡ c.counted.result = search rules in
+    e ∙ c.counted.ensures ∙ sym (ap number_of c.in-Bytes.is)
+
+pub returns-in-Refused : goal.returns-in-Refused
+unfolding number_of
+returns-in-Refused c =
+    let e : to_z w64 (of_z w64 c.negated.result) ≡ c.negated.result = search rules in
+    e ∙ c.negated.ensures ∙ sym (ap number_of c.in-Refused.is)

@@ -1,0 +1,33 @@
+-- `call_edges::ask::ask_longer` meets its contract.
+-- Assumes nothing.
+use mathlib.Core.Path.{sym, ◌∙◌}
+use native.Mathlib.Omega.{arith}
+use borrow.Author.Rules.{rules}
+use Rattle.chart.proofs.Accepted.{laid}
+use Rattle.theory_edits.specs.SpliceLaws.{inserted-length}
+use Rattle.theory_edits.specs.EditLaws.{admitted-laid}
+use Rattle.call_edges.proofs.CheckLaws.{passed_none, refused-some, trailer-passes, chart-most, within}
+use Rattle.call_edges.proofs.AskLaws.{longer-refused, longer-admitted}
+use Rattle.call_edges.proofs.ask.ask_longer.Goals as goal
+
+pub place_of-place-requires : goal.place_of-place-requires
+place_of-place-requires c = let ((admits, counts), long) = c.requires in rw counts (laid _ (trailer-passes _ admits))
+
+pub put_longer-requires : goal.put_longer-requires
+put_longer-requires c =
+    let ((admits, counts), long) = c.requires in
+    ((trailer-passes _ admits, counts), c.place_of-place.ensures.0, omega (arith, chart-most _ admits))
+
+pub returns-in-Refused : goal.returns-in-Refused
+returns-in-Refused c =
+    let is = c.put_longer.ensures in
+    let long = inserted-length _ (admitted-laid _ c.requires.0.0) c.args.edge.from c.args.edge.to in
+    let h = refused-some _ _ (sym c.check_front.ensures ∙ c.in-Refused.is) in
+    record { value = longer-refused c.args.s.now c.args.edge.from c.args.edge.to _ (sym (within _ _ is long) ∙ h); longer_after = is }
+
+pub returns-in-Passed : goal.returns-in-Passed
+returns-in-Passed c =
+    let is = c.put_longer.ensures in
+    let long = inserted-length _ (admitted-laid _ c.requires.0.0) c.args.edge.from c.args.edge.to in
+    let h = (passed_none _ _ (sym c.check_front.ensures ∙ c.in-Passed.is)).0 in
+    record { value = rw c.place_of-place.ensures.0 (longer-admitted c.args.s.now c.args.edge.from c.args.edge.to (sym (within _ _ is long) ∙ h)); longer_after = is }

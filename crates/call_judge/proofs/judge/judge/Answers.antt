@@ -1,0 +1,32 @@
+-- `call_judge::judge::judge` meets its contract: rows 1 to 10 and 23, and where none of them applies the list's own and the verdict.
+-- Assumes nothing.
+use mathlib.Core.Path.{refl, ap, sym, ◌∙◌}
+use borrow.Author.Rules.{rules}
+use Rattle.chart.specs.Checked.{counts_of, read_for}
+use Rattle.chart.specs.declared.format.Chart.{Chart}
+use Rattle.check_chart.proofs.Outcome.{passed_none, refused-some}
+use Rattle.call_judge.proofs.Facts.{refused-judged, listed-judged}
+use Rattle.call_judge.proofs.judge.judge.Goals as goal
+
+pub survey-requires : goal.survey-requires
+survey-requires c = refl
+
+pub judge_claims-requires : goal.judge_claims-requires
+judge_claims-requires c =
+    let S = c.survey.ensures.survey _ c.in-Passed.is in
+    (S.accepted, S.marked)
+
+pub returns-in-Refused : goal.returns-in-Refused
+returns-in-Refused c =
+    let s = c.args.s.now in
+    let p = c.args.region in
+    let n = refused-some _ (read_for (counts_of s) p) _ (sym c.survey.ensures.value ∙ c.in-Refused.is) in
+    refused-judged s p c.args.size c.args.claims.now _ n
+
+pub returns-in-Passed : goal.returns-in-Passed
+returns-in-Passed c =
+    let s = c.args.s.now in
+    let p = c.args.region in
+    let n = passed_none _ (read_for (counts_of s) p) _ (sym c.survey.ensures.value ∙ c.in-Passed.is) in
+    let named = sym (ap (λ (chart : Chart). chart.region) n.1) in
+    listed-judged s p c.args.size c.args.claims.now _ n.0 (rw named at c.judge_claims.ensures)

@@ -1,0 +1,39 @@
+-- `call_locks::locks` meets its contract: rows 1 to 10 and 23, and where none of them applies rows 11 and 21 and the bytes.
+-- Assumes nothing.
+use mathlib.Core.Path.{refl, ap, sym, ◌∙◌}
+use Prim.Native.Nat.{ℕ}
+use borrow.Author.Rules.{rules}
+use Rattle.chart.specs.Format.{decode}
+use Rattle.chart.specs.Reading.{region_of}
+use Rattle.chart.specs.Format.{decode}
+use Rattle.chart.specs.Reading.{region_of}
+use Rattle.chart.specs.Checked.{counts_of, read_for}
+use Rattle.chart.specs.declared.format.Chart.{Chart}
+use Rattle.check_chart.proofs.Outcome.{passed_none, refused-some}
+use Rattle.theory_paths.specs.Admission.{region_rows}
+use Rattle.theory_answers.specs.Size.{size_rows}
+use Rattle.theory_calls.specs.Locks.{locks_result}
+use Rattle.output.proofs.Outputs.{refused-before, passed-named}
+use Rattle.call_locks.proofs.locks.Goals as goal
+
+pub survey-requires : goal.survey-requires
+survey-requires c = refl
+
+pub write_locks-requires : goal.write_locks-requires
+write_locks-requires c =
+    let S = c.survey.ensures.survey _ c.in-Passed.is in
+    (S.accepted, S.marked)
+
+pub returns-in-Refused : goal.returns-in-Refused
+returns-in-Refused c =
+    let s = c.args.s.now in
+    let p = c.args.region in
+    let n = refused-some _ (read_for (counts_of s) p) _ (sym c.survey.ensures.value ∙ c.in-Refused.is) in let p = refused-before (region_rows s p) (size_rows c.args.size) _ (locks_result (region_of p (decode s)) c.args.size) c.args.out.now _ n in record { value = p.0; out_after = p.1 }
+
+pub returns-in-Passed : goal.returns-in-Passed
+returns-in-Passed c =
+    let s = c.args.s.now in
+    let p = c.args.region in
+    let n = passed_none _ (read_for (counts_of s) p) _ (sym c.survey.ensures.value ∙ c.in-Passed.is) in
+    let named = sym (ap (λ (chart : Chart). chart.region) n.1) in let p = passed-named (region_rows s p) (size_rows c.args.size) (λ (q : ℕ). locks_result (region_of q (decode s)) c.args.size) c.args.out.now named n.0
+    c.write_locks.ensures.result_value c.write_locks.ensures.out_after in record { value = p.0; out_after = p.1 }

@@ -1,0 +1,42 @@
+-- `call_locks::write_locks` meets its contract: rows 11 and 21, then the bytes.
+-- Assumes nothing.
+use mathlib.Core.Path.{◌≡◌, sym, ◌∙◌}
+use mathlib.Core.List.{List, []}
+use Prim.Native.Nat.{ℕ}
+use lib.ListN.{length}
+use borrow.Author.Rules.{rules}
+use Rattle.lists.specs.Tab.{tab-length}
+use Rattle.chart.specs.Checked.{reading}
+use Rattle.chart.proofs.Records.{constructs-length}
+use Rattle.theory_answers.specs.Size.{size_rows}
+use Rattle.theory_calls.specs.Locks.{lock_byte, locks_result}
+use Rattle.output.specs.Output.{output_rows, written_by}
+use Rattle.output.proofs.Outputs.{had-room, kept, put}
+use Rattle.call_locks.proofs.write_locks.Goals as goal
+
+-- where the function was called
+-- what is to be written
+abbrev result : (c : goal.After-room_sized) → List ℕ
+result c =
+    locks_result (reading c.args.s.now c.args.chart) c.args.size
+
+-- what is said of rows 11 and 21
+answers : (c : goal.After-room_sized) → c.room_sized.result ≡ written_by (output_rows [] (length c.args.out.now) (length (result c)) (size_rows c.args.size)) (length (result c))
+unfolding locks_result
+answers c =
+    let R = reading c.args.s.now c.args.chart in
+    rw (tab-length R.constructs (lock_byte R c.args.size) ∙ constructs-length _ c.args.chart c.requires.0.laid) c.room_sized.ensures
+
+pub put_locks-requires : goal.put_locks-requires
+put_locks-requires c =
+    (c.requires.0, c.requires.1, (had-room [] (size_rows c.args.size) (length c.args.out.now) _ (sym c.room_sized.ensures ∙ c.in-Bytes.is)).1)
+
+pub returns-in-Refused : goal.returns-in-Refused
+returns-in-Refused c =
+    let h = c.in-Refused.is in
+    record { result_value = sym h ∙ answers c.before.before.before; out_after = kept _ _ (result c.before.before.before) c.args.out.now (sym (answers c.before.before.before) ∙ h) }
+
+pub returns-in-Bytes : goal.returns-in-Bytes
+returns-in-Bytes c =
+    let h = c.in-Bytes.is in
+    record { result_value = sym h ∙ answers c.before.before.before.before.before.before.before; out_after = c.put_locks.ensures ∙ put _ _ (result c.before.before.before.before.before.before.before) c.args.out.now (sym (answers c.before.before.before.before.before.before.before) ∙ h) }

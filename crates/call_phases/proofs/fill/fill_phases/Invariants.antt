@@ -1,0 +1,12 @@
+-- The invariants and measures of `call_phases::fill::fill_phases`.
+use mathlib.Core.Path.{◌≡◌, subst}
+use Prim.Native.Nat.{ℕ, ◌*◌, ◌-◌, ◌≤◌}
+use native.Mathlib.Omega.{arith}
+use Rattle.call_phases.proofs.Filling.{mask_at, Filled, filled_none, both-filled, filled-all}
+use Rattle.call_phases.proofs.fill.fill_phases.Given as goal
+
+abbrev pub invariant-loop-x : goal.invariant-loop-x
+invariant-loop-x l = (l.x ≤ l.n) × Filled (mask_at l.starts l.ends) (2 * l.x) l.initial.out l.out
+
+abbrev pub decreases-loop-x : goal.decreases-loop-x
+decreases-loop-x l = l.n - l.x

@@ -1,0 +1,35 @@
+-- `call_phases::writing::write_phases` meets its contract.
+-- Assumes nothing.
+use mathlib.Core.Path.{◌≡◌, ap, sym, ◌∙◌}
+use mathlib.Core.List.{[]}
+use Prim.Native.Nat.{ℕ, ◌*◌}
+use lib.ListN.{length}
+use borrow.Author.Rules.{rules}
+use Rattle.lists.specs.Tab.{tab-length}
+use Rattle.chart.specs.Region.{Region}
+use Rattle.output.specs.Output.{output_rows, written_by}
+use Rattle.output.proofs.Outputs.{had-room, kept, put}
+use Rattle.theory_calls.specs.Phases.{phase_byte, phases_result}
+use Rattle.call_phases.proofs.writing.write_phases.Goals as goal
+
+size : (R : Region) (n : ℕ) → R.nodes ≡ n → length (phases_result R) ≡ 16 * n
+unfolding phases_result
+size R n q = tab-length (16 * R.nodes) (phase_byte R) ∙ ap (λ (k : ℕ). 16 * k) q
+
+answers : (c : goal.After-room_for) → (R : Region) → R.nodes ≡ c.args.n
+    → c.room_for.result ≡ written_by (output_rows [] (length c.args.out.now) (length (phases_result R)) []) (length (phases_result R))
+answers c R q = rw (size R c.args.n q) c.room_for.ensures
+
+pub fill_phases-requires : goal.fill_phases-requires
+fill_phases-requires c =
+    (c.requires, (had-room [] [] (length c.args.out.now) (16 * c.args.n) (sym c.room_for.ensures ∙ c.in-Bytes.is)).1)
+
+pub returns-in-Refused : goal.returns-in-Refused
+returns-in-Refused c =
+    let h = c.in-Refused.is in
+    record { value = (λ R q. sym h ∙ answers c.before.before.before R q); of_masks = λ R q S E. kept _ _ (phases_result R) _ (sym (answers c.before.before.before R q) ∙ h) }
+
+pub returns-in-Bytes : goal.returns-in-Bytes
+returns-in-Bytes c =
+    let h = c.in-Bytes.is in
+    record { value = (λ R q. sym h ∙ answers c.before.before.before.before.before.before.before R q); of_masks = λ R q S E. c.fill_phases.ensures R q S E ∙ put _ _ (phases_result R) _ (sym (answers c.before.before.before.before.before.before.before R q) ∙ h) }

@@ -1,0 +1,31 @@
+-- `call_races::races` meets its contract: rows 1 to 10 and 23, and where none of them applies rows 20 and 11 and the bytes.
+-- Assumes nothing.
+use mathlib.Core.Path.{refl, ap, sym, ◌∙◌}
+use Rattle.chart.specs.Checked.{counts_of, read_for}
+use Rattle.chart.specs.declared.format.Chart.{Chart}
+use Rattle.check_chart.proofs.Outcome.{passed_none, refused-some}
+use Rattle.call_races.proofs.Outcome.{chart-refused, chart-passed}
+use borrow.Author.Rules.{rules}
+use Rattle.call_races.proofs.races.Goals as goal
+
+-- where the function was called
+pub survey-requires : goal.survey-requires
+survey-requires c = refl
+
+pub write_races-requires : goal.write_races-requires
+write_races-requires c =
+    let S = c.survey.ensures.survey _ c.in-Passed.is in
+    (S.accepted, (_, S.marked))
+
+pub returns-in-Refused : goal.returns-in-Refused
+returns-in-Refused c =
+    let s = c.args.s.now in
+    let p = c.args.region in
+    chart-refused s p c.args.accesses.now c.args.out.now _
+    (refused-some _ (read_for (counts_of s) p) _ (sym c.survey.ensures.value ∙ c.in let p = -Refused.is)) in record { value = p.0; out_after = p.1 }
+
+pub returns-in-Passed : goal.returns-in-Passed
+returns-in-Passed c =
+    let s = c.args.s.now in
+    let p = c.args.region in
+    let n = passed_none _ (read_for (counts_of s) p) _ (sym c.survey.ensures.value ∙ c.in-Passed.is) in let p = chart-passed s p c.args.accesses.now c.args.out.now (sym (ap (λ (chart : Chart). chart.region) n.1)) n.0 c.write_races.ensures.result_value c.write_races.ensures.out_after in record { value = p.0; out_after = p.1 }

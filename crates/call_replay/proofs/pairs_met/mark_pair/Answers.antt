@@ -1,0 +1,22 @@
+-- `call_replay::pairs_met::mark_pair` meets its contract.
+-- Assumes nothing.
+use mathlib.Core.Path.{◌∙◌}
+use native.Mathlib.Omega.{arith}
+use borrow.Author.Rules.{rules}
+use Rattle.call_replay.proofs.Sheets.{sheet-pair, kept_then}
+use Rattle.call_replay.proofs.pairs_met.mark_pair.Goals as goal
+
+pub mark-requires-2 : goal.mark-requires-2
+mark-requires-2 c = omega (arith, c.requires.4, c.mark.ensures.kept.long)
+
+pub shape_of-out : goal.shape_of-out
+shape_of-out c = c.mark-2.ensures.kept.long ∙ c.mark.ensures.kept.long
+
+pub returns : goal.returns
+returns c =
+    let one = (c.mark.ensures.by_index, c.mark.ensures.kept) in
+    let two = (c.mark-2.ensures.by_index, c.mark-2.ensures.kept) in (
+      (λ σ met S H. sheet-pair met σ c.args.t c.args.k c.requires.3 (c.node_of-a.ensures ∙ S.node c.args.t c.requires.1)
+          (c.node_of-b.ensures ∙ S.node c.args.k c.requires.2) (two.0 _ (one.0 met H))),
+      kept_then one.1 two.1,
+    )

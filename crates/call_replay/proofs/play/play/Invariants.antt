@@ -1,0 +1,28 @@
+-- The invariants and measures of `call_replay::play::play`.
+use mathlib.Core.Path.{◌≡◌, refl, sym, ◌∙◌}
+use Prim.Native.Nat.{suc, ◌*◌, ◌-◌, ◌/◌, ◌≤◌}
+use native.Mathlib.Omega.{arith}
+use native.Mathlib.Numerals.{add-one}
+use lib.ListN.{length}
+use borrow.Author.Tests.{not-true, not-false}
+use Rattle.chart.specs.Region.{Region}
+use Rattle.theory_traces.specs.Replay.{Play, begun, going, progress, outcome_of, play_of}
+use Rattle.theory_traces.specs.ReplayLaws.{goes_on, halts, stays}
+use Rattle.answer_steps.specs.Tables.{Tabled}
+use Rattle.call_replay.specs.PairsMet.{Kept}
+use Rattle.call_replay.specs.Playing.{Playing, Few}
+use Rattle.call_replay.proofs.Sheets.{kept_same, kept_then}
+use Rattle.call_replay.proofs.Choices.{after_none, after-some, fed-at}
+use Rattle.call_replay.proofs.Counting.{few-feed, few-begun}
+use borrow.Author.Rules.{rules}
+use Rattle.call_replay.proofs.play.play.Given as goal
+
+abbrev pub invariant-loop-i : goal.invariant-loop-i
+invariant-loop-i l =
+    (l.i ≤ l.n)
+    × (l.n ≡ length l.trace / 2)
+    × ((R : Region) → Tabled R l.table → Playing R l.m l.rows (begun R l.m) l.initial.team l.initial.out
+    → (P : Play) × (progress R l.m l.trace l.i ≡ going P) × (Playing R l.m l.rows P l.team l.out × (Few l.i P.state × Kept (l.rows.count * R.nodes) l.initial.out l.out)))
+
+abbrev pub decreases-loop-i : goal.decreases-loop-i
+decreases-loop-i l = l.n - l.i

@@ -1,0 +1,18 @@
+-- The invariants and measures of `call_replay::records::team_of`.
+use mathlib.Core.Path.{◌≡◌, refl, ◌∙◌}
+use Prim.Native.Nat.{ℕ, ◌-◌, ◌≤◌, ◌<◌}
+use native.Mathlib.Omega.{arith}
+use lib.ListN.{length, get_or, length-set}
+use Rattle.theory_team.specs.State.{State}
+use Rattle.theory_traces.specs.Call.{record_of}
+use Rattle.answer_steps.specs.Tables.{Shows}
+use Rattle.call_replay.proofs.Results.{tab-is, stored_at, unknown}
+use borrow.Author.Rules.{rules}
+use Rattle.call_replay.proofs.records.team_of.Given as goal
+
+abbrev pub invariant-loop-t : goal.invariant-loop-t
+invariant-loop-t l =
+    (l.t ≤ 8) × (length l.threads ≡ 8) × ((σ : State) → Shows σ l.team → (j : ℕ) → j < l.t → get_or l.threads j unknown ≡ record_of σ j)
+
+abbrev pub decreases-loop-t : goal.decreases-loop-t
+decreases-loop-t l = 8 - l.t

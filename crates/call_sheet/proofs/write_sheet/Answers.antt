@@ -1,0 +1,47 @@
+-- `call_sheet::write_sheet` meets its contract: rows 11 and 21, then the bytes.
+-- Assumes nothing.
+use mathlib.Core.Path.{◌≡◌, ap, sym, ◌∙◌}
+use mathlib.Core.List.{List, []}
+use Prim.Native.Nat.{ℕ, ◌*◌}
+use native.Mathlib.Omega.{arith}
+use lib.ListN.{length}
+use borrow.Author.Rules.{rules}
+use Rattle.lists.specs.Rows.{square}
+use Rattle.chart.specs.Checked.{reading}
+use Rattle.chart.proofs.Records.{nodes-length}
+use Rattle.theory_answers.specs.Answer.{answer_for}
+use Rattle.theory_answers.specs.Size.{size_rows}
+use Rattle.theory_answers.specs.Sheet.{sheet, sheet-length}
+use Rattle.output.specs.Output.{output_rows, written_by}
+use Rattle.output.proofs.Outputs.{had-room, kept, put}
+use Rattle.call_sheet.proofs.write_sheet.Goals as goal
+
+-- where the function was called
+-- what is to be written
+abbrev result : (c : goal.After-room_sized) → List ℕ
+result c =
+    let R = reading c.args.s.now c.args.chart in
+    sheet R (answer_for R c.args.size)
+
+-- what is said of rows 11 and 21
+answers : (c : goal.After-room_sized) → c.room_sized.result ≡ written_by (output_rows [] (length c.args.out.now) (length (result c)) (size_rows c.args.size)) (length (result c))
+answers c =
+    let R = reading c.args.s.now c.args.chart in
+    rw (sheet-length R (answer_for R c.args.size) ∙ ap (λ (k : ℕ). k * k) (nodes-length _ c.args.chart c.requires.0.laid)) c.room_sized.ensures
+
+pub overflow_mul-n : goal.overflow_mul-n
+overflow_mul-n c = omega (arith, square c.requires.0.laid.nodes-most)
+
+pub fill_sheet-requires : goal.fill_sheet-requires
+fill_sheet-requires c =
+    (c.requires.0, c.requires.1, (had-room [] (size_rows c.args.size) (length c.args.out.now) _ (sym c.room_sized.ensures ∙ c.in-Bytes.is)).1)
+
+pub returns-in-Refused : goal.returns-in-Refused
+returns-in-Refused c =
+    let h = c.in-Refused.is in
+    record { result_value = sym h ∙ answers c.before.before.before; out_after = kept _ _ (result c.before.before.before) c.args.out.now (sym (answers c.before.before.before) ∙ h) }
+
+pub returns-in-Bytes : goal.returns-in-Bytes
+returns-in-Bytes c =
+    let h = c.in-Bytes.is in
+    record { result_value = sym h ∙ answers c.before.before.before.before.before.before.before; out_after = c.fill_sheet.ensures ∙ put _ _ (result c.before.before.before.before.before.before.before) c.args.out.now (sym (answers c.before.before.before.before.before.before.before) ∙ h) }

@@ -1,0 +1,31 @@
+-- `call_witnessed::is_witness` meets its contract.
+-- Assumes nothing.
+use mathlib.Core.Path.{◌≡◌, ap}
+use mathlib.Core.Bool.{false}
+use native.Mathlib.Omega.{arith}
+use Rattle.chart.specs.Checked.{reading}
+use Rattle.chart.proofs.Records.{nodes-length}
+use Rattle.theory_calls.specs.Witness.{is_ended, is_witness}
+use Rattle.call_witnessed.proofs.Told.{row-tells, not-ended}
+use borrow.Author.Rules.{rules}
+use Rattle.call_witnessed.proofs.is_witness.Goals as goal
+
+pub returns-in-Finished : goal.returns-in-Finished
+returns-in-Finished c =
+    let n = nodes-length _ c.args.chart c.requires.0.laid in
+    row-tells (reading c.args.s.now c.args.chart) c.args.size c.args.trace.now c.args.a c.args.b c.replay_rows.ensures.result_value
+    (ap is_ended c.in-Finished.is) c.replay_rows.ensures.fact.marks (omega (arith, n, c.requires.3))
+
+-- any other end
+other : (o : goal.After-replay_rows) → is_ended o.replay_rows.result ≡ false
+    → false ≡ is_witness (reading o.args.s.now o.args.chart) o.args.size o.args.trace.now o.args.a o.args.b
+other o h = not-ended (reading o.args.s.now o.args.chart) o.args.size o.args.trace.now o.args.a o.args.b o.replay_rows.ensures.result_value h
+
+pub returns-in-Unfinished : goal.returns-in-Unfinished
+returns-in-Unfinished c = other c.before.before.before (ap is_ended c.in-Unfinished.is)
+
+pub returns-in-Forbidden : goal.returns-in-Forbidden
+returns-in-Forbidden c = other c.before.before.before (ap is_ended c.in-Forbidden.is)
+
+pub returns-in-Refused : goal.returns-in-Refused
+returns-in-Refused c = other c.before.before.before (ap is_ended c.in-Refused.is)

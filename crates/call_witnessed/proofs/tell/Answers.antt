@@ -1,0 +1,68 @@
+-- `call_witnessed::tell` meets its contract: row 13, then row 22, then the answer.
+-- Assumes nothing.
+use mathlib.Core.Path.{◌≡◌, sym, ◌∙◌}
+use mathlib.Core.Bool.{false, ◌||◌}
+use Prim.Native.Nat.{◌<◌}
+use native.Mathlib.Omega.{arith}
+use Rattle.lists.specs.Truth.{or_left, or_right, neither-or}
+use Rattle.chart.specs.Region.{Region}
+use Rattle.chart.specs.Checked.{reading}
+use Rattle.chart.specs.Refusal.{first_of}
+use Rattle.chart.proofs.Records.{nodes-length}
+use Rattle.theory_answers.specs.Numbers.{bad_number, good-number}
+use Rattle.mark_tables.proofs.Accepted.{well-formed}
+use Rattle.theory_calls.specs.Pair.{numbers_row}
+use Rattle.theory_calls.specs.Witness.{told, answered_by}
+use Rattle.theory_traces.specs.CorrectLaws.{whole-trace}
+use borrow.Author.Rules.{rules}
+use Rattle.call_witnessed.proofs.tell.Goals as goal
+
+pub bad_node-requires : goal.bad_node-requires
+bad_node-requires c = (c.requires, well-formed _ c.args.chart c.requires)
+
+abbrev R : goal.After-bad_node → Region
+R c = reading c.args.s.now c.args.chart
+
+pub returns-then-bad_node : goal.returns-then-bad_node
+unfolding answered_by numbers_row first_of
+returns-then-bad_node c =
+    rw (or_left (bad_number (R c.before) c.args.a) (bad_number (R c.before) c.args.b) (sym c.bad_node.ensures ∙ c.if-bad_node.true))
+
+pub bad_node-requires-2 : goal.bad_node-requires-2
+bad_node-requires-2 c = (c.requires, well-formed _ c.args.chart c.requires)
+
+pub returns-then-bad_node-2 : goal.returns-then-bad_node-2
+unfolding answered_by numbers_row first_of
+returns-then-bad_node-2 c =
+    rw (or_right (bad_number (R c.before.before.before) c.args.a) (bad_number (R c.before.before.before) c.args.b) (sym c.bad_node-2.ensures ∙ c.if-bad_node-2.true))
+
+-- past the tests both numbers are those of nodes that a claim may name, and the trace decides
+module _ (c : goal.Else-bad_node-2) where
+
+  good-b : bad_number (R c.before.before.before) c.args.b ≡ false
+  good-b = sym c.bad_node-2.ensures ∙ c.if-bad_node-2.false
+
+  numbers : (bad_number (R c.before.before.before) c.args.a || bad_number (R c.before.before.before) c.args.b) ≡ false
+  numbers = neither-or (bad_number (R c.before.before.before) c.args.a) (bad_number (R c.before.before.before) c.args.b) (sym c.bad_node.ensures ∙ c.if-bad_node.false) good-b
+
+  below-b : c.args.b < c.args.chart.nodes
+  below-b = omega (arith, (good-number (R c.before.before.before) c.args.b (well-formed _ c.args.chart c.requires) good-b).0, nodes-length _ c.args.chart c.requires.laid)
+
+pub returns-then-bad_trace : goal.returns-then-bad_trace
+unfolding answered_by numbers_row first_of
+returns-then-bad_trace c = rw (numbers c.before.before, ← c.bad_trace.ensures, c.if-bad_trace.true)
+
+pub is_witness-requires : goal.is_witness-requires
+is_witness-requires c =
+    let (least, most) = whole-trace _ _ (sym c.bad_trace.ensures ∙ c.if-bad_trace.false) in
+    (c.requires, least, most, below-b c.before.before)
+
+pub returns-then-is_witness : goal.returns-then-is_witness
+unfolding answered_by numbers_row first_of told
+returns-then-is_witness c =
+    rw (numbers c.before.before.before.before, ← c.bad_trace.ensures, c.if-bad_trace.false, ← c.is_witness.ensures, c.if-is_witness.true)
+
+pub returns : goal.returns
+unfolding answered_by numbers_row first_of told
+returns c =
+    rw (numbers c.before.before.before.before, ← c.bad_trace.ensures, c.if-bad_trace.false, ← c.is_witness.ensures, c.if-is_witness.false)

@@ -1,0 +1,14 @@
+-- The invariants and measures of `check_bare::highest_edge`.
+use mathlib.Core.Path.{◌≡◌, subst}
+use Prim.Native.Nat.{ℕ, ◌*◌, ◌-◌, ◌≤◌}
+use native.Mathlib.Omega.{arith}
+use borrow.Author.Rules.{rules}
+use Rattle.check_bare.specs.Told.{edge_place, Highest}
+use Rattle.check_bare.proofs.Places.{highest-none, highest-more}
+use Rattle.check_bare.proofs.highest_edge.Given as goal
+
+abbrev pub invariant-loop-k : goal.invariant-loop-k
+invariant-loop-k l = (l.k ≤ l.last) × Highest (edge_place l.s l.first) l.k l.high
+
+abbrev pub decreases-loop-k : goal.decreases-loop-k
+decreases-loop-k l = l.last - l.k

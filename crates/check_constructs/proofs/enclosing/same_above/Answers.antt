@@ -1,0 +1,80 @@
+-- `check_constructs::enclosing::same_above` meets its contract.
+-- Assumes nothing.
+use mathlib.Core.Path.{◌≡◌, sym, subst, ◌∙◌}
+use mathlib.Core.Logic.{inl, inr}
+use mathlib.Core.Bool.{false}
+use Prim.Native.Nat.{ℕ, ◌+◌, ◌<◌}
+use native.Mathlib.Omega.{arith}
+use borrow.Author.Tests.{eq-eqb, ne_eqb}
+use borrow.Author.Rules.{rules}
+use Rattle.chart.specs.Scope.{parallel_byte, parent_of}
+use Rattle.chart.specs.Nested.{is_parallel}
+use Rattle.chart.specs.Format.{decode, construct_at}
+use Rattle.chart.proofs.Records.{constructs-length}
+use Rattle.check_constructs.proofs.Ancestors.{Walked, against, parents, place-below, walk_start, walk_more, walk-found, walk_end, height, height-falls}
+use Rattle.check_constructs.proofs.enclosing.same_above.Goals as goal
+
+pub read-inner-requires : goal.read-inner-requires
+read-inner-requires c = (c.requires.laid.0, c.requires.laid.1)
+
+pub loop-p-init : goal.loop-p-init
+unfolding parent_of
+loop-p-init c =
+    let cs = (decode c.args.s.now).constructs in
+    subst (Walked cs c.args.c) (sym c.read-inner.ensures.1) (walk_start cs c.requires.laid.2)
+
+pub read-outer-requires : goal.read-outer-requires
+read-outer-requires c =
+    let cs = (decode c.args.s.now).constructs in
+    (c.requires.laid.0, omega (arith, place-below cs c.requires.laid.2 c.loop-p.invariant c.loop-p-test.true, c.requires.laid.1, c.wide.ensures.0))
+
+-- what was read of the construct that the walk has come to
+kind-read : (c : goal.After-read-outer) →
+    c.read-outer.result.kind ≡ (construct_at (decode c.args.s.now).constructs c.loop-p.p).kind
+kind-read c = cc (c.read-outer.ensures.0, c.wide.ensures.0)
+
+parent-read : (c : goal.After-read-outer) →
+    c.read-outer.result.parent ≡ (construct_at (decode c.args.s.now).constructs c.loop-p.p).parent
+parent-read c = cc (c.read-outer.ensures.1, c.wide.ensures.0)
+
+pub returns-then-outer-eq-PARALLEL : goal.returns-then-outer-eq-PARALLEL
+unfolding is_parallel
+returns-then-outer-eq-PARALLEL c =
+    sym (walk_end (decode c.args.s.now).constructs c.requires.laid.2 c.loop-p.invariant (inr (eq-eqb _ parallel_byte (sym (kind-read c.before.before) ∙ c.if-outer-eq-PARALLEL.true))))
+
+-- the walk goes on within the region
+within : (c : goal.Else-outer-eq-PARALLEL) →
+    is_parallel (decode c.args.s.now).constructs c.loop-p.p ≡ false
+unfolding is_parallel
+within c = ne_eqb _ parallel_byte (λ q. c.if-outer-eq-PARALLEL.false (kind-read c.before.before ∙ q))
+
+-- the test of one construct above, in terms of the decoded chart
+tested : (c : goal.After-same_name) →
+    c.same_name.result ≡ against (decode c.args.s.now).constructs c.args.c c.loop-p.p
+tested c =
+    let i = c.read-inner.ensures in
+    cc (c.same_name.ensures, c.requires.c_value, i.2, c.read-outer.ensures.0, c.read-outer.ensures.2, c.wide.ensures.0)
+
+pub returns-then-same_name : goal.returns-then-same_name
+returns-then-same_name c =
+    let cs = (decode c.args.s.now).constructs in
+    let n = constructs-length _ c.args.chart c.requires.laid.0 in
+    sym (walk-found cs c.requires.laid.2 (omega (arith, n, c.requires.laid.1)) c.loop-p.invariant c.loop-p-test.true (within c.before.before) (sym (tested c.before) ∙ c.if-same_name.true))
+
+pub loop-p-smaller : goal.loop-p-smaller
+unfolding parent_of
+loop-p-smaller c =
+    let cs = (decode c.args.s.now).constructs in
+    subst (λ (q : ℕ). height q < height c.loop-p.p) (sym (parent-read c.before.before.before.before))
+    (height-falls c.loop-p-test.true (parents cs (c.args.c + 1) c.requires.laid.2 c.loop-p.p (omega (arith, place-below cs c.requires.laid.2 c.loop-p.invariant c.loop-p-test.true))))
+
+pub loop-p-preserved : goal.loop-p-preserved
+unfolding parent_of
+loop-p-preserved c =
+    let cs = (decode c.args.s.now).constructs in
+    subst (Walked cs c.args.c) (sym (parent-read c.before.before.before.before))
+    (walk_more cs c.requires.laid.2 c.loop-p.invariant c.loop-p-test.true (within c.before.before) (sym (tested c.before) ∙ c.if-same_name.false))
+
+pub returns : goal.returns
+returns c =
+    sym (walk_end (decode c.args.s.now).constructs c.requires.laid.2 c.loop-p.invariant (inl c.loop-p-test.false))

@@ -1,0 +1,47 @@
+-- `check_constructs::nesting::bad_constructs` meets its contract.
+-- Assumes nothing.
+use mathlib.Core.Path.{◌≡◌, refl, sym, ◌∙◌}
+use mathlib.Core.Bool.{Bool, true, false, ◌||◌}
+use lib.ListN.{length}
+use borrow.Author.Tests.{not-true}
+use borrow.Author.Rules.{rules}
+use Rattle.lists.specs.Range.{every, any}
+use Rattle.chart.specs.Format.{Decoded, decode}
+use Rattle.chart.specs.Nesting.{may_enclose, misnested}
+use Rattle.chart.specs.Refusal.{bad_alone, stray_node, bad_constructs}
+use Rattle.chart.specs.Scope.{kind_of}
+use Rattle.check_constructs.proofs.StrayLaws.{no_stray}
+use Rattle.check_constructs.proofs.Table.{agrees, tested}
+use Rattle.check_constructs.proofs.nesting.bad_constructs.Goals as goal
+
+-- row 6 in two parts
+parts : (a b c : Bool) → ((a || b) || c) ≡ (a || (b || c))
+parts true b c = refl
+parts false b c = refl
+
+joined : (D : Decoded) → bad_constructs D ≡ ((any (length D.constructs) (bad_alone D.constructs) || any (length D.constructs) (misnested D.constructs)) || any (length D.nodes) (stray_node D))
+unfolding bad_constructs
+joined D =
+    let cs = D.constructs in
+    sym (parts (any (length cs) (bad_alone cs)) (any (length cs) (misnested cs)) (any (length D.nodes) (stray_node D)))
+
+pub bad_nesting-requires : goal.bad_nesting-requires
+unfolding every agrees may_enclose kind_of
+bad_nesting-requires c = (c.requires, tested _ refl)
+
+pub returns-then-bad_nesting : goal.returns-then-bad_nesting
+returns-then-bad_nesting c = rw (joined _, sym c.bad_nesting.ensures ∙ c.if-bad_nesting.true)
+
+-- the constructs pass
+passed : (c : goal.Else-bad_nesting) → let D = decode c.args.s.now in
+    (any (length D.constructs) (bad_alone D.constructs) || any (length D.constructs) (misnested D.constructs)) ≡ false
+passed c = sym c.bad_nesting.ensures ∙ c.if-bad_nesting.false
+
+pub returns-then-not-occurs : goal.returns-then-not-occurs
+returns-then-not-occurs c =
+    let s = c.args.s.now in
+    rw (joined _, passed c.before.before) (sym (no_stray (decode s) (sym c.occurs.ensures ∙ not-true _ c.if-not-occurs.true)))
+
+pub returns : goal.returns
+returns c =
+    rw (joined _, passed c.before.before.before) c.stray_nodes.ensures

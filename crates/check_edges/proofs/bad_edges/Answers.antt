@@ -1,0 +1,35 @@
+-- `check_edges::bad_edges` meets its contract.
+-- Assumes nothing.
+use mathlib.Core.Path.{◌≡◌, sym, ◌∙◌}
+use mathlib.Core.Bool.{false}
+use lib.ListN.{length}
+use borrow.Author.Tests.{not-true}
+use borrow.Author.Rules.{rules}
+use Rattle.lists.specs.Range.{any}
+use Rattle.chart.specs.Format.{decode}
+use Rattle.chart.specs.Refusal.{bad_edge_at, bad_edges}
+use Rattle.check_edges.proofs.Sections.{no_joins}
+use Rattle.check_edges.proofs.bad_edges.Goals as goal
+
+pub returns-then-chart-eq0 : goal.returns-then-chart-eq0
+returns-then-chart-eq0 c = c.bad_edges.ensures
+
+pub returns-then-bad_scopes : goal.returns-then-bad_scopes
+unfolding bad_edges
+returns-then-bad_scopes c = rw (sym c.bad_scopes.ensures ∙ c.if-bad_scopes.true)
+
+-- the edges are in order but for sections
+passed : (c : goal.Else-bad_scopes) → let D = decode c.args.s.now in
+    any (length D.edges) (bad_edge_at D) ≡ false
+passed c = sym c.bad_scopes.ensures ∙ c.if-bad_scopes.false
+
+pub returns-then-not-occurs : goal.returns-then-not-occurs
+unfolding bad_edges
+returns-then-not-occurs c =
+    let s = c.args.s.now in
+    rw (passed c.before.before) (sym (no_joins (decode s) (sym c.occurs.ensures ∙ not-true _ c.if-not-occurs.true)))
+
+pub returns : goal.returns
+unfolding bad_edges
+returns c =
+    rw (passed c.before.before.before) c.joins_sections.ensures

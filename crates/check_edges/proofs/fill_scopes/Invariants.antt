@@ -1,0 +1,22 @@
+-- The invariants and measures of `check_edges::fill_scopes`.
+use mathlib.Core.Path.{◌∙◌}
+use Prim.Native.Nat.{◌≤◌, ◌<◌, ◌-◌}
+use native.Mathlib.Omega.{arith}
+use lib.ListN.{length}
+use borrow.Author.Rules.{rules}
+use Rattle.chart.specs.Format.{decode}
+use Rattle.chart.specs.Scope.{begin_node, end_node, parent_of}
+use Rattle.chart.proofs.Facts.{frames-fit}
+use Rattle.chart.proofs.Reading.{begin, end}
+use Rattle.chart.proofs.Records.{nodes-length, constructs-length}
+use Rattle.check_edges.specs.Tables.{no_leaving, no_arriving, ScopesOf, FilledTo}
+use Rattle.check_edges.proofs.Scopes.{filled_more, filled-all}
+use Rattle.check_edges.proofs.fill_scopes.Given as goal
+
+abbrev pub invariant-loop-c : goal.invariant-loop-c
+invariant-loop-c l =
+    (l.c ≤ l.chart.constructs) × ScopesOf (FilledTo (decode l.s) end_node l.c) begin_node no_leaving (decode l.s) l.chart.nodes l.leave
+    × ScopesOf (FilledTo (decode l.s) begin_node l.c) end_node no_arriving (decode l.s) l.chart.nodes l.arrive
+
+abbrev pub decreases-loop-c : goal.decreases-loop-c
+decreases-loop-c l = l.chart.constructs - l.c

@@ -1,0 +1,76 @@
+-- `check_nodes::counts::bad_barriers` meets its contract.
+-- Assumes nothing.
+use mathlib.Core.Path.{◌≡◌, refl, sym, ap, ◌∙◌}
+use mathlib.Core.Bool.{◌&&◌, ◌||◌}
+use native.Mathlib.Omega.{arith}
+use lib.Dec.{ltb}
+use lib.ListN.{length}
+use borrow.Author.Tests.{eq-eqb, ne_eqb, lt-ltb, le-ltb, not-true}
+use borrow.Author.Rules.{rules}
+use Rattle.lists.specs.Range.{any, count}
+use Rattle.lists.specs.Store.{zeros}
+use Rattle.chart.specs.Format.{outside, decode}
+use Rattle.chart.specs.Nested.{is_parallel}
+use Rattle.chart.specs.Refusal.{bad_barriers, is_barrier, too_many_in}
+use Rattle.chart.proofs.Records.{nodes-length}
+use Rattle.check_nodes.proofs.Counted.{none-crowded}
+use Rattle.check_nodes.proofs.counts.bad_barriers.Goals as goal
+
+pub read-requires : goal.read-requires
+read-requires c = (c.requires, omega (arith, c.requires.two-nodes))
+
+pub returns-then-read-ne-BARRIER : goal.returns-then-read-ne-BARRIER
+unfolding bad_barriers is_barrier
+returns-then-read-ne-BARRIER c = rw (← c.read.ensures.0, ne_eqb _ _ c.if-read-ne-BARRIER.true)
+
+pub returns-then-read-ne-BARRIER-2 : goal.returns-then-read-ne-BARRIER-2
+unfolding bad_barriers is_barrier
+returns-then-read-ne-BARRIER-2 c =
+    rw (
+      ← c.read.ensures.0,
+      eq-eqb _ _ c.if-read-ne-BARRIER.false,
+      nodes-length _ c.args.chart c.requires,
+      ← c.read-2.ensures.0,
+      ne_eqb _ _ c.if-read-ne-BARRIER-2.true,
+    )
+
+-- with a barrier at either end, what is left of the row
+left : (c : goal.Else-read-ne-BARRIER-2) →
+    let D = decode c.args.s.now in
+    bad_barriers D ≡ (too_many_in D.nodes outside || any (length D.constructs) (λ p. is_parallel D.constructs p && too_many_in D.nodes p))
+unfolding bad_barriers is_barrier
+left c =
+    rw (
+      ← c.read.ensures.0,
+      eq-eqb _ _ c.if-read-ne-BARRIER.false,
+      nodes-length _ c.args.chart c.requires,
+      ← c.read-2.ensures.0,
+      eq-eqb _ _ c.if-read-ne-BARRIER-2.false,
+    )
+
+-- the test of the outermost region, in terms of the decoded chart
+outermost : (c : goal.After-wide) →
+    ltb 64 c.wide.result ≡ too_many_in (decode c.args.s.now).nodes outside
+unfolding too_many_in
+outermost c = ap (ltb 64) (c.wide.ensures.0 ∙ c.count_outermost.ensures)
+
+pub returns-then-wide-gt-BARRIERS : goal.returns-then-wide-gt-BARRIERS
+returns-then-wide-gt-BARRIERS c = rw (left c.before.before.before, ← outermost c.before, lt-ltb _ _ c.if-wide-gt-BARRIERS.true)
+
+-- with not too many barriers in the outermost region, what is left of the row
+inner : (c : goal.Else-wide-gt-BARRIERS) →
+    let D = decode c.args.s.now in
+    bad_barriers D ≡ any (length D.constructs) (λ p. is_parallel D.constructs p && too_many_in D.nodes p)
+inner c = rw (left c.before.before.before, ← outermost c.before, le-ltb _ _ c.if-wide-gt-BARRIERS.false)
+
+pub returns-then-not-occurs : goal.returns-then-not-occurs
+returns-then-not-occurs c =
+    rw (inner c.before.before) (sym (none-crowded (decode c.args.s.now) (sym c.occurs.ensures ∙ not-true _ c.if-not-occurs.true)))
+
+pub count_barriers-requires : goal.count_barriers-requires
+unfolding count
+count_barriers-requires c =
+    (c.requires, record { long = refl; at = zeros 256 })
+
+pub returns : goal.returns
+returns c = rw (inner c.before.before.before.before.before.before) c.crowded.ensures

@@ -1,0 +1,46 @@
+-- `check_nodes::counts::count_outermost` meets its contract: after x turns the barriers among the first x nodes are counted.
+-- Assumes nothing.
+use mathlib.Core.Path.{◌≡◌, refl, ap, ◌∙◌}
+use Prim.Native.Nat.{ℕ, ◌+◌, ◌≤◌, ◌-◌}
+use native.Mathlib.Omega.{arith}
+use lib.ListN.{length}
+use borrow.Author.Rules.{rules}
+use Rattle.lists.specs.Range.{count, count_most, count-more}
+use Rattle.chart.specs.Format.{outside, decode}
+use Rattle.chart.specs.Refusal.{barrier_of}
+use Rattle.chart.proofs.Records.{nodes-length}
+use Rattle.check_nodes.proofs.counts.count_outermost.Goals as goal
+
+pub loop-x-init : goal.loop-x-init
+unfolding count
+loop-x-init c = (omega arith, refl)
+
+pub read-requires : goal.read-requires
+read-requires c = (c.requires, omega arith)
+
+-- the count with one node more
+next : (c : goal.After-outermost-found) →
+    c.loop-x.found + c.outermost-found.result ≡ count (c.loop-x.x + 1) (barrier_of (decode c.args.s.now).nodes outside)
+unfolding barrier_of
+next c =
+    let r = c.read.ensures in
+    cc (c.loop-x.invariant.1, c.outermost-found.ensures, r.0, r.1, count-more c.loop-x.x (barrier_of (decode c.args.s.now).nodes outside))
+
+pub overflow_add-found : goal.overflow_add-found
+overflow_add-found c =
+    omega (arith, next c, count_most (c.loop-x.x + 1) (barrier_of (decode c.args.s.now).nodes outside), c.requires.nodes-most)
+
+pub overflow_add-x : goal.overflow_add-x
+overflow_add-x c = omega arith
+
+pub loop-x-smaller : goal.loop-x-smaller
+loop-x-smaller c = omega arith
+
+pub loop-x-preserved : goal.loop-x-preserved
+loop-x-preserved c = (omega arith, next c)
+
+pub returns : goal.returns
+returns c =
+    let nodes = (decode c.args.s.now).nodes in
+    let q : c.loop-x.x ≡ length nodes = omega (arith, nodes-length _ c.args.chart c.requires) in
+    c.loop-x.invariant.1 ∙ ap (λ (k : ℕ). count k (barrier_of nodes outside)) q

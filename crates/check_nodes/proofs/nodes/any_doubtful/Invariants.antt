@@ -1,0 +1,17 @@
+-- The invariants and measures of `check_nodes::nodes::any_doubtful`.
+use mathlib.Core.Path.{◌≡◌, refl, ap, ◌∙◌}
+use Prim.Native.Nat.{ℕ, ◌≤◌, ◌-◌}
+use native.Mathlib.Omega.{arith}
+use lib.ListN.{length}
+use borrow.Author.Rules.{rules}
+use Rattle.lists.specs.Range.{any, any_next}
+use Rattle.chart.specs.Format.{decode}
+use Rattle.chart.proofs.Records.{nodes-length, constructs-length}
+use Rattle.check_nodes.specs.Parts.{doubtful_at}
+use Rattle.check_nodes.proofs.nodes.any_doubtful.Given as goal
+
+abbrev pub invariant-loop-x : goal.invariant-loop-x
+invariant-loop-x l = (l.x ≤ l.chart.nodes) × (l.constructs ≡ length (decode l.s).constructs) × (l.found ≡ any l.x (doubtful_at (decode l.s)))
+
+abbrev pub decreases-loop-x : goal.decreases-loop-x
+decreases-loop-x l = l.chart.nodes - l.x

@@ -1,0 +1,15 @@
+-- The invariants and measures of `mark::joining::any_missed`.
+use mathlib.Core.Path.{◌≡◌, refl}
+use Prim.Native.Nat.{◌+◌, ◌≤◌, ◌-◌}
+use native.Mathlib.Omega.{arith}
+use borrow.Author.Rules.{rules}
+use lib.Dec.{eqb}
+use lib.ListN.{get_or}
+use Rattle.lists.specs.Range.{count, count_most, count-more}
+use Rattle.mark.proofs.joining.any_missed.Given as goal
+
+abbrev pub invariant-loop-x : goal.invariant-loop-x
+invariant-loop-x l = (l.x ≤ l.n) × (l.found ≡ count l.x (λ y. eqb (get_or l.masks y 0) 0))
+
+abbrev pub decreases-loop-x : goal.decreases-loop-x
+decreases-loop-x l = l.n - l.x

@@ -1,0 +1,15 @@
+-- The invariants and measures of `mark::joining::pass_along`.
+use mathlib.Core.Path.{◌≡◌}
+use mathlib.Core.Bool.{false}
+use Prim.Native.Nat.{◌≤◌, ◌<◌, ◌-◌}
+use native.Mathlib.Omega.{arith}
+use borrow.Author.Rules.{rules}
+use Rattle.mark.specs.Joined.{Told, Passed}
+use Rattle.mark.proofs.JoiningLaws.{passed_none, along-more}
+use Rattle.mark.proofs.joining.pass_along.Given as goal
+
+abbrev pub invariant-loop-b : goal.invariant-loop-b
+invariant-loop-b l = (l.b ≤ l.total) × Passed (Told false l.masks l.nodes l.total) (λ i c. i < l.b) l.before l.all
+
+abbrev pub decreases-loop-b : goal.decreases-loop-b
+decreases-loop-b l = l.total - l.b

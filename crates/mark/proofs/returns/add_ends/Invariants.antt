@@ -1,0 +1,13 @@
+-- The invariants and measures of `mark::returns::add_ends`.
+use mathlib.Core.Path.{◌≡◌}
+use Prim.Native.Nat.{◌+◌, ◌-◌, ◌≤◌, ◌<◌}
+use native.Mathlib.Omega.{arith}
+use Rattle.mark.specs.Returning.{Added}
+use Rattle.mark.proofs.Further.{added_none, added-start, added_more}
+use Rattle.mark.proofs.returns.add_ends.Given as goal
+
+abbrev pub invariant-loop-c : goal.invariant-loop-c
+invariant-loop-c l = (l.c ≤ l.n) × Added l.ends l.c l.barriers l.initial.nodes (l.barriers + l.c) l.nodes
+
+abbrev pub decreases-loop-c : goal.decreases-loop-c
+decreases-loop-c l = l.n - l.c

@@ -1,0 +1,51 @@
+-- `mark_regions::outermost::enter_region` meets its contract: the tables, the marking, and row 10 off it.
+-- Assumes nothing.
+use mathlib.Core.Path.{refl, sym, ◌∙◌}
+use native.Mathlib.Omega.{arith}
+use borrow.Author.Rules.{rules}
+use Rattle.lists.specs.Truth.{bad}
+use Rattle.chart.proofs.Records.{nodes-length}
+use Rattle.mark_tables.specs.Tables.{Accepted}
+use Rattle.mark_tables.proofs.Accepted.{accepted, well-formed}
+use Rattle.mark_tables.proofs.Tabling.{blank_none}
+use Rattle.mark_regions.specs.Entered.{Entry}
+use Rattle.mark_regions.proofs.Entering.{marked-same, few, not_none, cut_off, connects, refuses, marks}
+use Rattle.mark_regions.proofs.outermost.enter_region.Goals as goal
+
+-- where the function was called, and what is known of the chart
+is-accepted : (c : goal.After-load_tables-extent) → Accepted c.args.s.now c.args.chart
+is-accepted c = c.requires.accepted.0
+
+pub load_tables-extent-requires : goal.load_tables-extent-requires
+load_tables-extent-requires c = (c.requires.accepted.0, blank_none, refl)
+
+pub fill-lost-requires : goal.fill-lost-requires
+fill-lost-requires c =
+    let A = is-accepted c.before.before.before.before.before.before in
+    let (T, (H, (S, N, Q, none))) = (c.load_tables-extent.ensures.arranged, (c.load_tables-extent.ensures.handed, c.load_tables-extent.ensures.stops)) in
+    record { barriers_bound = (few A N, none, not_none A N, omega (arith, Q, A.laid.nodes-most), c.requires.starts_value.0, c.requires.starts_value.1, (_, _, H)); by_index = N.node }
+
+pub returns-then-refuses : goal.returns-then-refuses
+returns-then-refuses c =
+    let A = is-accepted c.before.before.before.before.before.before.before.before.before in
+    let (T, (H, (S, N, Q, none))) = (c.load_tables-extent.ensures.arranged, (c.load_tables-extent.ensures.handed, c.load_tables-extent.ensures.stops)) in
+    let lost = c.fill-lost.ensures.by_index_2 _ _ (well-formed _ _ A) T S N (Q ∙ sym (nodes-length _ _ A.laid)) in
+    let (whole, not) = c.refuses.ensures in record { value = (
+        λ q. let h = c.requires.accepted.1 q in refuses _ _ h 10 (cut_off _ _ h (sym lost ∙ sym (whole q) ∙ c.if-refuses.true)),
+        λ n. let f = not n in let t = c.if-refuses.true in absurd (bad (cc)),
+      ); entry = λ chart total q. absurd (bad (cc)) }
+
+pub returns : goal.returns
+returns c =
+    let A = is-accepted c.before.before.before.before.before.before.before.before.before in
+    let W = well-formed _ _ A in
+    let (T, (H, (S, N, Q, none))) = (c.load_tables-extent.ensures.arranged, (c.load_tables-extent.ensures.handed, c.load_tables-extent.ensures.stops)) in
+    let (lost, marked) = (c.fill-lost.ensures.by_index_2, c.fill-lost.ensures.by_index_3) in
+    let (starts, ends, levels) = marked _ _ W T S N in
+    let (whole, _) = c.refuses.ensures in record { value = (
+        λ q.
+            let h = c.requires.accepted.1 q in
+            marks _ _ h _ N.count (connects _ _ h (sym (lost _ _ W T S N (Q ∙ sym (nodes-length _ _ A.laid))) ∙ sym (whole q) ∙ c.if-refuses.false)),
+        λ n. rw N.count refl,
+      ); entry = λ chart total q. marked-same q (λ k m. Entry c.args.s.now k m c.fill-lost.new.starts c.fill-lost.new.ends c.fill-lost.new.levels)
+          (record { accepted = A; count = N.count; has-starts = starts; has-ends = ends; has-levels = levels }) }

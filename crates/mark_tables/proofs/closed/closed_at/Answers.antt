@@ -1,0 +1,34 @@
+-- `mark_tables::closed::closed_at` meets its contract.
+-- Assumes nothing.
+use Prim.Native.Nat.{◌<◌}
+use native.Mathlib.Omega.{arith}
+use borrow.Author.Rules.{rules}
+use lib.ListN.{length}
+use Rattle.chart.specs.Format.{decode}
+use Rattle.chart.proofs.Records.{nodes-length}
+use Rattle.mark_tables.proofs.Accepted.{region-byte}
+use Rattle.mark_tables.proofs.Loading.{stop-byte}
+use Rattle.mark_tables.proofs.Cutting.{stop-closed, closed-turn}
+use Rattle.mark_tables.proofs.closed.closed_at.Goals as goal
+
+pub read-node-requires : goal.read-node-requires
+read-node-requires c = (c.requires.0.laid, c.requires.1)
+
+pub region_byte-region-requires : goal.region_byte-region-requires
+region_byte-region-requires c = region-byte _ c.args.chart c.requires.0
+
+below : (c : goal.After-read-node) → c.args.x < length (decode c.args.s.now).nodes
+below c = omega (arith, nodes-length _ c.args.chart c.requires.0.laid, c.requires.1)
+
+pub returns-then-chart-eq-OUTERMOST : goal.returns-then-chart-eq-OUTERMOST
+returns-then-chart-eq-OUTERMOST c =
+    rw (stop-closed _ c.args.chart c.args.x c.if-chart-eq-OUTERMOST.true (below c.before.before.before.before))
+    (stop-byte _ c.args.chart c.requires.0 c.args.x _ _ _ c.read-node.ensures.0 c.read-node.ensures.1 (rw c.region_byte-region.ensures at c.stop.ensures))
+
+pub within-requires : goal.within-requires
+within-requires c = (c.requires.0, c.if-chart-eq-OUTERMOST.false)
+
+pub returns : goal.returns
+returns c =
+    closed-turn _ c.args.chart c.requires.0 c.if-chart-eq-OUTERMOST.false c.args.x _ _ _ _ (below c.before.before.before.before.before.before.before) c.read-node.ensures.0 c.read-node.ensures.1 c.within.ensures
+    (rw c.region_byte-region.ensures at c.shut.ensures)

@@ -1,0 +1,17 @@
+-- The invariants and measures of `mark_tables::fill::all_edges`.
+use mathlib.Core.Path.{◌≡◌, sym}
+use Prim.Native.Nat.{◌≤◌, ◌-◌}
+use native.Mathlib.Omega.{arith}
+use Rattle.chart.specs.Format.{decode}
+use Rattle.chart.proofs.Records.{edges-length}
+use Rattle.mark_tables.proofs.Accepted.{tables}
+use Rattle.mark_tables.proofs.Tabling.{Tabling, tabling-none, tabling-room, tabling-more, tabling-all, keeps-all}
+use Rattle.mark_tables.specs.Tables.{kept}
+use Rattle.mark_tables.proofs.fill.all_edges.Given as goal
+
+abbrev pub invariant-loop-i : goal.invariant-loop-i
+invariant-loop-i l =
+    (l.i ≤ l.chart.edges) × Tabling (decode l.s) l.chart.region l.i l.stops l.table l.i l.parts
+
+abbrev pub decreases-loop-i : goal.decreases-loop-i
+decreases-loop-i l = l.chart.edges - l.i

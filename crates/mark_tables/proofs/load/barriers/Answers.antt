@@ -1,0 +1,45 @@
+-- `mark_tables::load::barriers` meets its contract: when x nodes are passed, eight in a turn, the barriers below x are listed. Row 8 leaves room
+-- for all of them.
+-- Assumes nothing.
+use mathlib.Core.Path.{◌≡◌, sym, ◌∙◌}
+use mathlib.Core.Logic.{inl, inr}
+use Prim.Native.Nat.{◌%◌, ◌≤◌, ◌-◌}
+use native.Mathlib.Omega.{arith}
+use Rattle.lists.specs.Range.{none_passes}
+use Rattle.mark_tables.specs.Tables.{stop_from, Listing}
+use Rattle.mark_tables.proofs.Loading.{listing_none, listing-skip, stops-few, listing-all}
+use Rattle.mark_tables.proofs.load.barriers.Goals as goal
+
+pub loop-x-init : goal.loop-x-init
+loop-x-init c = (omega arith, omega arith, listing_none _)
+
+pub any_stop-requires : goal.any_stop-requires
+any_stop-requires c = omega arith
+
+pub list_eight-total-requires : goal.list_eight-total-requires
+list_eight-total-requires c =
+    (omega arith, stops-few _ _ c.requires.0 c.requires.1, c.loop-x.invariant.2)
+
+pub overflow_add-x : goal.overflow_add-x
+overflow_add-x c = omega arith
+
+pub loop-x-smaller : goal.loop-x-smaller
+loop-x-smaller c = omega arith
+
+pub loop-x-preserved : goal.loop-x-preserved
+loop-x-preserved c =
+    (
+      omega arith,
+      omega arith,
+      elim c.if-any_stop.branch [
+        | inl (t, g, m, q, r) ↦ rw (q, r) m.ensures
+        | inr (t, q, r) ↦
+            let none = none_passes 8 (stop_from c.args.stops.now c.loop-x.x) (sym c.any_stop.ensures ∙ t.left) in
+            rw (q, r) (listing-skip 8 none c.loop-x.invariant.2)
+      ],
+    )
+
+pub returns : goal.returns
+returns c =
+    let q : c.loop-x.x ≡ 192 = omega arith in
+    listing-all _ c.args.chart c.requires.0 c.requires.1 (rw q at c.loop-x.invariant.2)

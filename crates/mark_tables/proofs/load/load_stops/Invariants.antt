@@ -1,0 +1,18 @@
+-- The invariants and measures of `mark_tables::load::load_stops`.
+use mathlib.Core.Path.{◌≡◌, ◌∙◌}
+use Prim.Native.Nat.{ℕ, ◌≤◌, ◌-◌}
+use native.Mathlib.Omega.{arith}
+use borrow.Author.Rules.{rules}
+use lib.ListN.{length, length-set, length-replicate}
+use Rattle.lists.specs.Store.{Written, written_none, written-more, written_all}
+use Rattle.chart.specs.Format.{decode}
+use Rattle.chart.proofs.Records.{nodes-length}
+use Rattle.mark_tables.proofs.Accepted.{region-byte}
+use Rattle.mark_tables.proofs.Loading.{stop_of, stop-byte, stop-past}
+use Rattle.mark_tables.proofs.load.load_stops.Given as goal
+
+abbrev pub invariant-loop-x : goal.invariant-loop-x
+invariant-loop-x l = (l.x ≤ l.chart.nodes) × (length l.stops ≡ 192) × Written (stop_of l.s l.chart) l.x l.stops
+
+abbrev pub decreases-loop-x : goal.decreases-loop-x
+decreases-loop-x l = l.chart.nodes - l.x

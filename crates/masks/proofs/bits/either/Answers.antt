@@ -1,0 +1,10 @@
+-- `masks::bits::either` meets its contract.
+-- Assumes nothing.
+
+use Rattle.masks.proofs.bits.either.Goals as goal
+
+pub returns-then-a : goal.returns-then-a
+returns-then-a c = rw c.if-a.true
+
+pub returns : goal.returns
+returns c = rw c.if-a.false

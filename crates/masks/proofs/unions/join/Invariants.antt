@@ -1,0 +1,13 @@
+-- The invariants and measures of `masks::unions::join`.
+use mathlib.Core.Path.{◌≡◌}
+use Prim.Native.Nat.{◌-◌}
+use native.Mathlib.Omega.{arith}
+use lib.Bits.{and_le_r}
+use Rattle.masks.proofs.Passes.{Joining, joining-none, joining-more, joining-all}
+use Rattle.masks.proofs.unions.join.Given as goal
+
+abbrev pub invariant-loop-rest : goal.invariant-loop-rest
+invariant-loop-rest l = Joining l.mask l.low l.rest l.a × Joining l.mask l.middle l.rest l.b × Joining l.mask l.high l.rest l.c
+
+abbrev pub decreases-loop-rest : goal.decreases-loop-rest
+decreases-loop-rest l = l.rest

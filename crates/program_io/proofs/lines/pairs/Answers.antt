@@ -1,0 +1,12 @@
+-- `program_io::lines::pairs` meets its contract.
+-- Assumes nothing.
+use Prim.Native.Nat.{◌-◌}
+use native.Mathlib.Omega.{arith}
+use borrow.Author.Rules.{rules}
+use Rattle.program_io.proofs.lines.pairs.Goals as goal
+
+pub overflow_add-a : goal.overflow_add-a
+overflow_add-a c = omega arith
+
+pub loop-a-smaller : goal.loop-a-smaller
+loop-a-smaller c = omega arith

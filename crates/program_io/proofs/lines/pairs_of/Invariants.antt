@@ -1,0 +1,12 @@
+-- The invariants and measures of `program_io::lines::pairs_of`.
+use Prim.Native.Nat.{◌-◌}
+use native.Mathlib.Omega.{arith}
+use borrow.Author.Rules.{rules}
+use Rattle.program_io.proofs.Sheet.{in-sheet}
+use Rattle.program_io.proofs.lines.pairs_of.Given as goal
+
+abbrev pub invariant-loop-b : goal.invariant-loop-b
+invariant-loop-b l = Unit
+
+abbrev pub decreases-loop-b : goal.decreases-loop-b
+decreases-loop-b l = l.n - l.b

@@ -1,0 +1,10 @@
+-- The invariants and measures of `replay_trace::threads::counts`.
+use Prim.Native.Nat.{◌-◌}
+use borrow.Author.Rules.{rules}
+use Rattle.replay_trace.proofs.threads.counts.Given as goal
+
+abbrev pub invariant-loop-c : goal.invariant-loop-c
+invariant-loop-c l = Unit {0}
+
+abbrev pub decreases-loop-c : goal.decreases-loop-c
+decreases-loop-c l = 48 - c

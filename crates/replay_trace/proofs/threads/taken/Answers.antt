@@ -1,0 +1,12 @@
+-- `replay_trace::threads::taken` is safe and ends.
+-- Assumes nothing.
+use Prim.Native.Nat.{◌-◌}
+use native.Mathlib.Omega.{arith}
+use borrow.Author.Rules.{rules}
+use Rattle.replay_trace.proofs.threads.taken.Goals as goal
+
+pub has-requires : goal.has-requires
+has-requires c = omega arith
+
+slice-aggregate-number : tie.Need-slice-aggregate-number invariant-loop decreases-loop
+slice-aggregate-number c = search rules

@@ -1,0 +1,14 @@
+-- The invariants and measures of `search::close::sweep`.
+use Prim.Native.Nat.{◌≤◌, ◌<◌, ◌-◌}
+use native.Mathlib.Omega.{arith}
+use mathlib.Core.Path.{◌≡◌}
+use lib.Bits.{bit_or}
+use Rattle.search.specs.Sweep.{Run, none, more}
+use Rattle.search.proofs.Runs.{run-from, run_long, place-below}
+use Rattle.search.proofs.close.sweep.Given as goal
+
+abbrev pub invariant-loop-j : goal.invariant-loop-j
+invariant-loop-j l = (l.j ≤ l.b) × Run bit_or l.keys l.values l.a l.b l.back l.initial.masks l.j l.masks l.new
+
+abbrev pub decreases-loop-j : goal.decreases-loop-j
+decreases-loop-j l = l.b - l.j

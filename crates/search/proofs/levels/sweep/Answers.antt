@@ -1,0 +1,58 @@
+-- `search::levels::sweep` meets its contract: the loop's invariant is the `Run` so far. Assumes nothing.
+use Prim.Native.Nat.{◌≤◌, ◌<◌, ◌-◌}
+use native.Mathlib.Omega.{arith}
+use mathlib.Core.Path.{◌≡◌, refl}
+use mathlib.Core.Bool.{false}
+use borrow.Author.Rules.{rules}
+use lib.ListN.{get_or}
+use Rattle.search.specs.Sweep.{Run, none}
+use Rattle.search.specs.LevelLaws.{nearer}
+use Rattle.search.proofs.Runs.{Swept, levels-kind, run-swept, risen-step, more-at, place-false}
+use Rattle.search.proofs.levels.sweep.Goals as goal
+
+pub loop-j-init : goal.loop-j-init
+loop-j-init c = (c.requires.a_le_b.0, none)
+
+-- what was swept so far
+swept : (l : goal.At-loop-j) → Swept (λ a b. b ≤ a) (λ d. d ≤ 254) l.args.levels.now l.loop-j.levels l.loop-j.new
+swept l =
+    let (sizes, nodes) = (l.requires.a_le_b, l.requires.by_index) in
+    run-swept levels-kind _ _ _ _ _ nodes.0 nodes.1 sizes.2 sizes.3 l.loop-j.invariant.1
+
+node : (l : goal.At-loop-j) → get_or l.args.values.now l.loop-j.j 0 < 192
+node l = l.requires.by_index.1 l.loop-j.j
+
+pub bounds-values-j : goal.bounds-values-j
+bounds-values-j c = omega arith
+
+pub overflow_cast-old : goal.overflow_cast-old
+overflow_cast-old c = omega (arith, node c.before.before.before)
+
+pub bounds-levels-values : goal.bounds-levels-values
+bounds-levels-values c = node c.before.before.before.before
+
+pub bounds-keys-j : goal.bounds-keys-j
+bounds-keys-j c = omega arith
+
+pub bounds-values-j-in-loop-j : goal.bounds-values-j-in-loop-j
+bounds-values-j-in-loop-j c = omega arith
+
+pub ascend-requires : goal.ascend-requires
+ascend-requires c =
+    let key = c.requires.by_index.0 c.loop-j.j in
+    ((swept c.before.before.before.before.before.before.before.before.before).long, key, node c.before.before.before.before.before.before.before.before.before, (swept c.before.before.before.before.before.before.before.before.before).bound _)
+
+pub overflow_add-j : goal.overflow_add-j
+overflow_add-j c = omega arith
+
+pub loop-j-smaller : goal.loop-j-smaller
+loop-j-smaller c = omega arith
+
+pub loop-j-preserved : goal.loop-j-preserved
+loop-j-preserved c =
+    rw c.change-new.ensures (omega arith, more-at c.loop-j.j (place-false _ _ _ false refl) c.loop-j.invariant.1 (risen-step c.ascend.ensures))
+
+pub returns : goal.returns
+returns c =
+    let e : c.loop-j.j ≡ c.args.b = omega arith in
+    rw e at c.loop-j.invariant.1

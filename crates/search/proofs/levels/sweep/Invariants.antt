@@ -1,0 +1,17 @@
+-- The invariants and measures of `search::levels::sweep`.
+use Prim.Native.Nat.{◌≤◌, ◌<◌, ◌-◌}
+use native.Mathlib.Omega.{arith}
+use mathlib.Core.Path.{◌≡◌, refl}
+use mathlib.Core.Bool.{false}
+use borrow.Author.Rules.{rules}
+use lib.ListN.{get_or}
+use Rattle.search.specs.Sweep.{Run, none}
+use Rattle.search.specs.LevelLaws.{nearer}
+use Rattle.search.proofs.Runs.{Swept, levels-kind, run-swept, risen-step, more-at, place-false}
+use Rattle.search.proofs.levels.sweep.Given as goal
+
+abbrev pub invariant-loop-j : goal.invariant-loop-j
+invariant-loop-j l = (l.j ≤ l.b) × Run nearer l.keys l.values l.a l.b false l.initial.levels l.j l.levels l.new
+
+abbrev pub decreases-loop-j : goal.decreases-loop-j
+decreases-loop-j l = l.b - l.j

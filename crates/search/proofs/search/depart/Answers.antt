@@ -1,0 +1,16 @@
+-- `search::search::depart` meets its contract: the sources' bits are sown along their edges.
+-- Assumes nothing.
+use native.Mathlib.Omega.{arith}
+use borrow.Author.Rules.{rules}
+use Rattle.search.proofs.Finding.{bounded}
+use Rattle.search.proofs.Sowing.{begins-none, sowed-none}
+use Rattle.search.proofs.search.depart.Goals as goal
+
+pub sow-requires : goal.sow-requires
+sow-requires c =
+    let ((few, blank, (_, ready)), sources) = (c.requires.total_bound, c.requires.by_index) in
+    let T = ready.split in
+    record { first_le_total = (omega arith, few, bounded T ready.begins); sowed = (rw blank (sowed-none _ _ _), rw blank begins-none); by_index = sources }
+
+pub returns : goal.returns
+returns c = record { sowed = c.sow.ensures.sowed_2; each = c.sow.ensures.each }

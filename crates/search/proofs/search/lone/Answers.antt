@@ -1,0 +1,28 @@
+-- `search::search::lone` meets its contract.
+-- Assumes nothing.
+use mathlib.Core.Path.{refl}
+use Prim.Native.Nat.{◌<◌}
+use native.Mathlib.Omega.{arith}
+use borrow.Author.Rules.{rules}
+use borrow.Author.Tests.{eqb-true}
+use Rattle.lists.specs.Truth.{clash}
+use Rattle.search.proofs.search.lone.Goals as goal
+
+pub returns-then-extent-ne2 : goal.returns-then-extent-ne2
+returns-then-extent-ne2 c = λ h. absurd (clash h refl)
+
+pub returns-then-extent-ne2-2 : goal.returns-then-extent-ne2-2
+returns-then-extent-ne2-2 c = λ h. absurd (clash h refl)
+
+below : (c : goal.After-wide-second) → c.wide-second.result < 192
+below c = omega (arith, c.wide-second.ensures.0, c.requires 1)
+
+pub bounds-places-second : goal.bounds-places-second
+bounds-places-second c = omega (arith, below c.before)
+
+pub bounds-places-second-2 : goal.bounds-places-second-2
+bounds-places-second-2 c = omega (arith, below c.before.before)
+
+pub returns : goal.returns
+returns c = λ h.
+    (omega arith, (omega arith, rw (← c.wide-second.ensures.0) (eqb-true _ _ h)))

@@ -1,0 +1,65 @@
+-- `search::sources::sow_edges` meets its contract: after some turns the bit has come along the edges so far.
+-- Assumes nothing.
+use mathlib.Core.Path.{◌≡◌, ◌∙◌}
+use mathlib.Core.List.{[], ◌∷◌}
+use Prim.Native.Nat.{◌≤◌, ◌<◌, ◌-◌}
+use native.Mathlib.Omega.{arith}
+use lib.ListN.{length, get_or, length-set}
+use borrow.Author.Rules.{rules}
+use Rattle.search.specs.Sweep.{Between}
+use Rattle.search.specs.Fed.{Fed}
+use Rattle.search.specs.Levels.{Each, Begins}
+use Rattle.search.proofs.Feeding.{fed-none, feed-turn}
+use Rattle.search.proofs.Sowing.{begins-turn}
+use Rattle.search.proofs.sources.sow_edges.Goals as goal
+
+pub loop-j-init : goal.loop-j-init
+loop-j-init c =
+    let ((order, most, some, long, begun), values) = (c.requires.a_le_b, c.requires.by_index) in
+    (omega arith, order, long, fed-none (λ x y w. omega (arith, w.from, w.below)), begun)
+
+pub bounds-values-j : goal.bounds-values-j
+bounds-values-j c = omega arith
+
+-- the node of a turn
+below : (c : goal.After-wide-y) → c.wide-y.result < 192
+below c = omega (arith, c.wide-y.ensures, c.requires.by_index c.loop-j.j)
+
+pub offset_bounds-masks-y : goal.offset_bounds-masks-y
+offset_bounds-masks-y c = omega (arith, below c)
+
+pub bounds-masks-y : goal.bounds-masks-y
+bounds-masks-y c = below c.before
+
+pub offset_bounds-masks-y-in-loop-j : goal.offset_bounds-masks-y-in-loop-j
+offset_bounds-masks-y-in-loop-j c = omega (arith, below c.before.before)
+
+pub bounds-masks-y-in-loop-j : goal.bounds-masks-y-in-loop-j
+bounds-masks-y-in-loop-j c = below c.before.before
+
+pub bounds-levels-y : goal.bounds-levels-y
+bounds-levels-y c = below c.before.before.before
+
+pub overflow_add-j : goal.overflow_add-j
+overflow_add-j c = omega arith
+
+pub loop-j-smaller : goal.loop-j-smaller
+loop-j-smaller c = omega arith
+
+pub loop-j-preserved : goal.loop-j-preserved
+loop-j-preserved c =
+    let (above, under, long, fed, begun) = c.loop-j.invariant in
+    let ((order, most, some, wide, _), values) = (c.requires.a_le_b, c.requires.by_index) in
+    let y : c.wide-y.result ≡ get_or c.args.values.now c.loop-j.j 0 = c.wide-y.ensures.0 in (
+      omega arith,
+      omega arith,
+      length-set c.loop-j.masks _ _ ∙ long,
+      rw y (feed-turn above (omega (arith, long, values c.loop-j.j)) fed),
+      begins-turn long (below c.before.before.before) some begun,
+    )
+
+pub returns : goal.returns
+returns c =
+    let (above, under, long, fed, begun) = c.loop-j.invariant in
+    let q : c.loop-j.j ≡ c.args.b = omega arith in
+    record { fed = rw q at fed; each = begun }

@@ -1,0 +1,32 @@
+-- `search::telling::show` meets its contract: after y turns the first y masks are written.
+-- Assumes nothing.
+use Prim.Native.Nat.{◌≤◌, ◌-◌}
+use native.Mathlib.Omega.{arith}
+use borrow.Author.Rules.{rules}
+use Rattle.search.specs.Levels.{Shows}
+use Rattle.search.proofs.Writing.{Writing, writing-none, writing_more, writing-all}
+use Rattle.search.proofs.telling.show.Goals as goal
+
+pub loop-y-init : goal.loop-y-init
+loop-y-init c = (omega arith, writing-none c.requires)
+
+pub bounds-levels-y : goal.bounds-levels-y
+bounds-levels-y c = omega arith
+
+pub offset_bounds-masks-y : goal.offset_bounds-masks-y
+offset_bounds-masks-y c = omega arith
+
+pub bounds-masks-y : goal.bounds-masks-y
+bounds-masks-y c = omega arith
+
+pub overflow_add-y : goal.overflow_add-y
+overflow_add-y c = omega arith
+
+pub loop-y-smaller : goal.loop-y-smaller
+loop-y-smaller c = omega arith
+
+pub loop-y-preserved : goal.loop-y-preserved
+loop-y-preserved c = (omega arith, writing_more _ (omega arith) c.shown.ensures c.loop-y.invariant.1)
+
+pub returns : goal.returns
+returns c = writing-all (omega arith) c.loop-y.invariant.1

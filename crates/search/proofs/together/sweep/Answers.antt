@@ -1,0 +1,86 @@
+-- `search::together::sweep` meets its contract: the loop's invariant is `Together` so far. Assumes nothing.
+use Prim.Native.Nat.{◌≤◌, ◌<◌, ◌-◌}
+use native.Mathlib.Omega.{arith}
+use mathlib.Core.Path.{◌≡◌}
+use mathlib.Core.Bool.{true}
+use lib.ListN.{get_or}
+use borrow.Author.Rules.{rules}
+use Rattle.search.specs.Parts.{row}
+use Rattle.search.specs.Together.{Together, Lent}
+use Rattle.search.proofs.Runs.{place-below, risen-step}
+use Rattle.search.proofs.Abreast.{begun, turned, together-lent, from}
+use Rattle.search.proofs.together.sweep.Goals as goal
+
+pub loop-j-init : goal.loop-j-init
+loop-j-init c = (c.requires.a_le_b.0, begun)
+
+-- the tables can be swept on
+lent : (l : goal.At-loop-j) → Lent l.loop-j.starts l.loop-j.levels l.loop-j.ends
+lent l = together-lent l.requires.by_index.0 l.requires.by_index.1 l.requires.a_le_b.2 l.loop-j.invariant.1
+
+-- a turn is left
+below : (c : goal.In-loop-j) → c.loop-j.j < c.args.b
+below c = omega arith
+
+-- the place is one of the list
+inside : (c : goal.After-place_of-at) → c.place_of-at.result < 1024
+inside c =
+    let args = c.args in
+    omega (arith, c.place_of-at.ensures, c.requires.a_le_b.1, place-below args.a args.b true c.loop-j.j (from c.loop-j.invariant.1) (omega arith))
+
+pub bounds-keys-j : goal.bounds-keys-j
+bounds-keys-j c = omega (arith, c.requires.a_le_b.1)
+
+pub bounds-values-j : goal.bounds-values-j
+bounds-values-j c = omega (arith, c.requires.a_le_b.1)
+
+pub carry-new-requires : goal.carry-new-requires
+carry-new-requires c =
+    ((lent c.before.before.before.before.before.before).starts, c.requires.by_index.0 c.loop-j.j, c.requires.by_index.1 c.loop-j.j)
+
+-- the edge leads to a node
+node : (l : goal.At-loop-j) → get_or (row l.args.edges.now 3) l.loop-j.j 0 < 192
+node l = l.requires.by_index.1 l.loop-j.j
+
+pub overflow_cast-old : goal.overflow_cast-old
+overflow_cast-old c = omega (arith, node c.before.before.before.before.before.before.before)
+
+pub bounds-levels-y : goal.bounds-levels-y
+bounds-levels-y c = node c.before.before.before.before.before.before.before.before
+
+pub ascend-requires : goal.ascend-requires
+ascend-requires c =
+    ((lent c.before.before.before.before.before.before.before.before.before.before).levels, c.requires.by_index.0 c.loop-j.j, node c.before.before.before.before.before.before.before.before.before.before, (lent c.before.before.before.before.before.before.before.before.before.before).levels-fit _)
+
+pub place_of-at-requires : goal.place_of-at-requires
+place_of-at-requires c =
+    (from c.loop-j.invariant.1, omega arith, c.requires.a_le_b.1)
+
+pub bounds-values-at : goal.bounds-values-at
+bounds-values-at c = inside c.before
+
+pub bounds-keys-at : goal.bounds-keys-at
+bounds-keys-at c = inside c.before.before
+
+pub carry-new-requires-in-loop-j : goal.carry-new-requires-in-loop-j
+carry-new-requires-in-loop-j c =
+    ((lent c.before.before.before.before.before.before.before.before.before.before.before.before.before.before.before.before).ends, c.requires.by_index.1 c.place_of-at.result, c.requires.by_index.0 c.place_of-at.result)
+
+pub overflow_add-j : goal.overflow_add-j
+overflow_add-j c = omega arith
+
+pub loop-j-smaller : goal.loop-j-smaller
+loop-j-smaller c = omega arith
+
+pub loop-j-preserved : goal.loop-j-preserved
+loop-j-preserved c =
+    rw c.change.ensures (
+      omega (arith, below c.before.before.before.before.before.before.before.before.before.before.before.before.before.before.before.before),
+      turned c.place_of-at.result c.place_of-at.ensures c.loop-j.invariant.1 c.carry-new.ensures (risen-step c.ascend.ensures) c.carry-new-in-loop-j.ensures,
+    )
+
+pub returns : goal.returns
+returns c =
+    let i = c.loop-j.invariant in
+    let e : c.loop-j.j ≡ c.args.b = omega arith in
+    rw e at i.1

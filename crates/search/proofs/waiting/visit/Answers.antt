@@ -1,0 +1,37 @@
+-- `search::waiting::visit` meets its contract: each way out is one case of `Visited`, and the ring has room because each entry is counted.
+-- Assumes nothing.
+use Prim.Native.Nat.{suc, ◌<◌}
+use native.Mathlib.Omega.{arith}
+use mathlib.Core.Path.{◌≡◌}
+use borrow.Author.Rules.{rules}
+use lib.ListN.{get_or, set}
+use Rattle.lists.specs.Store.{filled, filled-set, filled-lt}
+use Rattle.search.specs.Waiting.{same, kept, fresh}
+use Rattle.search.proofs.waiting.visit.Goals as goal
+
+pub returns-then-all-old : goal.returns-then-all-old
+returns-then-all-old c = record { visited = same (rw c.wide-at.ensures.0 at c.if-all-old.true); upper_bound = c.requires.0.room }
+
+pub returns-then-held-at-ne0 : goal.returns-then-held-at-ne0
+returns-then-held-at-ne0 c =
+    record { visited = rw c.wide-at.ensures.0 (kept (rw c.wide-at.ensures.0 at c.if-all-old.false) (λ z. let t = rw c.wide-at.ensures.0 at c.if-held-at-ne0.true in omega arith)); upper_bound = c.requires.0.room }
+
+free : (c : goal.Else-held-at-ne0) → (get_or c.args.held.now c.args.y 0 ≡ 0)
+free c = let t = rw c.wide-at.ensures.0 at c.if-held-at-ne0.false in omega arith
+
+-- the node is not held: one more is counted, so there was room for it
+counted : (c : goal.Else-held-at-ne0)
+    → (let held = c.args.held.now in (filled (set held c.args.y 1) ≡ suc (filled held)) × (filled held < 192))
+counted c =
+    let lt = filled-lt c.args.held.now c.args.y (omega arith) (free c) in
+    (filled-set _ _ _ (omega arith) (free c) (omega arith), omega arith)
+
+pub overflow_add-ring : goal.overflow_add-ring
+overflow_add-ring c = omega (arith, counted c.before)
+
+pub overflow_add-result : goal.overflow_add-result
+overflow_add-result c = omega (arith, counted c.before.before.before)
+
+pub returns : goal.returns
+returns c =
+    rw c.wide-at.ensures.0 (fresh (rw c.wide-at.ensures.0 at c.if-all-old.false) (free c.before.before.before), let k = counted c.before.before.before in omega arith)
