@@ -70,10 +70,12 @@ def main(words):
         for old in new:
             print(old, new[old], sep="\t")
         return
+    # a second run finds the laws respelled
+    first = "edgeIn" in new
     for path in files((".antt", ".rt", ".edit")):
         with open(path, encoding="utf-8") as f:
             old = f.read()
-        laws = LAWS if path.endswith(".antt") and any("crates/" + w in path for w in WHERE_LAWS) else {}
+        laws = LAWS if first and path.endswith(".antt") and any("crates/" + w in path for w in WHERE_LAWS) else {}
         text = WORD.sub(lambda m: laws.get(m[0], new.get(m[0], m[0])), old)
         if text != old:
             with open(path, "w", encoding="utf-8") as f:

@@ -25,7 +25,7 @@ use Rattle.theory_listing.specs.Tree.{Block, node_count, construct_count}
 use Rattle.theory_listing.specs.Grammar.{Read, up_to, stopped, pick, listed}
 use Rattle.theory_listing.specs.GrammarLaws.{Kinds, Fine, listed-fine}
 use Rattle.theory_listing.specs.Meaning.{block_bytes}
-use Rattle.theory_listing.specs.Call.{block_read, stopped_by, too_many_lem, block_rows, listing_bytes, listing_rows, listing_written, listing_left}
+use Rattle.theory_listing.specs.Call.{block_read, stopped_by, too_many, block_rows, listing_bytes, listing_rows, listing_written, listing_left}
 use Rattle.theory_listing.specs.Counts.{too_many_lem, length-block_constructs}
 use Rattle.theory_listing.specs.BlockTables.{length-nodes}
 use Rattle.theory_listing.specs.Admitted.{block-decoded, block-laid}
@@ -63,7 +63,7 @@ module _ (text : List ℕ) (nodes constructs : ℕ) (small : ListedWithin text n
   abbrev b : Block
   b = small.block
 
-  pub few : too_many_lem small.block ≡ false
+  pub few : too_many small.block ≡ false
   few =
       too_many_lem b
       ∙ rw (le-ltb 190 (node_count b) (omega (arith, small.node-count, small.nodes-fit)), le-ltb 48 (construct_count b) (omega (arith, small.construct-count, small.constructs-fit)))
@@ -98,7 +98,7 @@ module _ (text : List ℕ) where
   unfolding limited_to
   small-read last nodes constructs h = go (listed text) refl h
     where
-      on : (b : Block) (x : ℕ) → listed text ≡ up_to b x → (y : Bool) → too_many_lem b ≡ y → UpTo last nodes constructs ≡ pick y (λ u. refused 16) (λ u. extent_of (up_to b x)) → ListedWithin text nodes constructs
+      on : (b : Block) (x : ℕ) → listed text ≡ up_to b x → (y : Bool) → too_many b ≡ y → UpTo last nodes constructs ≡ pick y (λ u. refused 16) (λ u. extent_of (up_to b x)) → ListedWithin text nodes constructs
       on b x r true t q = absurd (bad (cc))
       on b x r false t q =
           let n : nodes ≡ node_count b = cc in
@@ -115,7 +115,7 @@ module _ (text : List ℕ) where
           }
 
       go : (read : Read Block) → listed text ≡ read → UpTo last nodes constructs ≡ limited_to read → ListedWithin text nodes constructs
-      go (up_to b x) r q = on b x r (too_many_lem b) refl q
+      go (up_to b x) r q = on b x r (too_many b) refl q
       go (stopped number) r q = absurd (bad (cc))
 
   -- 14, 15 or 16
@@ -123,11 +123,11 @@ module _ (text : List ℕ) where
   unfolding limited_to listing_rows output_rows block_rows first_of stopped_by block_read
   refused-read refusal room h = go (listed text) refl (listed-fine text) h
     where
-      over : (b : Block) (x : ℕ) → listed text ≡ up_to b x → (y : Bool) → too_many_lem b ≡ y → Stopped refusal ≡ pick y (λ u. refused 16) (λ u. extent_of (up_to b x)) → first_of (listing_rows text room) ≡ some refusal.number
+      over : (b : Block) (x : ℕ) → listed text ≡ up_to b x → (y : Bool) → too_many b ≡ y → Stopped refusal ≡ pick y (λ u. refused 16) (λ u. extent_of (up_to b x)) → first_of (listing_rows text room) ≡ some refusal.number
       over b x r true t q = rw (r, t) (ap some (sym (ap number_in q)))
       over b x r false t q = absurd (bad (cc))
 
       go : (read : Read Block) → listed text ≡ read → Fine Kinds (length text) (length text) read → Stopped refusal ≡ limited_to read → first_of (listing_rows text room) ≡ some refusal.number
-      go (up_to b x) r f q = over b x r (too_many_lem b) refl q
+      go (up_to b x) r f q = over b x r (too_many b) refl q
       go (stopped number) r (inl e) q = rw (r, e) (ap some (sym (ap number_in q ∙ e)))
       go (stopped number) r (inr e) q = rw (r, e) (ap some (sym (ap number_in q ∙ e)))

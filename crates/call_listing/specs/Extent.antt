@@ -4,7 +4,7 @@ use Rattle.std.specs.Prelude.{◌||◌, List, ℕ, ◌+◌, ◌<◌, ◌≤◌, 
 use Rattle.chart.specs.Scope.{single_byte, loop_byte}
 use Rattle.theory_listing.specs.Tree.{Block, end, node_count, construct_count}
 use Rattle.theory_listing.specs.Grammar.{nowait_letter, close_brace, Item, put, Read, up_to, stopped, after, pick, stands, braced, item_by, block_of}
-use Rattle.theory_listing.specs.Call.{too_many_lem}
+use Rattle.theory_listing.specs.Call.{too_many}
 use Rattle.call_listing.specs.declared.reader.Extent.{Extent}
 use Rattle.call_listing.specs.declared.reader.Extent.TheVariants.{UpTo, Stopped}
 
@@ -48,7 +48,7 @@ followed_at s kind read =
 
 -- Row 16 after 14 and 15.
 unfoldable pub limited_to : Read Block → Extent
-limited_to (up_to b next) = pick (too_many_lem b) (λ u. refused 16) (λ u. extent_of (up_to b next))
+limited_to (up_to b next) = pick (too_many b) (λ u. refused 16) (λ u. extent_of (up_to b next))
 limited_to (stopped number) = refused number
 
 -- Reading ends in the text, and no more nodes and no more constructs than bytes were read from a place on: so no count overflows.

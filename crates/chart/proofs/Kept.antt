@@ -13,8 +13,8 @@ use Rattle.lists.specs.Truth.{and-true, and_both, both-and, or_cases, or_left, o
 use Rattle.chart.specs.Format.{outside, Node, Decoded, no_node, node_at}
 use Rattle.chart.specs.Region.{barrier}
 use Rattle.chart.specs.Scope.{barrier_node, begin_node, end_node, lies_at, parent_of, Encloses, here, up}
-use Rattle.chart.specs.Nested.{counts_in, lies_within, kept_in_lem}
-use Rattle.chart.specs.Reading.{edge_in_lem, region, region_of}
+use Rattle.chart.specs.Nested.{counts_in, lies_within, kept_in}
+use Rattle.chart.specs.Reading.{edge_in, region, region_of}
 use Rattle.chart.specs.Refusal.{barrier_of}
 use Rattle.chart.proofs.Tree.{below_more, first_step, outside-encloses, higher}
 use Rattle.chart.proofs.Facts.{TablesFit}
@@ -26,12 +26,12 @@ use Rattle.chart.proofs.RegionFacts.{counts-within, in_both, within-encloses, ke
 -- the outermost region has every node of the chart, and every edge
 module _ (D : Decoded) (x : ℕ) where
   pub outermost-kept : (region D).kept x ≡ ltb x (length D.nodes)
-  unfolding kept_in_lem lies_within
+  unfolding kept_in lies_within
   outermost-kept = and-true (ltb x (length D.nodes))
 
-  pub outermost-edge : (y : ℕ) → (region D).edge x y ≡ edge_in_lem D.edges x y
+  pub outermost-edge : (y : ℕ) → (region D).edge x y ≡ edge_in D.edges x y
   unfolding lies_within
-  outermost-edge y = and-true (edge_in_lem D.edges x y)
+  outermost-edge y = and-true (edge_in D.edges x y)
 
 module _ (D : Decoded) (F : TablesFit D) (p : ℕ) where
   abbrev kind : ℕ → ℕ

@@ -12,8 +12,8 @@ use Rattle.lists.specs.Truth.{and_both, both-and, or_left, or_right}
 use Rattle.chart.specs.Format.{outside, Decoded, node_at}
 use Rattle.chart.specs.Region.{barrier}
 use Rattle.chart.specs.Scope.{barrier_node, begin_node, end_node, Encloses, parent_of}
-use Rattle.chart.specs.Nested.{is_parallel, region_at, counts_in, lies_within, kept_in_lem}
-use Rattle.chart.specs.Reading.{edge_in_lem, inside_at, frame_of, region_of}
+use Rattle.chart.specs.Nested.{is_parallel, region_at, counts_in, lies_within, kept_in}
+use Rattle.chart.specs.Reading.{edge_in, inside_at, frame_of, region_of}
 use Rattle.chart.proofs.Tree.{Below, computed, computes, lower}
 use Rattle.chart.proofs.Near.{region-above}
 use Rattle.chart.proofs.Facts.{TablesFit, FrameAt}
@@ -68,18 +68,18 @@ module _ (D : Decoded) (p : ℕ) where
   within-encloses q n h = computed parent size q p (rw (ne_eqb p outside n) at h)
 
   pub kept-scope : (f : Frame) (x : ℕ) → x < length D.nodes → lies_within D.constructs p (scoped D f x) ≡ true → (region_of p D).kept x ≡ true
-  unfolding kept_in_lem
+  unfolding kept_in
   kept-scope begin x l h = both-and _ _ (lt-ltb x (length D.nodes) l) (or_left _ _ h)
   kept-scope end x l h = both-and _ _ (lt-ltb x (length D.nodes) l) (or_right (lies_within D.constructs p (scoped D begin x)) _ h)
 
   -- edges
-  pub edge_in_lem : (x y : ℕ) → (region_of p D).edge x y ≡ true → edge_in_lem D.edges x y ≡ true
-  edge_in_lem x y h = (and_both (edge_in_lem D.edges x y) _ h).0
+  pub edge_in_lem : (x y : ℕ) → (region_of p D).edge x y ≡ true → edge_in D.edges x y ≡ true
+  edge_in_lem x y h = (and_both (edge_in D.edges x y) _ h).0
 
   pub edge-within : (x y : ℕ) → (region_of p D).edge x y ≡ true → lies_within D.constructs p (scoped D begin x) ≡ true
-  edge-within x y h = (and_both (edge_in_lem D.edges x y) _ h).1
+  edge-within x y h = (and_both (edge_in D.edges x y) _ h).1
 
-  pub edge_of : (x y : ℕ) → edge_in_lem D.edges x y ≡ true → lies_within D.constructs p (scoped D begin x) ≡ true → (region_of p D).edge x y ≡ true
+  pub edge_of : (x y : ℕ) → edge_in D.edges x y ≡ true → lies_within D.constructs p (scoped D begin x) ≡ true → (region_of p D).edge x y ≡ true
   edge_of x y h w = both-and _ _ h w
 
   -- barriers, start and finish

@@ -15,7 +15,7 @@ use Rattle.lists.specs.Range.{first, any_at, at-any, first_passes}
 use Rattle.chart.specs.Format.{outside, Node, Decoded, no_node, node_at, edge_at, construct_at}
 use Rattle.chart.specs.Region.{ordered, section}
 use Rattle.chart.specs.Scope.{loop_byte, sections_byte, barrier_node, begin_node, end_node, kind_of, lies_in, scope, lies_at, scope_at, Encloses, parent_of}
-use Rattle.chart.specs.Reading.{edge_in_lem, inside_at, frame_of}
+use Rattle.chart.specs.Reading.{edge_in, inside_at, frame_of}
 use Rattle.chart.proofs.Tree.{Below, below_more, computed, computes}
 use Rattle.chart.proofs.NestingFacts.{parents-lower}
 use Rattle.chart.proofs.Facts.{NodeFits, TablesFit, FramesSection, FrameAt, OneFrame, EdgeFits, frame-construct, is_frame, is-frame, frame_is}
@@ -166,8 +166,8 @@ module _ (D : Decoded) where
 
     -- what holds of every edge of the list
     edge-has : (P : ℕ → ℕ → Type 0) → ((i : ℕ) → i < length D.edges → P (edge_at D.edges i).from (edge_at D.edges i).to)
-        → (x y : ℕ) → edge_in_lem D.edges x y ≡ true → P x y
-    unfolding edge_in_lem
+        → (x y : ℕ) → edge_in D.edges x y ≡ true → P x y
+    unfolding edge_in
     edge-has P f x y h =
         let i = any_at (length D.edges) (λ i. eqb (edge_at D.edges i).from x && eqb (edge_at D.edges i).to y) h in
         let from = (edge_at D.edges i.0).from in
@@ -175,10 +175,10 @@ module _ (D : Decoded) where
         let b = and_both (eqb from x) (eqb to y) i.2 in
         subst (λ (n : ℕ). P n y) (eqb-true from x b.0) (subst (P from) (eqb-true to y b.1) (f i.0 i.1))
 
-    pub edge-at : (x y : ℕ) → edge_in_lem D.edges x y ≡ true → EdgeFits D.nodes D.constructs x y
+    pub edge-at : (x y : ℕ) → edge_in D.edges x y ≡ true → EdgeFits D.nodes D.constructs x y
     edge-at x y h = edge-has (EdgeFits D.nodes D.constructs) F.edges.alone x y h
 
-    pub edge-apart : (x y : ℕ) → edge_in_lem D.edges x y ≡ true → FramesSection D end_node x → FramesSection D begin_node y → ⊥
+    pub edge-apart : (x y : ℕ) → edge_in D.edges x y ≡ true → FramesSection D end_node x → FramesSection D begin_node y → ⊥
     edge-apart x y h = edge-has (λ a b. FramesSection D end_node a → FramesSection D begin_node b → ⊥) F.edges.apart x y h
 
     -- Start and Finish are outside everything

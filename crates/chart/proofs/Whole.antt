@@ -14,7 +14,7 @@ use Rattle.lists.specs.Truth.{clash, and_both, both-and}
 use Rattle.chart.specs.Format.{outside, Node, Decoded, node_at, construct_at}
 use Rattle.chart.specs.Region.{barrier, closes, sections, section, parallel}
 use Rattle.chart.specs.Scope.{sections_byte, section_byte, parallel_byte, barrier_node, begin_node, end_node, kind_of, scope, lies_at, scope_at, Encloses, parent_of}
-use Rattle.chart.specs.Nested.{is_parallel, region_at, counts_in, kept_in_lem}
+use Rattle.chart.specs.Nested.{is_parallel, region_at, counts_in, kept_in}
 use Rattle.chart.specs.Reading.{frame_of, region_of}
 use Rattle.chart.proofs.Constructs.{kind-below, parallel-below, parallel-inner}
 use Rattle.chart.proofs.Tree.{below_more, outside-encloses, lower, irreflexive}
@@ -236,7 +236,7 @@ module _ (D : Decoded) (F : TablesFit D) (few : length D.constructs ≤ outside)
   ]
 
   kept_here : (x : ℕ) → (region_of p D).kept x ≡ true → x < length D.nodes
-  unfolding kept_in_lem
+  unfolding kept_in
   kept_here x h = ltb-true x (length D.nodes) (and_both (ltb x (length D.nodes)) _ h).0
 
   scope-marks : (f : Frame) (x : ℕ) {c : ℕ} → Encloses parent (scoped D f x) c → Counts D p c → Encloses parent (lies D x) c ⊎ ((region_of p D).role x ≡ marks f c)

@@ -12,7 +12,7 @@ use Rattle.std.proofs.Math.ListN.{length, length-append, get_or-eq_default}
 use Rattle.std.proofs.Math.Seq.{drop_at}
 use borrow.Author.Tests.{le-ltb, ltb-false, not-false}
 use Rattle.chart.specs.Format.{decode}
-use Rattle.chart.specs.Reading.{edge_in_lem, region_of}
+use Rattle.chart.specs.Reading.{edge_in, region_of}
 use Rattle.chart.specs.Refusal.{Row, first_of, trailer_rows, chart_rows}
 use Rattle.chart.specs.Checked.{Laid, counts_of}
 use Rattle.chart.proofs.Rows.{none-applies, both-pass, second-decides}
@@ -112,7 +112,7 @@ module _ (buffer : List ℕ) (len : ℕ) (receipt : Receipt) (x y : ℕ) {count 
     back : removed new x y ≡ old
     back = removed-inserted old (admitted-laid old both.0) x y (take-bytes len buffer (omega (arith, room)) bytes)
 
-    there : edge_in_lem (decode new).edges x y ≡ true
+    there : edge_in (decode new).edges x y ≡ true
     there = edge_in_lem (inserted-decoded old (admitted-laid old both.0) x y)
 
     left-length : len + 2 ≤ length left
@@ -169,7 +169,7 @@ module _ (buffer : List ℕ) (len : ℕ) (x y : ℕ) {count : ℕ} (h : remove_w
   last-rows : (first_of (no_edge_row present x y ∷ []) ≡ none) × Admitted short
   last-rows = both-pass (no_edge_row present x y ∷ []) (admit_rows short) (both-pass (admit_rows present) (no_edge_row present x y ∷ admit_rows short) after-length-row).1
 
-  was-there : edge_in_lem (decode present).edges x y ≡ true
+  was-there : edge_in (decode present).edges x y ≡ true
   unfolding no_edge_row
   was-there = not-false _ (none-applies (no_edge_row present x y ∷ []) last-rows.0).0
 

@@ -4,7 +4,7 @@
 use Rattle.std.specs.Prelude.{◌&&◌, not, List, [], ◌∷◌, ◌++◌, ℕ, ◌+◌, ◌-◌, eqb, ltb, ℤ, pos, neg_ℤ, length, take}
 use Rattle.std.proofs.Math.Option.{Option, none, some}
 use Rattle.chart.specs.Format.{decode}
-use Rattle.chart.specs.Reading.{edge_in_lem}
+use Rattle.chart.specs.Reading.{edge_in}
 use Rattle.chart.specs.Refusal.{Row, first_of}
 use Rattle.theory_paths.specs.Admission.{admit_rows}
 use Rattle.output.specs.Output.{written_by, left_by}
@@ -68,7 +68,7 @@ insert_left buffer len receipt from to = left_by (commit_rows buffer len receipt
 
 -- Row 19: no such edge, so none with a number that no node has.
 unfoldable pub no_edge_row : List ℕ → ℕ → ℕ → Row
-no_edge_row s from to = record { number = 19; applies = not (edge_in_lem (decode s).edges from to) }
+no_edge_row s from to = record { number = 19; applies = not (edge_in (decode s).edges from to) }
 
 -- Removal: 4; rows 1 to 10 on the present chart; 19, no such edge; then rows 1 to 10 on the shorter chart.
 unfoldable pub remove_rows : List ℕ → ℕ → ℕ → ℕ → List Row

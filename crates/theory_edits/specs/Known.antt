@@ -6,9 +6,9 @@ use Rattle.lists.specs.Range.{any, count, first}
 use Rattle.lists.specs.Tab.{tab}
 use Rattle.chart.specs.Format.{field, node_of, edge_of, construct_of, construct_width, construct_bytes, trailer_of, records, last_trailer, decode, node_at, edge_at, construct_at}
 use Rattle.chart.specs.Scope.{single_byte, kind_of, lies_in, scope, encloses, parent_of, lies_at, scope_at}
-use Rattle.chart.specs.Nested.{is_parallel, region_at, counts_in, lies_within, kept_in_lem, role_in}
+use Rattle.chart.specs.Nested.{is_parallel, region_at, counts_in, lies_within, kept_in, role_in}
 use Rattle.chart.specs.Nesting.{may_enclose, encloses_near, same_critical, excluded, wrongly_above, misplaced, misnested}
-use Rattle.chart.specs.Reading.{edge_in_lem, inside_at, frame_of}
+use Rattle.chart.specs.Reading.{edge_in, inside_at, frame_of}
 use Rattle.chart.specs.Refusal.{bad_edition, bad_marks, bad_counts, bad_lengths, bad_node, bad_outer, bad_node_at, bad_nodes, foreign_number, bad_construct, bad_alone, stray_node, bad_constructs, frames_in, bad_frame, bad_frames, is_barrier, barrier_of, too_many_in, bad_barriers, bad_edge, rises, bad_edge_at, frames_section, joins_sections, bad_edges, first_of, trailer_rows, table_rows, chart_rows}
 use Rattle.theory_paths.specs.Reach.{marks?, marks, reaches}
 use Rattle.theory_paths.specs.Decide.{reaches_any}
@@ -157,6 +157,6 @@ unfolding asks commits removals asking committing removing asked asked_by ask_ro
     insert_written insert_left commit_rows receipt_row space_row remove_written remove_left remove_rows no_edge_row removed shorter written_by left_by written content
     admit_rows bad_paths cut_off reaches_any reaches marks marks? chart_rows table_rows trailer_rows first_of bad_edges joins_sections frames_section bad_edge_at rises bad_edge bad_barriers
     too_many_in barrier_of is_barrier bad_frames bad_frame frames_in bad_constructs stray_node bad_alone bad_construct foreign_number bad_nodes bad_node_at bad_outer bad_node bad_lengths bad_counts bad_marks bad_edition
-    misnested misplaced wrongly_above excluded same_critical may_enclose encloses_near role_in kept_in_lem lies_within counts_in region_at is_parallel edge_in_lem inside_at frame_of scope_at lies_at parent_of encloses scope lies_in kind_of
+    misnested misplaced wrongly_above excluded same_critical may_enclose encloses_near role_in kept_in lies_within counts_in region_at is_parallel edge_in inside_at frame_of scope_at lies_at parent_of encloses scope lies_in kind_of
     construct_at edge_at node_at decode last_trailer records trailer_of construct_of construct_width construct_bytes edge_of node_of field tab any count first is
 known-edits = (refl, refl, refl)

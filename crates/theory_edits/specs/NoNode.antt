@@ -14,7 +14,7 @@ use borrow.Author.Tests.{lt-ltb, le-ltb, eqb-true}
 use Rattle.lists.specs.Truth.{clash, truth, false-if, and_both, or_left, or_right, or-neither, neither-or, not_eqb, eq-not-eqb}
 use Rattle.lists.specs.Range.{any_at}
 use Rattle.chart.specs.Format.{Trailer, Decoded, decode, edge_at, construct_bytes, size}
-use Rattle.chart.specs.Reading.{edge_in_lem}
+use Rattle.chart.specs.Reading.{edge_in}
 use Rattle.chart.specs.Refusal.{bad_marks, bad_counts, bad_lengths, bad_nodes, bad_node_at, bad_constructs, bad_frames, bad_frame, stray_node, bad_barriers, bad_edges, Row, first_of, trailer_rows, table_rows, chart_rows}
 use Rattle.chart.specs.Checked.{Laid, counts_of}
 use Rattle.chart.proofs.Rows.{none-applies, both-pass, first-decides, second-decides}
@@ -40,15 +40,15 @@ abbrev pub no_node_row : List ℕ → ℕ
 no_node_row s = cond (ltb (decode s).trailer.edges 1024) 9 3
 
 -- an edge that is there names two nodes
-names-nodes : (D : Decoded) → EdgesFit D → (x y : ℕ) → edge_in_lem D.edges x y ≡ true → (x < length D.nodes) × (y < length D.nodes)
-unfolding edge_in_lem
+names-nodes : (D : Decoded) → EdgesFit D → (x y : ℕ) → edge_in D.edges x y ≡ true → (x < length D.nodes) × (y < length D.nodes)
+unfolding edge_in
 names-nodes D F x y h =
     let (i, l, f) = any_at (length D.edges) _ h in
     let (p, q) = and_both (eqb (edge_at D.edges i).from x) (eqb (edge_at D.edges i).to y) f in
     let fit = F.alone i l in
     (omega (arith, eqb-true (edge_at D.edges i).from x p, fit.from-below), omega (arith, eqb-true (edge_at D.edges i).to y q, fit.to_below))
 
-no_such : (D : Decoded) → EdgesFit D → (x y : ℕ) → NoNode (length D.nodes) x y → edge_in_lem D.edges x y ≡ false
+no_such : (D : Decoded) → EdgesFit D → (x y : ℕ) → NoNode (length D.nodes) x y → edge_in D.edges x y ≡ false
 no_such D F x y over = false-if (λ h. past (names-nodes D F x y h) over)
   where
     past : (x < length D.nodes) × (y < length D.nodes) → NoNode (length D.nodes) x y → ⊥
@@ -68,7 +68,7 @@ module _ (D E : Decoded) (same_nodes : E.nodes ≡ D.nodes) (same-constructs : E
   same_rows = (ap bad_nodes same, ap bad_constructs same, ap bad_frames same, ap bad_barriers same)
 
 -- Row 19: an admitted chart has no such edge.
-pub no-node-lacking : (s : List ℕ) → Admitted s → (x y : ℕ) → NoNode (decode s).trailer.nodes x y → not (edge_in_lem (decode s).edges x y) ≡ true
+pub no-node-lacking : (s : List ℕ) → Admitted s → (x y : ℕ) → NoNode (decode s).trailer.nodes x y → not (edge_in (decode s).edges x y) ≡ true
 unfolding admit_rows counts_of
 no-node-lacking s admits x y over =
     let F = (fits s (both-pass (chart_rows s) _ admits).0).1.edges in

@@ -13,7 +13,7 @@ use Rattle.lists.specs.Range.{any, count, any_at, any_same}
 use Rattle.lists.specs.Counting.{count-all, count-rest}
 use Rattle.lists.specs.Recount.{count_same}
 use Rattle.chart.specs.Format.{Edge, edge_at, no_edge}
-use Rattle.chart.specs.Reading.{edge_in_lem}
+use Rattle.chart.specs.Reading.{edge_in}
 use Rattle.chart.specs.Refusal.{rises}
 use Rattle.chart.proofs.Facts.{Rises, rise-fits, fit-rise}
 use Rattle.theory_edits.specs.Splice.{place}
@@ -57,8 +57,8 @@ module _ (A B : List Edge) (x y : ℕ) where
         count_same (length B) (λ k. is_below (A ++ B) x y (length A + k)) (is_below B x y) (λ k l. rw (at_back k)),
       )
 
-  pub in-append : edge_in_lem (A ++ B) x y ≡ (edge_in_lem A x y || edge_in_lem B x y)
-  unfolding edge_in_lem
+  pub in-append : edge_in (A ++ B) x y ≡ (edge_in A x y || edge_in B x y)
+  unfolding edge_in
   in-append =
       ap (λ (n : ℕ). any n (is_there (A ++ B) x y)) (length-append A B) ∙ any-split (length A) (length B) (is_there (A ++ B) x y)
       ∙ rw (
@@ -75,8 +75,8 @@ module _ (x y : ℕ) where
   unfolding place edge_at count rises
   place-one = rw (le-ltb x x (omega arith), le-ltb y y (omega arith), eq-eqb x x refl)
 
-  pub in_one : (u v : ℕ) → edge_in_lem one u v ≡ (eqb x u && eqb y v)
-  unfolding edge_in_lem edge_at any
+  pub in_one : (u v : ℕ) → edge_in one u v ≡ (eqb x u && eqb y v)
+  unfolding edge_in edge_at any
   in_one u v = refl
 
 -- Each edge is above the one before it.
@@ -127,8 +127,8 @@ module _ (edges : List Edge) (rising : Rising edges) where
         ap (λ (n : ℕ). count n (is_below edges x y)) (sym q) ∙ count-rest (is_below edges x y) i (length edges - i) (λ k m b. behind k m (omega arith))
         ∙ count-all i (is_below edges x y) before
 
-  pub at_place : (x y : ℕ) → edge_in_lem edges x y ≡ true → (place edges x y < length edges) × (edge_at edges (place edges x y) ≡ record { from = x; to = y })
-  unfolding edge_in_lem
+  pub at_place : (x y : ℕ) → edge_in edges x y ≡ true → (place edges x y < length edges) × (edge_at edges (place edges x y) ≡ record { from = x; to = y })
+  unfolding edge_in
   at_place x y h =
       let (i, l, f) = any_at (length edges) (is_there edges x y) h in
       let (p, q) = and_both (eqb (edge_at edges i).from x) (eqb (edge_at edges i).to y) f in

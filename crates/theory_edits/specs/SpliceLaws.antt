@@ -10,7 +10,7 @@ use native.Mathlib.Omega.{arith}
 use Rattle.std.proofs.Math.ListN.{length, take}
 use Rattle.lists.specs.Range.{count_most}
 use Rattle.chart.specs.Format.{Edge, Trailer, Decoded, node_of, edge_of, construct_of, construct_width, trailer_of, records, decode, edge_at}
-use Rattle.chart.specs.Reading.{edge_in_lem}
+use Rattle.chart.specs.Reading.{edge_in}
 use Rattle.chart.specs.Refusal.{rises}
 use Rattle.chart.specs.Checked.{Laid, counts_of}
 use Rattle.chart.proofs.Records.{length-records, edges-length}
@@ -181,7 +181,7 @@ module _ (s : List ℕ) (ok : Laid s (counts_of s)) (x y : ℕ) where
       ∙ here.1
 
   -- With one edge less, where the edge is one of the chart's, which rise.
-  module _ (rising : Rising (decode s).edges) (there : edge_in_lem (decode s).edges x y ≡ true) where
+  module _ (rising : Rising (decode s).edges) (there : edge_in (decode s).edges x y ≡ true) where
     found : (p < length (decode s).edges) × (edge_at (decode s).edges p ≡ record { from = x; to = y })
     found = at_place (decode s).edges rising x y there
 

@@ -28,7 +28,7 @@ use Rattle.theory_listing.specs.Tree.{Block, first, Part, constructs}
 use Rattle.theory_listing.specs.Flow.{Drawn, forth, back}
 use Rattle.theory_listing.specs.GrammarLaws.{Kinds}
 use Rattle.theory_listing.specs.Meaning.{written_edition, finish, inner, whole, construct_for, block_nodes, block_edges, block_constructs, block_chart, block_bytes}
-use Rattle.theory_listing.specs.Call.{too_many_lem}
+use Rattle.theory_listing.specs.Call.{too_many}
 use Rattle.theory_listing.specs.CellTables.{edges-all, at-number, member-edge}
 use Rattle.theory_listing.specs.BlockTables.{length_whole, length-nodes, whole-numbered, frames-fit, edges_fit}
 
@@ -47,8 +47,8 @@ module _ (r : Block) where
   block-decoded = decode-encode written_edition (block_nodes r) (block_edges r) (block_constructs r) (recorded (constructs r outside 0))
 
   -- Rows 1 to 4 let it pass.
-  pub block-laid : too_many_lem r ≡ false → first_of (trailer_rows (block_bytes r)) ≡ none
-  unfolding block_bytes too_many_lem bad_edition
+  pub block-laid : too_many r ≡ false → first_of (trailer_rows (block_bytes r)) ≡ none
+  unfolding block_bytes too_many bad_edition
   block-laid few = encode-laid written_edition (block_nodes r) (block_edges r) (block_constructs r) (recorded (constructs r outside 0)) refl few
 
   -- row 10
@@ -94,10 +94,10 @@ module _ (r : Block) where
         joined (λ c. Home c.at) (inner r) _ w.1 (inl refl, tt),
       )
 
-  module _ (kinds : Kinds r) (few : too_many_lem r ≡ false)
+  module _ (kinds : Kinds r) (few : too_many r ≡ false)
       (five : bad_nodes D ≡ false) (six : bad_constructs D ≡ false) (eight : bad_barriers D ≡ false) where
     constructs-few : length (block_constructs r) ≤ 48
-    unfolding too_many_lem bad_counts
+    unfolding too_many bad_counts
     constructs-few =
         let n = length (block_nodes r) in
         let e = length (block_edges r) in

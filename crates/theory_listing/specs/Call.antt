@@ -19,8 +19,8 @@ stopped_by number (up_to b next) = false
 stopped_by number (stopped reason) = eqb reason number
 
 -- Row 16: node, edge or construct count over 01's limits. Row 3 has the limits; below them no count is, since Start, Finish and an edge are there.
-unfoldable pub too_many_lem : Block → Bool
-too_many_lem b = bad_counts (length (block_nodes b)) (length (block_edges b)) (length (block_constructs b))
+unfoldable pub too_many : Block → Bool
+too_many b = bad_counts (length (block_nodes b)) (length (block_edges b)) (length (block_constructs b))
 
 -- 14 or 15, the first met from the left; then 16; then 5, for a barrier inside a construct, 6 and 8 as 01 has them, on the chart that would be
 -- written.
@@ -29,7 +29,7 @@ block_rows read =
     let b = block_read read in
     record { number = 14; applies = stopped_by 14 read }
     ∷ record { number = 15; applies = stopped_by 15 read }
-    ∷ record { number = 16; applies = too_many_lem b }
+    ∷ record { number = 16; applies = too_many b }
     ∷ record { number = 5; applies = bad_nodes (block_chart b) }
     ∷ record { number = 6; applies = bad_constructs (block_chart b) }
     ∷ record { number = 8; applies = bad_barriers (block_chart b) }

@@ -10,7 +10,7 @@ use Rattle.lists.specs.Range.{at-any, count}
 use Rattle.lists.specs.Counting.{one}
 use Rattle.chart.specs.Format.{Edge, no_edge, node_at, edge_at}
 use Rattle.chart.specs.Scope.{begin_node, end_node, lies_in, scope}
-use Rattle.chart.specs.Reading.{edge_in_lem}
+use Rattle.chart.specs.Reading.{edge_in}
 use Rattle.chart.specs.Refusal.{frames_in}
 use Rattle.chart.proofs.Facts.{Rises}
 use Rattle.chart_writing.specs.Every.{All, joined, split, every, Member, here, there, From}
@@ -144,8 +144,8 @@ member-at : {A : Type 0} (d : A) {a : A} (l : List A) → Member a l → (i : �
 member-at d (a ∷ l) here = (0, omega arith, refl)
 member-at d (b ∷ l) (there m) = let (i, b, e) = member-at d l m in (suc i, omega arith, e)
 
-pub member-edge : (es : List Edge) (e : Edge) → Member e es → edge_in_lem es e.from e.to ≡ true
-unfolding edge_in_lem edge_at
+pub member-edge : (es : List Edge) (e : Edge) → Member e es → edge_in es e.from e.to ≡ true
+unfolding edge_in edge_at
 member-edge es e m =
     let (i, b, q) = member-at (no_edge) es m in
     at-any (length es) _ i b (both-and _ _ (eq-eqb _ _ (ap (λ (e : Edge). e.from) q)) (eq-eqb _ _ (ap (λ (e : Edge). e.to) q)))

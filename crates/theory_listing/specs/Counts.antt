@@ -10,7 +10,7 @@ use Rattle.theory_listing.specs.Tree.{Block, node_count, construct_count, Cell, 
 use Rattle.theory_listing.specs.Flow.{Few, few}
 use Rattle.theory_listing.specs.Place.{length-constructs}
 use Rattle.theory_listing.specs.Meaning.{written_edition, finish, inner, whole, edge, edges_of, construct_for, block_nodes, block_edges, block_constructs, block_bytes}
-use Rattle.theory_listing.specs.Call.{too_many_lem}
+use Rattle.theory_listing.specs.Call.{too_many}
 use Rattle.theory_listing.specs.CellTables.{length-mapped}
 use Rattle.theory_listing.specs.BlockTables.{length_whole, length-nodes, some-edge}
 
@@ -28,11 +28,11 @@ pub length-block_constructs : (b : Block) → length (block_constructs b) ≡ co
 length-block_constructs b = length-mapped construct_for (constructs b outside 0) ∙ length-constructs b outside 0
 
 -- Row 16 by the nodes and the constructs alone: each node has at most two edges.
-pub too_many_lem : (b : Block) → too_many_lem b ≡ (ltb 190 (node_count b) || ltb 48 (construct_count b))
-unfolding too_many_lem bad_counts
+pub too_many_lem : (b : Block) → too_many b ≡ (ltb 190 (node_count b) || ltb 48 (construct_count b))
+unfolding too_many bad_counts
 too_many_lem b = go (ltb 190 (node_count b)) refl
   where
-    go : (x : Bool) → ltb 190 (node_count b) ≡ x → too_many_lem b ≡ (x || ltb 48 (construct_count b))
+    go : (x : Bool) → ltb 190 (node_count b) ≡ x → too_many b ≡ (x || ltb 48 (construct_count b))
     go true q =
         rw (length-nodes b, le-ltb (suc (suc (node_count b))) 2 (omega arith), lt-ltb 192 (suc (suc (node_count b))) (omega (arith, ltb-true 190 (node_count b) q)))
     go false q =

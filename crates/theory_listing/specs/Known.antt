@@ -16,7 +16,7 @@ use Rattle.chart_writing.specs.Encode.{flat, encode}
 use Rattle.theory_listing.specs.Tree.{node_count, construct_count, first, two, cells, constructs}
 use Rattle.theory_listing.specs.Grammar.{put, braced, letter_kind, followed, item_by, block_of, listed}
 use Rattle.theory_listing.specs.Meaning.{kind_byte, whole, edges_of, block_bytes}
-use Rattle.theory_listing.specs.Call.{block_read, stopped_by, too_many_lem, block_rows, listing_bytes, listing_rows}
+use Rattle.theory_listing.specs.Call.{block_read, stopped_by, too_many, block_rows, listing_bytes, listing_rows}
 
 -- A text, the room for its chart, and what the call answers.
 pub record Listing : Type 0 where
@@ -120,15 +120,15 @@ abbrev given : List Listing → List Written
 given = map (λ l. l.gives)
 
 known_written : answers written-listings ≡ given written-listings
-unfolding any count construct_bytes node_at construct_at kind_of parent_of is_parallel may_enclose encloses_near same_critical excluded wrongly_above misplaced misnested bad_counts bad_node bad_outer bad_node_at bad_nodes foreign_number bad_construct bad_alone stray_node bad_constructs is_barrier barrier_of too_many_in bad_barriers first_of room_row output_rows written written_by flat encode node_count construct_count first two cells constructs put braced letter_kind followed item_by block_of listed kind_byte whole edges_of block_bytes block_read stopped_by too_many_lem block_rows listing_bytes listing_rows
+unfolding any count construct_bytes node_at construct_at kind_of parent_of is_parallel may_enclose encloses_near same_critical excluded wrongly_above misplaced misnested bad_counts bad_node bad_outer bad_node_at bad_nodes foreign_number bad_construct bad_alone stray_node bad_constructs is_barrier barrier_of too_many_in bad_barriers first_of room_row output_rows written written_by flat encode node_count construct_count first two cells constructs put braced letter_kind followed item_by block_of listed kind_byte whole edges_of block_bytes block_read stopped_by too_many block_rows listing_bytes listing_rows
 known_written = refl
 
 known-refused : answers refused-listings ≡ given refused-listings
-unfolding any count construct_bytes node_at construct_at kind_of parent_of is_parallel may_enclose encloses_near same_critical excluded wrongly_above misplaced misnested bad_counts bad_node bad_outer bad_node_at bad_nodes foreign_number bad_construct bad_alone stray_node bad_constructs is_barrier barrier_of too_many_in bad_barriers first_of room_row output_rows written written_by flat encode node_count construct_count first two cells constructs put braced letter_kind followed item_by block_of listed kind_byte whole edges_of block_bytes block_read stopped_by too_many_lem block_rows listing_bytes listing_rows
+unfolding any count construct_bytes node_at construct_at kind_of parent_of is_parallel may_enclose encloses_near same_critical excluded wrongly_above misplaced misnested bad_counts bad_node bad_outer bad_node_at bad_nodes foreign_number bad_construct bad_alone stray_node bad_constructs is_barrier barrier_of too_many_in bad_barriers first_of room_row output_rows written written_by flat encode node_count construct_count first two cells constructs put braced letter_kind followed item_by block_of listed kind_byte whole edges_of block_bytes block_read stopped_by too_many block_rows listing_bytes listing_rows
 known-refused = refl
 
 known-limits : answers limit-listings ≡ given limit-listings
-unfolding any count construct_bytes node_at construct_at kind_of parent_of is_parallel may_enclose encloses_near same_critical excluded wrongly_above misplaced misnested bad_counts bad_node bad_outer bad_node_at bad_nodes foreign_number bad_construct bad_alone stray_node bad_constructs is_barrier barrier_of too_many_in bad_barriers first_of room_row output_rows written written_by flat encode node_count construct_count first two cells constructs put braced letter_kind followed item_by block_of listed kind_byte whole edges_of block_bytes block_read stopped_by too_many_lem block_rows listing_bytes listing_rows
+unfolding any count construct_bytes node_at construct_at kind_of parent_of is_parallel may_enclose encloses_near same_critical excluded wrongly_above misplaced misnested bad_counts bad_node bad_outer bad_node_at bad_nodes foreign_number bad_construct bad_alone stray_node bad_constructs is_barrier barrier_of too_many_in bad_barriers first_of room_row output_rows written written_by flat encode node_count construct_count first two cells constructs put braced letter_kind followed item_by block_of listed kind_byte whole edges_of block_bytes block_read stopped_by too_many block_rows listing_bytes listing_rows
 known-limits = refl
 
 -- S{s}n is 01's S with a single.
@@ -136,5 +136,5 @@ known_bytes : listing_bytes (83 ∷ 123 ∷ 115 ∷ 125 ∷ 110 ∷ [])
     ≡ 1 ∷ 255 ∷ 0 ∷ 0 ∷ 2 ∷ 0 ∷ 0 ∷ 0 ∷ 0 ∷ 0 ∷ 0 ∷ 0 ∷ 3 ∷ 0 ∷ 0 ∷ 0 ∷ 1 ∷ 255 ∷ 0 ∷ 0
     ∷ 0 ∷ 1 ∷ 1 ∷ 2 ∷ 2 ∷ 3 ∷ 3 ∷ 4 ∷ 1 ∷ 255 ∷ 0 ∷ 0
     ∷ 1 ∷ 0 ∷ 5 ∷ 0 ∷ 4 ∷ 0 ∷ 1 ∷ 0 ∷ 48 ∷ 0 ∷ 28 ∷ 0 ∷ 20 ∷ 0 ∷ 0x4F ∷ 0x43 ∷ []
-unfolding any count construct_bytes node_at construct_at kind_of parent_of is_parallel may_enclose encloses_near same_critical excluded wrongly_above misplaced misnested bad_counts bad_node bad_outer bad_node_at bad_nodes foreign_number bad_construct bad_alone stray_node bad_constructs is_barrier barrier_of too_many_in bad_barriers first_of room_row output_rows written written_by flat trailer_for encode node_count construct_count first two cells constructs put braced letter_kind followed item_by block_of listed kind_byte whole edges_of block_bytes block_read stopped_by too_many_lem block_rows listing_bytes listing_rows
+unfolding any count construct_bytes node_at construct_at kind_of parent_of is_parallel may_enclose encloses_near same_critical excluded wrongly_above misplaced misnested bad_counts bad_node bad_outer bad_node_at bad_nodes foreign_number bad_construct bad_alone stray_node bad_constructs is_barrier barrier_of too_many_in bad_barriers first_of room_row output_rows written written_by flat trailer_for encode node_count construct_count first two cells constructs put braced letter_kind followed item_by block_of listed kind_byte whole edges_of block_bytes block_read stopped_by too_many block_rows listing_bytes listing_rows
 known_bytes = refl
