@@ -8,23 +8,33 @@ use borrow.Author.Rules.{rules}
 use Rattle.chart.proofs.Records.{bytes-rise, construct-fields}
 use Rattle.chart.proofs.format.Construct.read.Goals as goal
 
--- the trailer leaves room past the last record
-room : (c : goal.After-construct-cursor) → c.construct-cursor.result.at + 5 < length c.args.s.now
-room c =
-    let low : c.args.c < c.args.chart.constructs = c.requires.1 in
-    omega (arith, c.construct-cursor.ensures, c.requires.0.whole, bytes-rise c.args.chart.edition c.args.c c.args.chart.constructs (omega arith))
-
 pub byte-requires : goal.byte-requires
-byte-requires c = omega (arith, room c)
+byte-requires c =
+    let room : c.construct-cursor.result.at + 5 < length c.args.s.now =
+        let low : c.args.c < c.args.chart.constructs = c.requires.1 in
+    omega (arith, c.construct-cursor.ensures, c.requires.0.whole, bytes-rise c.args.chart.edition c.args.c c.args.chart.constructs (omega arith)) in
+    omega (arith, room)
 
 pub byte-requires-2 : goal.byte-requires-2
-byte-requires-2 c = omega (arith, room c.before)
+byte-requires-2 c =
+    let room : c.construct-cursor.result.at + 5 < length c.args.s.now =
+        let low : c.args.c < c.args.chart.constructs = c.requires.1 in
+    omega (arith, c.construct-cursor.ensures, c.requires.0.whole, bytes-rise c.args.chart.edition c.args.c c.args.chart.constructs (omega arith)) in
+    omega (arith, room)
 
 pub field-requires : goal.field-requires
-field-requires c = omega (arith, room c.before.before)
+field-requires c =
+    let room : c.construct-cursor.result.at + 5 < length c.args.s.now =
+        let low : c.args.c < c.args.chart.constructs = c.requires.1 in
+    omega (arith, c.construct-cursor.ensures, c.requires.0.whole, bytes-rise c.args.chart.edition c.args.c c.args.chart.constructs (omega arith)) in
+    omega (arith, room)
 
 pub filter-requires : goal.filter-requires
-filter-requires c = room c.before.before.before
+filter-requires c =
+    let room : c.construct-cursor.result.at + 5 < length c.args.s.now =
+        let low : c.args.c < c.args.chart.constructs = c.requires.1 in
+    omega (arith, c.construct-cursor.ensures, c.requires.0.whole, bytes-rise c.args.chart.edition c.args.c c.args.chart.constructs (omega arith)) in
+    room
 
 pub returns : goal.returns
 returns c =
