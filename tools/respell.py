@@ -36,7 +36,7 @@ GIVEN = {
 }
 # laws that port.py's spelling brings to the new name of what they are about
 LAWS = {"too_many": "too_many_lem", "edge_in": "edge_in_lem", "kept_in": "kept_in_lem"}
-WHERE_LAWS = ("theory_listing", "call_listing", "theory_edits", "chart/proofs")
+WHERE_LAWS = ("theory_paths", "theory_listing", "call_listing", "theory_edits", "chart/proofs")
 
 
 def files(endings):

@@ -15,7 +15,7 @@ use Rattle.chart.proofs.Tree.{outside-encloses}
 use Rattle.chart.proofs.Reading.{Frame, begin, end, marks}
 use Rattle.chart.proofs.Scopes.{byte_of}
 use Rattle.chart.proofs.Tables.{lies, scoped, scope-below, lies-scope, scope-frame, frame-only, frame_here, frame-scope, frame-lies, frame_found, edge-at, start-lies, finish-lies}
-use Rattle.chart.proofs.RegionFacts.{counts-within, within-encloses, edge_in, edge-within, edge_of, start-outer, start-inner, finish-outer, finish-inner, encloses-within, marks-at}
+use Rattle.chart.proofs.RegionFacts.{counts-within, within-encloses, edge_in_lem, edge-within, edge_of, start-outer, start-inner, finish-outer, finish-inner, encloses-within, marks-at}
 use Rattle.chart.proofs.Accepted.{well-formed-tables}
 use Rattle.theory_paths.specs.Path.{Path, Edge, Any}
 use Rattle.theory_paths.specs.PathLaws.{reverse}
@@ -51,7 +51,7 @@ module _ (D : Decoded) (few : length D.constructs ≤ outside) (F : TablesFit D)
 
     -- edges of the chart that touch the region
     scopes : (x y : ℕ) → Edge (region D) x y → scoped D begin x ≡ scoped D end y
-    scopes x y e = (edge-at D F x y (edge_in D outside x y e)).scopes
+    scopes x y e = (edge-at D F x y (edge_in_lem D outside x y e)).scopes
 
     back : (x y : ℕ) → Edge (region D) x y → In y ⊎ At end y → In x ⊎ At begin x
     back x y e b = scope-frame D F begin x (subst (λ (q : ℕ). Encloses parent q p) (sym (scopes x y e)) (to-scope end y b))
@@ -60,7 +60,7 @@ module _ (D : Decoded) (few : length D.constructs ≤ outside) (F : TablesFit D)
     forth x y e b = scope-frame D F end y (subst (λ (q : ℕ). Encloses parent q p) (scopes x y e) (to-scope begin x b))
 
     keeps : (x y : ℕ) → In x ⊎ At begin x → Edge (region D) x y → Edge (region_of p D) x y
-    keeps x y b e = edge_of D p x y (edge_in D outside x y e) (encloses-within D p F (scoped D begin x) (scope-below D F begin x) (to-scope begin x b))
+    keeps x y b e = edge_of D p x y (edge_in_lem D outside x y e) (encloses-within D p F (scoped D begin x) (scope-below D F begin x) (to-scope begin x b))
 
     -- Start and Finish of the chart are not in the region
     start-out : In (region D).start → ⊥
@@ -114,7 +114,7 @@ module _ (D : Decoded) (few : length D.constructs ≤ outside) (F : TablesFit D)
 
     edge_to : (x y : ℕ) → Edge (region_of p D) x y → In y ⊎ At end y
     edge_to x y e =
-        scope-frame D F end y (subst (λ (q : ℕ). Encloses parent q p) (edge-at D F x y (edge_in D p x y e)).scopes
+        scope-frame D F end y (subst (λ (q : ℕ). Encloses parent q p) (edge-at D F x y (edge_in_lem D p x y e)).scopes
         (within-encloses D p (scoped D begin x) inner-p (edge-within D p x y e)))
 
     marks-to-end : (f : Frame) (x c : ℕ) → (region_of p D).role x ≡ marks f c → Path (Edge (region_of p D)) Any x (region_of p D).finish
@@ -127,7 +127,7 @@ module _ (D : Decoded) (few : length D.constructs ≤ outside) (F : TablesFit D)
     inner = record {
       from_start = λ {x} k n. from-begin x ((well-formed-tables D few F p (inr is)).kept-below k) (kept-to x k n);
       to-finish = λ {x} {y} e n. elim (edge_to x y e) [
-        | inl i ↦ to_end y (edge-at D F x y (edge_in D p x y e)).to_below i
+        | inl i ↦ to_end y (edge-at D F x y (edge_in_lem D p x y e)).to_below i
         | inr w ↦ absurd (n (frame-only D F end y p w ∙ sym (finish-inner D p inner-p)))
       ];
       begin-to-finish = λ {x} {c} w. marks-to-end begin x c w;

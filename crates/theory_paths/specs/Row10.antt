@@ -34,5 +34,5 @@ module _ (R : Region) (W : WellFormed R) (h : bad_paths R ≡ false) where
     from_start = λ {x} k n. from_start x (W.kept-below k) n;
     to-finish = λ {x} {y} e n. to-finish y (W.to_below e) n;
     begin-to-finish = λ {x} w. to-finish x (W.begin-below w) (λ q. bad (cc W.finish-barrier));
-    end-to-finish = λ {x} w. to-finish x (W.end_Below w) (λ q. bad (cc W.finish-barrier));
+    end-to-finish = λ {x} w. to-finish x (W.end_below w) (λ q. bad (cc W.finish-barrier));
   }

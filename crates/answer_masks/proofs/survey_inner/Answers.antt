@@ -20,17 +20,6 @@ use Rattle.mark_regions.proofs.Entering.{read_whole, entered-refused, entered-ma
 use Rattle.mark_regions.proofs.Naming.{refused-first, refused-region, marked-region, named}
 use Rattle.answer_masks.proofs.survey_inner.Goals as goal
 
--- where the function was called
--- what the marking of the outermost region answers
-outer : (c : goal.After-survey_region)
-    → (let s = c.args.s.now in c.survey_region.result ≡ checked_by (first_of (admit_rows s)) (counts_of s))
-outer c = c.survey_region.ensures.value.0 (read_whole _ _ c.requires.s_value.0)
-
--- it was marked
-admits : (c : goal.After-survey_region) (whole : Chart) → c.survey_region.result ≡ Passed whole
-    → (let s = c.args.s.now in (first_of (admit_rows s) ≡ none) × (counts_of s ≡ whole))
-admits c whole q = passed_none _ _ _ (sym (outer c) ∙ q)
-
 pub survey_region-requires : goal.survey_region-requires
 survey_region-requires c =
     let ((h, _, blank), framed) = (c.requires.s_value, c.requires.both_framed) in
@@ -44,35 +33,47 @@ bad_region-requires c =
 pub returns-then-bad_region : goal.returns-then-bad_region
 unfolding checked_by
 returns-then-bad_region c =
-    let n = entered-refused _ _ _ (sym (refused-region c.args.s.now c.args.region (admits c.before.before.before.before.before _ c.in-Passed.is).0 (sym c.bad_region.ensures ∙ c.if-bad_region.true))) in
+    let outer : (let s = c.args.s.now in c.survey_region.result ≡ checked_by (first_of (admit_rows s)) (counts_of s)) =
+        c.survey_region.ensures.value.0 (read_whole _ _ c.requires.s_value.0) in
+    let admits : (whole : Chart) → c.survey_region.result ≡ Passed whole
+    → (let s = c.args.s.now in (first_of (admit_rows s) ≡ none) × (counts_of s ≡ whole)) =
+        λ whole q. passed_none _ _ _ (sym outer ∙ q) in
+    let n = entered-refused _ _ _ (sym (refused-region c.args.s.now c.args.region (admits _ c.in-Passed.is).0 (sym c.bad_region.ensures ∙ c.if-bad_region.true))) in
     record { value = rw n; survey = λ chart q. absurd (bad (cc)) }
 
 -- row 10
 pub returns-in-Refused : goal.returns-in-Refused
 unfolding checked_by
 returns-in-Refused c =
-    let n = refused-some _ _ _ (sym (outer c.before.before.before) ∙ c.in-Refused.is) in
+    let outer : (let s = c.args.s.now in c.survey_region.result ≡ checked_by (first_of (admit_rows s)) (counts_of s)) =
+        c.survey_region.ensures.value.0 (read_whole _ _ c.requires.s_value.0) in
+    let n = refused-some _ _ _ (sym outer ∙ c.in-Refused.is) in
     record { value = rw (entered-refused _ _ _ (sym (refused-first c.args.s.now c.args.region _ n))); survey = λ chart q. absurd (bad (cc)) }
-
--- the chart as it is read is none of the outermost region
-inner : (c : goal.After-read_for-inner) → c.read_for-inner.result.region ≢ outside
-inner c q = c.requires.s_value.1 (sym (ap (λ (k : Chart). k.region) c.read_for-inner.ensures) ∙ q)
 
 pub survey_region-requires-in-Passed : goal.survey_region-requires-in-Passed
 survey_region-requires-in-Passed c =
+    let inner : c.read_for-inner.result.region ≢ outside =
+        λ q. c.requires.s_value.1 (sym (ap (λ (k : Chart). k.region) c.read_for-inner.ensures) ∙ q) in
     let A = (c.survey_region.ensures.survey _ c.in-Passed.is).accepted in
     let N = named c.args.s.now c.args.region (sym c.bad_region.ensures ∙ c.if-bad_region.false) in record { accepted = (
         subst (Accepted c.args.s.now) (sym c.read_for-inner.ensures) (accepted-for _ _ A c.args.region N),
-        λ q. absurd (inner c.before.before.before q),
+        λ q. absurd (inner q),
         refl,
       ); both_framed = c.requires.both_framed }
 
 pub returns-else-bad_region : goal.returns-else-bad_region
 unfolding checked_by
 returns-else-bad_region c =
+    let outer : (let s = c.args.s.now in c.survey_region.result ≡ checked_by (first_of (admit_rows s)) (counts_of s)) =
+        c.survey_region.ensures.value.0 (read_whole _ _ c.requires.s_value.0) in
+    let admits : (whole : Chart) → c.survey_region.result ≡ Passed whole
+    → (let s = c.args.s.now in (first_of (admit_rows s) ≡ none) × (counts_of s ≡ whole)) =
+        λ whole q. passed_none _ _ _ (sym outer ∙ q) in
+    let inner : c.read_for-inner.result.region ≢ outside =
+        λ q. c.requires.s_value.1 (sym (ap (λ (k : Chart). k.region) c.read_for-inner.ensures) ∙ q) in
     let s = c.args.s.now in
     let p = c.args.region in
-    let (admitted, counts) = admits c.before.before.before.before.before.before.before.before.before.before _ c.in-Passed.is in
+    let (admitted, counts) = admits _ c.in-Passed.is in
     let same = c.read_for-inner.ensures ∙ ap (λ (c : Chart). read_for c p) (sym counts) in
     let marked = marked-region s p admitted same (ap (λ (c : Chart). length (barriers (reading s c))) same) (sym c.bad_region.ensures ∙ c.if-bad_region.false) in
-    (c.survey_region-in-Passed.ensures.value.1 (inner c.before.before.before.before) ∙ rw (entered-marked _ _ _ (sym marked), same) refl, c.survey_region-in let p = -Passed.ensures.survey) in record { value = p.0; survey = p.1 }
+    (c.survey_region-in-Passed.ensures.value.1 inner ∙ rw (entered-marked _ _ _ (sym marked), same) refl, c.survey_region-in let p = -Passed.ensures.survey) in record { value = p.0; survey = p.1 }

@@ -17,21 +17,21 @@ use Rattle.mark_regions.proofs.Entering.{few, not_none, cut_off, connects}
 use Rattle.answer_constructs.proofs.Nodes.{all-marks}
 use Rattle.answer_masks.proofs.survey_region.Goals as goal
 
--- where the function was called, and what is known of the chart
-is-accepted : (c : goal.After-load_tables-loaded) → Accepted c.args.s.now c.args.chart
-is-accepted c = c.requires.accepted.0
-
 pub load_tables-loaded-requires : goal.load_tables-loaded-requires
 load_tables-loaded-requires c = (c.requires.accepted.0, blank_none, refl)
 
 pub asked-n-requires : goal.asked-n-requires
 asked-n-requires c =
+    let is-accepted : Accepted c.args.s.now c.args.chart =
+        c.requires.accepted.0 in
     let (T, (H, (S, N, Q, none))) = (c.load_tables-loaded.ensures.arranged, (c.load_tables-loaded.ensures.handed, c.load_tables-loaded.ensures.stops)) in
-    record { accepted = (is-accepted c.before, c.requires.both_framed.0, c.requires.both_framed.1); by_index = (_, _, (_, (T, S))) }
+    record { accepted = (is-accepted, c.requires.both_framed.0, c.requires.both_framed.1); by_index = (_, _, (_, (T, S))) }
 
 pub add_ends-total-requires : goal.add_ends-total-requires
 add_ends-total-requires c =
-    let A = is-accepted c.before.before.before in
+    let is-accepted : Accepted c.args.s.now c.args.chart =
+        c.requires.accepted.0 in
+    let A = is-accepted in
     let (T, (H, (S, N, Q, none))) = (c.load_tables-loaded.ensures.arranged, (c.load_tables-loaded.ensures.handed, c.load_tables-loaded.ensures.stops)) in
     (few A N, asked-few c.asked-n.ensures (omega (arith, A.laid.constructs-most)), N.long)
 
@@ -43,13 +43,17 @@ boundaries-requires c =
 
 pub returns-returning-requires : goal.returns-returning-requires
 returns-returning-requires c =
-    let A = is-accepted c.before.before.before.before.before.before.before.before.before.before.before.before.before.before.before in
+    let is-accepted : Accepted c.args.s.now c.args.chart =
+        c.requires.accepted.0 in
+    let A = is-accepted in
     let (T, (H, (S, N, Q, none))) = (c.load_tables-loaded.ensures.arranged, (c.load_tables-loaded.ensures.handed, c.load_tables-loaded.ensures.stops)) in
     let D = c.add_ends-total.ensures in record { n_bound = (asked-few c.asked-n.ensures (omega (arith, A.laid.constructs-most)), D.least, D.most, added-nothing D, c.boundaries.ensures.starts_len, ready H); by_index = (c.requires.both_framed.0.node, c.requires.both_framed.1.node) }
 
 pub conclude-lost-requires : goal.conclude-lost-requires
 conclude-lost-requires c =
-    let A = is-accepted c.before.before.before.before.before.before.before.before.before.before.before.before.before.before.before.before.before.before.before in
+    let is-accepted : Accepted c.args.s.now c.args.chart =
+        c.requires.accepted.0 in
+    let A = is-accepted in
     let (T, (H, (S, N, Q, none))) = (c.load_tables-loaded.ensures.arranged, (c.load_tables-loaded.ensures.handed, c.load_tables-loaded.ensures.stops)) in
     let B = added-barriers N c.requires.both_framed.1.node c.add_ends-total.ensures in
     let (s, d, t) = c.boundaries.ensures.boundaries T.count _ T.split T.begins (standing S (well-formed _ _ A) B) in
@@ -58,7 +62,9 @@ conclude-lost-requires c =
 pub returns-then-refuses : goal.returns-then-refuses
 unfolding checked_by
 returns-then-refuses c =
-    let A = is-accepted c.before.before.before.before.before.before.before.before.before.before.before.before.before.before.before.before.before.before.before.before.before.before in
+    let is-accepted : Accepted c.args.s.now c.args.chart =
+        c.requires.accepted.0 in
+    let A = is-accepted in
     let W = well-formed _ _ A in
     let (T, (H, (S, N, Q, none))) = (c.load_tables-loaded.ensures.arranged, (c.load_tables-loaded.ensures.handed, c.load_tables-loaded.ensures.stops)) in
     let B = added-barriers N c.requires.both_framed.1.node c.add_ends-total.ensures in
@@ -71,7 +77,9 @@ returns-then-refuses c =
 
 pub fill_held-requires : goal.fill_held-requires
 fill_held-requires c =
-    let A = is-accepted c.before.before.before.before.before.before.before.before.before.before.before.before.before.before.before.before.before.before.before.before.before.before.before in
+    let is-accepted : Accepted c.args.s.now c.args.chart =
+        c.requires.accepted.0 in
+    let A = is-accepted in
     let (T, (H, (S, N, Q, none))) = (c.load_tables-loaded.ensures.arranged, (c.load_tables-loaded.ensures.handed, c.load_tables-loaded.ensures.stops)) in
     let D = c.add_ends-total.ensures in
     let B = added-barriers N c.requires.both_framed.1.node D in
@@ -84,7 +92,9 @@ fill_held-requires c =
 pub returns : goal.returns
 unfolding checked_by checked
 returns c =
-    let A = is-accepted c.before.before.before.before.before.before.before.before.before.before.before.before.before.before.before.before.before.before.before.before.before.before.before.before in
+    let is-accepted : Accepted c.args.s.now c.args.chart =
+        c.requires.accepted.0 in
+    let A = is-accepted in
     let W = well-formed _ _ A in
     let (T, (H, (S, N, Q, none))) = (c.load_tables-loaded.ensures.arranged, (c.load_tables-loaded.ensures.handed, c.load_tables-loaded.ensures.stops)) in
     let B = added-barriers N c.requires.both_framed.1.node c.add_ends-total.ensures in

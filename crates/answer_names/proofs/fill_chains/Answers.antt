@@ -14,9 +14,6 @@ use Rattle.answer_names.specs.Names.{Chained}
 use Rattle.answer_names.proofs.Peers.{chains-next}
 use Rattle.answer_names.proofs.fill_chains.Goals as goal
 
-below : (c : goal.In-loop-c) → c.loop-c.c < length (decode c.args.s.now).constructs
-below c = omega (arith, constructs-length _ c.args.chart c.requires.0.laid)
-
 pub loop-c-init : goal.loop-c-init
 loop-c-init c = (omega arith, record { long = c.requires.2; at = λ d l. absurd (omega arith) })
 
@@ -26,8 +23,10 @@ read-construct-requires c = (c.requires.0.laid, omega arith)
 pub mask_at-requires : goal.mask_at-requires
 unfolding parent_of
 mask_at-requires c =
+    let below : c.loop-c.c < length (decode c.args.s.now).constructs =
+        omega (arith, constructs-length _ c.args.chart c.requires.0.laid) in
     index_below (omega (arith, c.requires.0.laid.constructs-most))
-    (subst (Below c.loop-c.c) (sym c.read-construct.ensures.1) (parent-lower _ c.args.chart c.requires.0 c.loop-c.c (below c.before)))
+    (subst (Below c.loop-c.c) (sym c.read-construct.ensures.1) (parent-lower _ c.args.chart c.requires.0 c.loop-c.c below))
 
 pub offset_bounds-given-c : goal.offset_bounds-given-c
 offset_bounds-given-c c = omega arith
@@ -50,7 +49,9 @@ loop-c-smaller c = omega arith
 pub loop-c-preserved : goal.loop-c-preserved
 unfolding parent_of
 loop-c-preserved c =
-    (omega arith, rw (c.mask_at.ensures, c.read-construct.ensures.1) (chains-next _ c.args.chart c.requires.0 c.loop-c.c (below c.before.before.before.before.before) c.requires.1 c.loop-c.invariant.1))
+    let below : c.loop-c.c < length (decode c.args.s.now).constructs =
+        omega (arith, constructs-length _ c.args.chart c.requires.0.laid) in
+    (omega arith, rw (c.mask_at.ensures, c.read-construct.ensures.1) (chains-next _ c.args.chart c.requires.0 c.loop-c.c below c.requires.1 c.loop-c.invariant.1))
 
 pub returns : goal.returns
 returns c =

@@ -15,36 +15,59 @@ pub loop-c-init : goal.loop-c-init
 unfolding mask_of
 loop-c-init c = (omega arith, c.requires.1, refl, λ d l. absurd (omega arith))
 
--- the construct of this turn
-low : (t : goal.In-loop-c) → t.loop-c.c < 48
-low t = omega (arith, t.requires.0)
-
 pub offset_bounds-given-c : goal.offset_bounds-given-c
-offset_bounds-given-c c = omega (arith, low c)
+offset_bounds-given-c c =
+    let low : c.loop-c.c < 48 =
+        omega (arith, c.requires.0) in
+    omega (arith, low)
 
 pub bounds-given-c : goal.bounds-given-c
-bounds-given-c c = low c.before
+bounds-given-c c =
+    let low : c.loop-c.c < 48 =
+        omega (arith, c.requires.0) in
+    low
 
 pub bit-requires : goal.bit-requires
-bit-requires c = omega (arith, low c.before.before)
+bit-requires c =
+    let low : c.loop-c.c < 48 =
+        omega (arith, c.requires.0) in
+    omega (arith, low)
 
 pub offset_bounds-own-c : goal.offset_bounds-own-c
-offset_bounds-own-c c = omega (arith, low c.before.before.before)
+offset_bounds-own-c c =
+    let low : c.loop-c.c < 48 =
+        omega (arith, c.requires.0) in
+    omega (arith, low)
 
 pub bounds-own-c : goal.bounds-own-c
-bounds-own-c c = low c.before.before.before.before
+bounds-own-c c =
+    let low : c.loop-c.c < 48 =
+        omega (arith, c.requires.0) in
+    low
 
 pub offset_bounds-given-c-in-loop-c : goal.offset_bounds-given-c-in-loop-c
-offset_bounds-given-c-in-loop-c c = omega (arith, low c.before.before.before.before)
+offset_bounds-given-c-in-loop-c c =
+    let low : c.loop-c.c < 48 =
+        omega (arith, c.requires.0) in
+    omega (arith, low)
 
 pub bounds-given-c-in-loop-c : goal.bounds-given-c-in-loop-c
-bounds-given-c-in-loop-c c = low c.before.before.before.before
+bounds-given-c-in-loop-c c =
+    let low : c.loop-c.c < 48 =
+        omega (arith, c.requires.0) in
+    low
 
 pub has-requires : goal.has-requires
-has-requires c = omega (arith, low c.before.before.before.before.before)
+has-requires c =
+    let low : c.loop-c.c < 48 =
+        omega (arith, c.requires.0) in
+    omega (arith, low)
 
 pub add_if-all-requires : goal.add_if-all-requires
-add_if-all-requires c = omega (arith, low c.before.before.before.before.before.before)
+add_if-all-requires c =
+    let low : c.loop-c.c < 48 =
+        omega (arith, c.requires.0) in
+    omega (arith, low)
 
 pub overflow_add-c : goal.overflow_add-c
 overflow_add-c c = omega arith
@@ -54,12 +77,14 @@ loop-c-smaller c = omega arith
 
 pub loop-c-preserved : goal.loop-c-preserved
 loop-c-preserved c =
+    let low : c.loop-c.c < 48 =
+        omega (arith, c.requires.0) in
     let given = c.args.given.now in
     let (below, long, all, own) = c.loop-c.invariant in (
       omega arith,
       length-set c.loop-c.own c.loop-c.c _ ∙ long,
       test-next (λ d. has (get_or given d 0) d) c.loop-c.c c.has.ensures all c.add_if-all.ensures,
-      stored (λ d m. m ≡ bit_and (get_or given d 0) (2 ^ d)) c.loop-c.own c.loop-c.c _ (omega (arith, low c.before.before.before.before.before.before.before)) (ap (bit_and (get_or given c.loop-c.c 0)) c.bit.ensures) own,
+      stored (λ d m. m ≡ bit_and (get_or given d 0) (2 ^ d)) c.loop-c.own c.loop-c.c _ (omega (arith, low)) (ap (bit_and (get_or given c.loop-c.c 0)) c.bit.ensures) own,
     )
 
 pub returns : goal.returns

@@ -13,31 +13,36 @@ use Rattle.output.proofs.Outputs.{had-room, kept, put}
 use Rattle.theory_calls.specs.Distances.{distance_byte, distances_result}
 use Rattle.call_distances.proofs.write_distances.Goals as goal
 
--- where the function was called, and for which region
-abbrev R : (c : goal.After-room_for) → Region
-R c = reading c.args.s.now c.args.chart
-
-nodes : (c : goal.After-room_for) → (R c).nodes ≡ c.args.chart.nodes
-nodes c = nodes-length _ c.args.chart c.requires.0.laid
-
-size : (c : goal.After-room_for) → length (distances_result (R c)) ≡ c.args.chart.nodes
-unfolding distances_result
-size c = tab-length (R c).nodes (distance_byte (R c)) ∙ nodes c
-
-answers : (c : goal.After-room_for) → let n = length (distances_result (R c)) in
-    c.room_for.result ≡ written_by (output_rows [] (length c.args.out.now) n []) n
-answers c = rw (size c) c.room_for.ensures
-
 pub fill_distances-requires : goal.fill_distances-requires
 fill_distances-requires c =
     (c.requires.0.laid.nodes-most, (had-room [] [] (length c.args.out.now) c.args.chart.nodes (sym c.room_for.ensures ∙ c.in-Bytes.is)).1)
 
 pub returns-in-Refused : goal.returns-in-Refused
+unfolding distances_result
 returns-in-Refused c =
+    let R : Region =
+        reading c.args.s.now c.args.chart in
+    let nodes : R.nodes ≡ c.args.chart.nodes =
+        nodes-length _ c.args.chart c.requires.0.laid in
+    let size : length (distances_result R) ≡ c.args.chart.nodes =
+        tab-length R.nodes (distance_byte R) ∙ nodes in
+    let answers : let n = length (distances_result R) in
+    c.room_for.result ≡ written_by (output_rows [] (length c.args.out.now) n []) n =
+        rw size c.room_for.ensures in
     let h = c.in-Refused.is in
-    record { result_value = sym h ∙ answers c.before.before.before; out_after = kept _ _ (distances_result (R c.before.before.before)) _ (sym (answers c.before.before.before) ∙ h) }
+    record { result_value = sym h ∙ answers; out_after = kept _ _ (distances_result R) _ (sym answers ∙ h) }
 
 pub returns-in-Bytes : goal.returns-in-Bytes
+unfolding distances_result
 returns-in-Bytes c =
+    let R : Region =
+        reading c.args.s.now c.args.chart in
+    let nodes : R.nodes ≡ c.args.chart.nodes =
+        nodes-length _ c.args.chart c.requires.0.laid in
+    let size : length (distances_result R) ≡ c.args.chart.nodes =
+        tab-length R.nodes (distance_byte R) ∙ nodes in
+    let answers : let n = length (distances_result R) in
+    c.room_for.result ≡ written_by (output_rows [] (length c.args.out.now) n []) n =
+        rw size c.room_for.ensures in
     let h = c.in-Bytes.is in
-    record { result_value = sym h ∙ answers c.before.before.before.before.before.before.before.before.before.before; out_after = c.fill_distances.ensures (R c.before.before.before.before.before.before.before.before.before.before) (nodes c.before.before.before.before.before.before.before.before.before.before) c.load_closed.ensures c.requires.1 ∙ put _ _ (distances_result (R c.before.before.before.before.before.before.before.before.before.before)) _ (sym (answers c.before.before.before.before.before.before.before.before.before.before) ∙ h) }
+    record { result_value = sym h ∙ answers; out_after = c.fill_distances.ensures R nodes c.load_closed.ensures c.requires.1 ∙ put _ _ (distances_result R) _ (sym answers ∙ h) }

@@ -14,29 +14,28 @@ use Rattle.output.specs.Output.{output_rows, written_by}
 use Rattle.output.proofs.Outputs.{had-room, kept, put}
 use Rattle.call_locks.proofs.write_locks.Goals as goal
 
--- where the function was called
--- what is to be written
-abbrev result : (c : goal.After-room_sized) → List ℕ
-result c =
-    locks_result (reading c.args.s.now c.args.chart) c.args.size
-
--- what is said of rows 11 and 21
-answers : (c : goal.After-room_sized) → c.room_sized.result ≡ written_by (output_rows [] (length c.args.out.now) (length (result c)) (size_rows c.args.size)) (length (result c))
-unfolding locks_result
-answers c =
-    let R = reading c.args.s.now c.args.chart in
-    rw (tab-length R.constructs (lock_byte R c.args.size) ∙ constructs-length _ c.args.chart c.requires.0.laid) c.room_sized.ensures
-
 pub put_locks-requires : goal.put_locks-requires
 put_locks-requires c =
     (c.requires.0, c.requires.1, (had-room [] (size_rows c.args.size) (length c.args.out.now) _ (sym c.room_sized.ensures ∙ c.in-Bytes.is)).1)
 
 pub returns-in-Refused : goal.returns-in-Refused
+unfolding locks_result
 returns-in-Refused c =
+    let result : List ℕ =
+        locks_result (reading c.args.s.now c.args.chart) c.args.size in
+    let answers : c.room_sized.result ≡ written_by (output_rows [] (length c.args.out.now) (length result) (size_rows c.args.size)) (length result) =
+        let R = reading c.args.s.now c.args.chart in
+    rw (tab-length R.constructs (lock_byte R c.args.size) ∙ constructs-length _ c.args.chart c.requires.0.laid) c.room_sized.ensures in
     let h = c.in-Refused.is in
-    record { result_value = sym h ∙ answers c.before.before.before; out_after = kept _ _ (result c.before.before.before) c.args.out.now (sym (answers c.before.before.before) ∙ h) }
+    record { result_value = sym h ∙ answers; out_after = kept _ _ result c.args.out.now (sym answers ∙ h) }
 
 pub returns-in-Bytes : goal.returns-in-Bytes
+unfolding locks_result
 returns-in-Bytes c =
+    let result : List ℕ =
+        locks_result (reading c.args.s.now c.args.chart) c.args.size in
+    let answers : c.room_sized.result ≡ written_by (output_rows [] (length c.args.out.now) (length result) (size_rows c.args.size)) (length result) =
+        let R = reading c.args.s.now c.args.chart in
+    rw (tab-length R.constructs (lock_byte R c.args.size) ∙ constructs-length _ c.args.chart c.requires.0.laid) c.room_sized.ensures in
     let h = c.in-Bytes.is in
-    record { result_value = sym h ∙ answers c.before.before.before.before.before.before.before; out_after = c.put_locks.ensures ∙ put _ _ (result c.before.before.before.before.before.before.before) c.args.out.now (sym (answers c.before.before.before.before.before.before.before) ∙ h) }
+    record { result_value = sym h ∙ answers; out_after = c.put_locks.ensures ∙ put _ _ result c.args.out.now (sym answers ∙ h) }

@@ -19,49 +19,66 @@ use Rattle.call_races.proofs.Outcome.{list-refused, list-passed}
 use borrow.Author.Rules.{rules}
 use Rattle.call_races.proofs.write_races.Goals as goal
 
--- the region that the chart is read for
-abbrev read : goal.Start → Region
-read e = reading e.args.s.now e.args.chart
-
 pub returns-then-bad_accesses : goal.returns-then-bad_accesses
-returns-then-bad_accesses c = let p = list-refused (read c.before.before.before.before.before) c.args.accesses.now c.args.out.now (sym c.bad_accesses.ensures ∙ c.if-bad_accesses.true) in record { result_value = p.0; out_after = p.1 }
-
--- the list is not refused
-good : (c : goal.Else-bad_accesses) → bad_accesses (read c.before.before.before.before.before) c.args.accesses.now ≡ false
-good c = sym c.bad_accesses.ensures ∙ c.if-bad_accesses.false
-
-few : (c : goal.Else-bad_accesses) → length c.args.accesses.now / 4 ≤ 1024
-unfolding total
-few c = few-accesses (read c.before.before.before.before.before) c.args.accesses.now (good c)
+returns-then-bad_accesses c =
+    let read : Region =
+        reading c.args.s.now c.args.chart in
+    let p = list-refused read c.args.accesses.now c.args.out.now (sym c.bad_accesses.ensures ∙ c.if-bad_accesses.true) in record { result_value = p.0; out_after = p.1 }
 
 pub overflow_mul-n : goal.overflow_mul-n
-overflow_mul-n c = let n = length c.args.accesses.now / 4 in omega (arith, few-pairs n (few c))
-
--- what is said of row 11
-answers : (r : goal.After-room_for) → let size = length (races (read r.before.before.before.before.before.before) r.args.accesses.now) in
-    r.room_for.result ≡ written_by (output_rows [] (length r.args.out.now) size []) size
-unfolding pair_count total
-answers r = rw (races-length (read r.before.before.before.before.before.before) r.args.accesses.now) r.room_for.ensures
+unfolding total
+overflow_mul-n c =
+    let read : Region =
+        reading c.args.s.now c.args.chart in
+    let good : bad_accesses read c.args.accesses.now ≡ false =
+        sym c.bad_accesses.ensures ∙ c.if-bad_accesses.false in
+    let few : length c.args.accesses.now / 4 ≤ 1024 =
+        few-accesses read c.args.accesses.now good in
+    let n = length c.args.accesses.now / 4 in omega (arith, few-pairs n few)
 
 pub put_races-requires : goal.put_races-requires
+unfolding pair_count total
 put_races-requires c =
+    let read : Region =
+        reading c.args.s.now c.args.chart in
+    let good : bad_accesses read c.args.accesses.now ≡ false =
+        sym c.bad_accesses.ensures ∙ c.if-bad_accesses.false in
+    let answers : let size = length (races read c.args.accesses.now) in
+    c.room_for.result ≡ written_by (output_rows [] (length c.args.out.now) size []) size =
+        rw (races-length read c.args.accesses.now) c.room_for.ensures in
     (
       c.requires.0,
       c.requires.1,
-      good c.before.before.before.before.before,
-      omega (arith, races-length (read c.before.before.before.before.before.before.before.before.before.before) c.args.accesses.now, (had-room [] [] (length c.args.out.now) _ (sym (answers c.before.before.before.before) ∙ c.in-Bytes.is)).1),
+      good,
+      omega (arith, races-length read c.args.accesses.now, (had-room [] [] (length c.args.out.now) _ (sym answers ∙ c.in-Bytes.is)).1),
     )
 
 pub returns-in-Refused : goal.returns-in-Refused
+unfolding pair_count total
 returns-in-Refused c =
+    let read : Region =
+        reading c.args.s.now c.args.chart in
+    let good : bad_accesses read c.args.accesses.now ≡ false =
+        sym c.bad_accesses.ensures ∙ c.if-bad_accesses.false in
+    let answers : let size = length (races read c.args.accesses.now) in
+    c.room_for.result ≡ written_by (output_rows [] (length c.args.out.now) size []) size =
+        rw (races-length read c.args.accesses.now) c.room_for.ensures in
     let list = c.args.accesses.now in
     let h = c.in-Refused.is in
-    let p = list-passed (read c.before.before.before.before.before.before.before.before.before) list c.args.out.now (good c.before.before.before.before) in
-    record { result_value = sym h ∙ answers c.before.before.before ∙ sym p.0; out_after = kept _ _ (races (read c.before.before.before.before.before.before.before.before.before) list) _ (sym (answers c.before.before.before) ∙ h) ∙ sym p.1 }
+    let p = list-passed read list c.args.out.now good in
+    record { result_value = sym h ∙ answers ∙ sym p.0; out_after = kept _ _ (races read list) _ (sym answers ∙ h) ∙ sym p.1 }
 
 pub returns-in-Bytes : goal.returns-in-Bytes
+unfolding pair_count total
 returns-in-Bytes c =
+    let read : Region =
+        reading c.args.s.now c.args.chart in
+    let good : bad_accesses read c.args.accesses.now ≡ false =
+        sym c.bad_accesses.ensures ∙ c.if-bad_accesses.false in
+    let answers : let size = length (races read c.args.accesses.now) in
+    c.room_for.result ≡ written_by (output_rows [] (length c.args.out.now) size []) size =
+        rw (races-length read c.args.accesses.now) c.room_for.ensures in
     let list = c.args.accesses.now in
     let h = c.in-Bytes.is in
-    let p = list-passed (read c.before.before.before.before.before.before.before.before.before.before.before.before.before) list c.args.out.now (good c.before.before.before.before.before.before.before.before) in
-    record { result_value = sym h ∙ answers c.before.before.before.before.before.before.before ∙ sym p.0; out_after = c.put_races.ensures ∙ put _ _ (races (read c.before.before.before.before.before.before.before.before.before.before.before.before.before) list) _ (sym (answers c.before.before.before.before.before.before.before) ∙ h) ∙ sym p.1 }
+    let p = list-passed read list c.args.out.now good in
+    record { result_value = sym h ∙ answers ∙ sym p.0; out_after = c.put_races.ensures ∙ put _ _ (races read list) _ (sym answers ∙ h) ∙ sym p.1 }

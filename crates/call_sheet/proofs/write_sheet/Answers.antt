@@ -16,19 +16,6 @@ use Rattle.output.specs.Output.{output_rows, written_by}
 use Rattle.output.proofs.Outputs.{had-room, kept, put}
 use Rattle.call_sheet.proofs.write_sheet.Goals as goal
 
--- where the function was called
--- what is to be written
-abbrev result : (c : goal.After-room_sized) → List ℕ
-result c =
-    let R = reading c.args.s.now c.args.chart in
-    sheet R (answer_for R c.args.size)
-
--- what is said of rows 11 and 21
-answers : (c : goal.After-room_sized) → c.room_sized.result ≡ written_by (output_rows [] (length c.args.out.now) (length (result c)) (size_rows c.args.size)) (length (result c))
-answers c =
-    let R = reading c.args.s.now c.args.chart in
-    rw (sheet-length R (answer_for R c.args.size) ∙ ap (λ (k : ℕ). k * k) (nodes-length _ c.args.chart c.requires.0.laid)) c.room_sized.ensures
-
 pub overflow_mul-n : goal.overflow_mul-n
 overflow_mul-n c = omega (arith, square c.requires.0.laid.nodes-most)
 
@@ -38,10 +25,22 @@ fill_sheet-requires c =
 
 pub returns-in-Refused : goal.returns-in-Refused
 returns-in-Refused c =
+    let result : List ℕ =
+        let R = reading c.args.s.now c.args.chart in
+    sheet R (answer_for R c.args.size) in
+    let answers : c.room_sized.result ≡ written_by (output_rows [] (length c.args.out.now) (length result) (size_rows c.args.size)) (length result) =
+        let R = reading c.args.s.now c.args.chart in
+    rw (sheet-length R (answer_for R c.args.size) ∙ ap (λ (k : ℕ). k * k) (nodes-length _ c.args.chart c.requires.0.laid)) c.room_sized.ensures in
     let h = c.in-Refused.is in
-    record { result_value = sym h ∙ answers c.before.before.before; out_after = kept _ _ (result c.before.before.before) c.args.out.now (sym (answers c.before.before.before) ∙ h) }
+    record { result_value = sym h ∙ answers; out_after = kept _ _ result c.args.out.now (sym answers ∙ h) }
 
 pub returns-in-Bytes : goal.returns-in-Bytes
 returns-in-Bytes c =
+    let result : List ℕ =
+        let R = reading c.args.s.now c.args.chart in
+    sheet R (answer_for R c.args.size) in
+    let answers : c.room_sized.result ≡ written_by (output_rows [] (length c.args.out.now) (length result) (size_rows c.args.size)) (length result) =
+        let R = reading c.args.s.now c.args.chart in
+    rw (sheet-length R (answer_for R c.args.size) ∙ ap (λ (k : ℕ). k * k) (nodes-length _ c.args.chart c.requires.0.laid)) c.room_sized.ensures in
     let h = c.in-Bytes.is in
-    record { result_value = sym h ∙ answers c.before.before.before.before.before.before.before; out_after = c.fill_sheet.ensures ∙ put _ _ (result c.before.before.before.before.before.before.before) c.args.out.now (sym (answers c.before.before.before.before.before.before.before) ∙ h) }
+    record { result_value = sym h ∙ answers; out_after = c.fill_sheet.ensures ∙ put _ _ result c.args.out.now (sym answers ∙ h) }

@@ -16,16 +16,23 @@ returns-in-Finished c =
     row-tells (reading c.args.s.now c.args.chart) c.args.size c.args.trace.now c.args.a c.args.b c.replay_rows.ensures.result_value
     (ap is_ended c.in-Finished.is) c.replay_rows.ensures.fact.marks (omega (arith, n, c.requires.3))
 
--- any other end
-other : (o : goal.After-replay_rows) → is_ended o.replay_rows.result ≡ false
-    → false ≡ is_witness (reading o.args.s.now o.args.chart) o.args.size o.args.trace.now o.args.a o.args.b
-other o h = not-ended (reading o.args.s.now o.args.chart) o.args.size o.args.trace.now o.args.a o.args.b o.replay_rows.ensures.result_value h
-
 pub returns-in-Unfinished : goal.returns-in-Unfinished
-returns-in-Unfinished c = other c.before.before.before (ap is_ended c.in-Unfinished.is)
+returns-in-Unfinished c =
+    let other : is_ended c.replay_rows.result ≡ false
+    → false ≡ is_witness (reading c.args.s.now c.args.chart) c.args.size c.args.trace.now c.args.a c.args.b =
+        λ h. not-ended (reading c.args.s.now c.args.chart) c.args.size c.args.trace.now c.args.a c.args.b c.replay_rows.ensures.result_value h in
+    other (ap is_ended c.in-Unfinished.is)
 
 pub returns-in-Forbidden : goal.returns-in-Forbidden
-returns-in-Forbidden c = other c.before.before.before (ap is_ended c.in-Forbidden.is)
+returns-in-Forbidden c =
+    let other : is_ended c.replay_rows.result ≡ false
+    → false ≡ is_witness (reading c.args.s.now c.args.chart) c.args.size c.args.trace.now c.args.a c.args.b =
+        λ h. not-ended (reading c.args.s.now c.args.chart) c.args.size c.args.trace.now c.args.a c.args.b c.replay_rows.ensures.result_value h in
+    other (ap is_ended c.in-Forbidden.is)
 
 pub returns-in-Refused : goal.returns-in-Refused
-returns-in-Refused c = other c.before.before.before (ap is_ended c.in-Refused.is)
+returns-in-Refused c =
+    let other : is_ended c.replay_rows.result ≡ false
+    → false ≡ is_witness (reading c.args.s.now c.args.chart) c.args.size c.args.trace.now c.args.a c.args.b =
+        λ h. not-ended (reading c.args.s.now c.args.chart) c.args.size c.args.trace.now c.args.a c.args.b c.replay_rows.ensures.result_value h in
+    other (ap is_ended c.in-Refused.is)

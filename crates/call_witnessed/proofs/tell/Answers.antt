@@ -20,13 +20,12 @@ use Rattle.call_witnessed.proofs.tell.Goals as goal
 pub bad_node-requires : goal.bad_node-requires
 bad_node-requires c = (c.requires, well-formed _ c.args.chart c.requires)
 
-abbrev R : goal.After-bad_node → Region
-R c = reading c.args.s.now c.args.chart
-
 pub returns-then-bad_node : goal.returns-then-bad_node
 unfolding answered_by numbers_row first_of
 returns-then-bad_node c =
-    rw (or_left (bad_number (R c.before) c.args.a) (bad_number (R c.before) c.args.b) (sym c.bad_node.ensures ∙ c.if-bad_node.true))
+    let R : Region =
+        reading c.args.s.now c.args.chart in
+    rw (or_left (bad_number R c.args.a) (bad_number R c.args.b) (sym c.bad_node.ensures ∙ c.if-bad_node.true))
 
 pub bad_node-requires-2 : goal.bad_node-requires-2
 bad_node-requires-2 c = (c.requires, well-formed _ c.args.chart c.requires)
@@ -34,35 +33,51 @@ bad_node-requires-2 c = (c.requires, well-formed _ c.args.chart c.requires)
 pub returns-then-bad_node-2 : goal.returns-then-bad_node-2
 unfolding answered_by numbers_row first_of
 returns-then-bad_node-2 c =
-    rw (or_right (bad_number (R c.before.before.before) c.args.a) (bad_number (R c.before.before.before) c.args.b) (sym c.bad_node-2.ensures ∙ c.if-bad_node-2.true))
+    let R : Region =
+        reading c.args.s.now c.args.chart in
+    rw (or_right (bad_number R c.args.a) (bad_number R c.args.b) (sym c.bad_node-2.ensures ∙ c.if-bad_node-2.true))
 
 -- past the tests both numbers are those of nodes that a claim may name, and the trace decides
-module _ (c : goal.Else-bad_node-2) where
-
-  good-b : bad_number (R c.before.before.before) c.args.b ≡ false
-  good-b = sym c.bad_node-2.ensures ∙ c.if-bad_node-2.false
-
-  numbers : (bad_number (R c.before.before.before) c.args.a || bad_number (R c.before.before.before) c.args.b) ≡ false
-  numbers = neither-or (bad_number (R c.before.before.before) c.args.a) (bad_number (R c.before.before.before) c.args.b) (sym c.bad_node.ensures ∙ c.if-bad_node.false) good-b
-
-  below-b : c.args.b < c.args.chart.nodes
-  below-b = omega (arith, (good-number (R c.before.before.before) c.args.b (well-formed _ c.args.chart c.requires) good-b).0, nodes-length _ c.args.chart c.requires.laid)
-
 pub returns-then-bad_trace : goal.returns-then-bad_trace
 unfolding answered_by numbers_row first_of
-returns-then-bad_trace c = rw (numbers c.before.before, ← c.bad_trace.ensures, c.if-bad_trace.true)
+returns-then-bad_trace c =
+    let R : Region =
+        reading c.args.s.now c.args.chart in
+    let good-b : bad_number R c.args.b ≡ false =
+        sym c.bad_node-2.ensures ∙ c.if-bad_node-2.false in
+    let numbers : (bad_number R c.args.a || bad_number R c.args.b) ≡ false =
+        neither-or (bad_number R c.args.a) (bad_number R c.args.b) (sym c.bad_node.ensures ∙ c.if-bad_node.false) good-b in
+    rw (numbers, ← c.bad_trace.ensures, c.if-bad_trace.true)
 
 pub is_witness-requires : goal.is_witness-requires
 is_witness-requires c =
+    let R : Region =
+        reading c.args.s.now c.args.chart in
+    let good-b : bad_number R c.args.b ≡ false =
+        sym c.bad_node-2.ensures ∙ c.if-bad_node-2.false in
+    let below-b : c.args.b < c.args.chart.nodes =
+        omega (arith, (good-number R c.args.b (well-formed _ c.args.chart c.requires) good-b).0, nodes-length _ c.args.chart c.requires.laid) in
     let (least, most) = whole-trace _ _ (sym c.bad_trace.ensures ∙ c.if-bad_trace.false) in
-    (c.requires, least, most, below-b c.before.before)
+    (c.requires, least, most, below-b)
 
 pub returns-then-is_witness : goal.returns-then-is_witness
 unfolding answered_by numbers_row first_of told
 returns-then-is_witness c =
-    rw (numbers c.before.before.before.before, ← c.bad_trace.ensures, c.if-bad_trace.false, ← c.is_witness.ensures, c.if-is_witness.true)
+    let R : Region =
+        reading c.args.s.now c.args.chart in
+    let good-b : bad_number R c.args.b ≡ false =
+        sym c.bad_node-2.ensures ∙ c.if-bad_node-2.false in
+    let numbers : (bad_number R c.args.a || bad_number R c.args.b) ≡ false =
+        neither-or (bad_number R c.args.a) (bad_number R c.args.b) (sym c.bad_node.ensures ∙ c.if-bad_node.false) good-b in
+    rw (numbers, ← c.bad_trace.ensures, c.if-bad_trace.false, ← c.is_witness.ensures, c.if-is_witness.true)
 
 pub returns : goal.returns
 unfolding answered_by numbers_row first_of told
 returns c =
-    rw (numbers c.before.before.before.before, ← c.bad_trace.ensures, c.if-bad_trace.false, ← c.is_witness.ensures, c.if-is_witness.false)
+    let R : Region =
+        reading c.args.s.now c.args.chart in
+    let good-b : bad_number R c.args.b ≡ false =
+        sym c.bad_node-2.ensures ∙ c.if-bad_node-2.false in
+    let numbers : (bad_number R c.args.a || bad_number R c.args.b) ≡ false =
+        neither-or (bad_number R c.args.a) (bad_number R c.args.b) (sym c.bad_node.ensures ∙ c.if-bad_node.false) good-b in
+    rw (numbers, ← c.bad_trace.ensures, c.if-bad_trace.false, ← c.is_witness.ensures, c.if-is_witness.false)

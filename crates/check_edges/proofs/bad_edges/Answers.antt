@@ -18,18 +18,19 @@ pub returns-then-bad_scopes : goal.returns-then-bad_scopes
 unfolding bad_edges
 returns-then-bad_scopes c = rw (sym c.bad_scopes.ensures ∙ c.if-bad_scopes.true)
 
--- the edges are in order but for sections
-passed : (c : goal.Else-bad_scopes) → let D = decode c.args.s.now in
-    any (length D.edges) (bad_edge_at D) ≡ false
-passed c = sym c.bad_scopes.ensures ∙ c.if-bad_scopes.false
-
 pub returns-then-not-occurs : goal.returns-then-not-occurs
 unfolding bad_edges
 returns-then-not-occurs c =
+    let passed : let D = decode c.args.s.now in
+    any (length D.edges) (bad_edge_at D) ≡ false =
+        sym c.bad_scopes.ensures ∙ c.if-bad_scopes.false in
     let s = c.args.s.now in
-    rw (passed c.before.before) (sym (no_joins (decode s) (sym c.occurs.ensures ∙ not-true _ c.if-not-occurs.true)))
+    rw passed (sym (no_joins (decode s) (sym c.occurs.ensures ∙ not-true _ c.if-not-occurs.true)))
 
 pub returns : goal.returns
 unfolding bad_edges
 returns c =
-    rw (passed c.before.before.before) c.joins_sections.ensures
+    let passed : let D = decode c.args.s.now in
+    any (length D.edges) (bad_edge_at D) ≡ false =
+        sym c.bad_scopes.ensures ∙ c.if-bad_scopes.false in
+    rw passed c.joins_sections.ensures

@@ -11,20 +11,22 @@ use Rattle.theory_listing.specs.Grammar.{listed}
 use Rattle.theory_listing.specs.Call.{block_rows, listing_bytes, listing_rows, listing_written}
 use Rattle.print_listing.proofs.show.Goals as goal
 
--- the length that was returned, of bytes that there was room for
-room : (z : goal.In-Bytes-2) → z.in-Bytes.size ≤ 3120
-unfolding listing_written listing_rows
-room z =
-    let text = z.args.text.now in
-    let r = had-room (block_rows (listed text)) [] 3120 (length (listing_bytes text)) (sym z.listing.ensures.value ∙ z.in-Bytes.is) in
-    omega (arith, r.0, r.1)
-
 pub slice_bounds-chart-end : goal.slice_bounds-chart-end
+unfolding listing_written listing_rows
 slice_bounds-chart-end c =
+    let room : c.in-Bytes.size ≤ 3120 =
+        let text = c.args.text.now in
+    let r = had-room (block_rows (listed text)) [] 3120 (length (listing_bytes text)) (sym c.listing.ensures.value ∙ c.in-Bytes.is) in
+    omega (arith, r.0, r.1) in
     let long : length c.listing.new.out ≡ 3120 = search rules in
-    omega (arith, room c.before, long)
+    omega (arith, room, long)
 
 pub slice_bounds-print-end : goal.slice_bounds-print-end
+unfolding listing_written listing_rows
 slice_bounds-print-end c =
+    let room : c.in-Bytes.size ≤ 3120 =
+        let text = c.args.text.now in
+    let r = had-room (block_rows (listed text)) [] 3120 (length (listing_bytes text)) (sym c.listing.ensures.value ∙ c.in-Bytes.is) in
+    omega (arith, r.0, r.1) in
     let long : length c.listing.new.out ≡ 3120 = search rules in
-    omega (arith, room c.before.before, long, length-take c.in-Bytes.size c.listing.new.out)
+    omega (arith, room, long, length-take c.in-Bytes.size c.listing.new.out)

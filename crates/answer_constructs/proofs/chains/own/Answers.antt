@@ -13,24 +13,21 @@ use Rattle.chart.specs.Scope.{single_byte, ordered_byte, section_byte}
 use Rattle.answer_constructs.specs.Chains.{lasting_bit, own_mask}
 use Rattle.answer_constructs.proofs.chains.own.Goals as goal
 
--- the constructs picked, by the kind
-given : (p : goal.After-pick-asked) → p.pick-given.result ≡ cond (eqb p.args.construct.kind ordered_byte) (p.args.construct.parent % 64) p.args.c
-given p = p.pick-given.ensures ∙ ap (λ (w : ℕ). cond (eqb p.args.construct.kind ordered_byte) (w % 64) p.args.c) p.wide-parent.ensures.0
-
-asked : (p : goal.After-pick-asked) → p.pick-asked.result ≡ cond (eqb p.args.construct.kind single_byte) p.args.c (p.args.construct.parent % 64)
-asked p = p.pick-asked.ensures ∙ ap (λ (w : ℕ). cond (eqb p.args.construct.kind single_byte) p.args.c (w % 64)) p.wide-parent.ensures.0
-
 below : (b : Bool) (m n : ℕ) → m < 64 → n < 64 → cond b m n < 64
 below true m n h l = h
 below false m n h l = l
 
 pub lasting-lasts-requires : goal.lasting-lasts-requires
 lasting-lasts-requires c =
+    let given : c.pick-given.result ≡ cond (eqb c.args.construct.kind ordered_byte) (c.args.construct.parent % 64) c.args.c =
+        c.pick-given.ensures ∙ ap (λ (w : ℕ). cond (eqb c.args.construct.kind ordered_byte) (w % 64) c.args.c) c.wide-parent.ensures.0 in
+    let asked : c.pick-asked.result ≡ cond (eqb c.args.construct.kind single_byte) c.args.c (c.args.construct.parent % 64) =
+        c.pick-asked.ensures ∙ ap (λ (w : ℕ). cond (eqb c.args.construct.kind single_byte) c.args.c (w % 64)) c.wide-parent.ensures.0 in
     let k = c.args.construct.kind in
     let p = c.args.construct.parent % 64 in
     let d = c.args.c in (
-      omega (arith, given c, below (eqb k ordered_byte) p d (omega arith) (omega (arith, c.requires.0))),
-      omega (arith, asked c, below (eqb k single_byte) d p (omega (arith, c.requires.0)) (omega arith)),
+      omega (arith, given, below (eqb k ordered_byte) p d (omega arith) (omega (arith, c.requires.0))),
+      omega (arith, asked, below (eqb k single_byte) d p (omega (arith, c.requires.0)) (omega arith)),
     )
 
 -- the bit of a kind that may last
@@ -58,7 +55,11 @@ returns-then-kind-eq-MASTER c = rw (eq-eqb _ _ c.if-kind-eq-MASTER.true)
 
 pub returns-then-may_last : goal.returns-then-may_last
 returns-then-may_last c =
-    lasts-own _ _ _ _ _ _ _ _ (given c.before.before.before.before) (asked c.before.before.before.before) c.requires.1 c.requires.2 (sym c.may_last.ensures ∙ c.if-may_last.true) c.lasting-lasts.ensures
+    let given : c.pick-given.result ≡ cond (eqb c.args.construct.kind ordered_byte) (c.args.construct.parent % 64) c.args.c =
+        c.pick-given.ensures ∙ ap (λ (w : ℕ). cond (eqb c.args.construct.kind ordered_byte) (w % 64) c.args.c) c.wide-parent.ensures.0 in
+    let asked : c.pick-asked.result ≡ cond (eqb c.args.construct.kind single_byte) c.args.c (c.args.construct.parent % 64) =
+        c.pick-asked.ensures ∙ ap (λ (w : ℕ). cond (eqb c.args.construct.kind single_byte) c.args.c (w % 64)) c.wide-parent.ensures.0 in
+    lasts-own _ _ _ _ _ _ _ _ given asked c.requires.1 c.requires.2 (sym c.may_last.ensures ∙ c.if-may_last.true) c.lasting-lasts.ensures
 
 pub returns : goal.returns
 unfolding own_mask

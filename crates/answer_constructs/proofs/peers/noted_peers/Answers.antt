@@ -17,11 +17,11 @@ offset_bounds-known-c c = omega (arith, c.requires.0.constructs-most, c.requires
 pub bounds-known-c : goal.bounds-known-c
 bounds-known-c c = omega (arith, c.requires.0.constructs-most, c.requires.1)
 
-below : (e : goal.Start) → e.args.c < length (decode e.args.s.now).constructs
-below e = omega (arith, constructs-length _ e.args.chart e.requires.0, e.requires.1)
-
 pub returns-then-noted-ne0 : goal.returns-then-noted-ne0
-returns-then-noted-ne0 c = (known-there _ c.requires.2 c.args.c (below c.before.before.before.before) c.if-noted-ne0.true, c.requires.2)
+returns-then-noted-ne0 c =
+    let below : c.args.c < length (decode c.args.s.now).constructs =
+        omega (arith, constructs-length _ c.args.chart c.requires.0, c.requires.1) in
+    (known-there _ c.requires.2 c.args.c below c.if-noted-ne0.true, c.requires.2)
 
 pub returns : goal.returns
 returns c =

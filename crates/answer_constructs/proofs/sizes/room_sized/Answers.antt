@@ -11,16 +11,14 @@ use Rattle.output.specs.Output.{output_rows}
 use Rattle.output.proofs.Outputs.{room-refused, room-passed, refused, passed}
 use Rattle.answer_constructs.proofs.sizes.room_sized.Goals as goal
 
--- where there is room, the size decides
-sized : (c : goal.After-bad_size) → let e = c.args in
-    (first_of (output_rows [] e.room e.bytes (size_rows e.size)) ≡ cond c.bad_size.result (some 21) none) × (e.bytes ≡ c.in-Bytes.count)
-sized c =
-    let e = c.args in
-    let (p, q) = room-passed e.room e.bytes (size_rows e.size) (sym c.room_for.ensures ∙ c.in-Bytes.is) in
-    (p ∙ c.bad_size.ensures, q)
-
 pub returns-then-bad_size : goal.returns-then-bad_size
-returns-then-bad_size c = (refused _ _ [] [] (rw c.if-bad_size.true at (sized c.before).0)).0
+returns-then-bad_size c =
+    let sized : let e = c.args in
+    (first_of (output_rows [] e.room e.bytes (size_rows e.size)) ≡ cond c.bad_size.result (some 21) none) × (e.bytes ≡ c.in-Bytes.count) =
+        let e = c.args in
+    let (p, q) = room-passed e.room e.bytes (size_rows e.size) (sym c.room_for.ensures ∙ c.in-Bytes.is) in
+    (p ∙ c.bad_size.ensures, q) in
+    (refused _ _ [] [] (rw c.if-bad_size.true at sized.0)).0
 
 pub returns-in-Refused : goal.returns-in-Refused
 returns-in-Refused c =
@@ -28,4 +26,10 @@ returns-in-Refused c =
     (refused _ _ [] [] (room-refused e.room e.bytes (size_rows e.size) (sym c.room_for.ensures ∙ c.in-Refused.is))).0
 
 pub returns-else-bad_size : goal.returns-else-bad_size
-returns-else-bad_size c = let (p, q) = sized c.before in (passed _ _ [] [] q (rw c.if-bad_size.false at p)).0
+returns-else-bad_size c =
+    let sized : let e = c.args in
+    (first_of (output_rows [] e.room e.bytes (size_rows e.size)) ≡ cond c.bad_size.result (some 21) none) × (e.bytes ≡ c.in-Bytes.count) =
+        let e = c.args in
+    let (p, q) = room-passed e.room e.bytes (size_rows e.size) (sym c.room_for.ensures ∙ c.in-Bytes.is) in
+    (p ∙ c.bad_size.ensures, q) in
+    let (p, q) = sized in (passed _ _ [] [] q (rw c.if-bad_size.false at p)).0

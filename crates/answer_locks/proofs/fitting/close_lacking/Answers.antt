@@ -15,21 +15,29 @@ use Rattle.answer_locks.proofs.fitting.close_lacking.Goals as goal
 pub loop-x-init : goal.loop-x-init
 loop-x-init c = (omega arith, c.requires.1, λ y l. absurd (omega arith))
 
--- the node of this turn
-low : (t : goal.In-loop-x) → t.loop-x.x < 192
-low t = omega (arith, t.requires.0)
-
 pub bounds-closed-x : goal.bounds-closed-x
-bounds-closed-x c = low c.before
+bounds-closed-x c =
+    let low : c.loop-x.x < 192 =
+        omega (arith, c.requires.0) in
+    low
 
 pub offset_bounds-marks-x : goal.offset_bounds-marks-x
-offset_bounds-marks-x c = omega (arith, low c.before.before)
+offset_bounds-marks-x c =
+    let low : c.loop-x.x < 192 =
+        omega (arith, c.requires.0) in
+    omega (arith, low)
 
 pub bounds-marks-x : goal.bounds-marks-x
-bounds-marks-x c = low c.before.before
+bounds-marks-x c =
+    let low : c.loop-x.x < 192 =
+        omega (arith, c.requires.0) in
+    low
 
 pub bounds-shut-x : goal.bounds-shut-x
-bounds-shut-x c = low c.before.before.before.before.before
+bounds-shut-x c =
+    let low : c.loop-x.x < 192 =
+        omega (arith, c.requires.0) in
+    low
 
 pub overflow_add-x : goal.overflow_add-x
 overflow_add-x c = omega arith
@@ -39,11 +47,13 @@ loop-x-smaller c = omega arith
 
 pub loop-x-preserved : goal.loop-x-preserved
 loop-x-preserved c =
+    let low : c.loop-x.x < 192 =
+        omega (arith, c.requires.0) in
     let e = c.args in (
       omega arith,
       length-set c.loop-x.shut c.loop-x.x _ ∙ c.loop-x.invariant.1,
       stored (λ y v. eqb v 0 ≡ (eqb (get_or e.closed.now y 0) 0 && not (lacking e.sets (get_or (held_in e.marks.now) y 0)))) c.loop-x.shut c.loop-x.x _
-          (omega (arith, low c.before.before.before.before.before)) c.shut_flag.ensures c.loop-x.invariant.2,
+          (omega (arith, low)) c.shut_flag.ensures c.loop-x.invariant.2,
     )
 
 pub returns : goal.returns

@@ -17,20 +17,29 @@ profile_of-requires c = omega arith
 pub loop-x-init : goal.loop-x-init
 loop-x-init c = (omega arith, λ names N. searched-none _ _)
 
-low : (t : goal.In-loop-x) → t.loop-x.x < 192
-low t = omega (arith, t.requires.0)
-
 pub profile_of-requires-in-loop-x : goal.profile_of-requires-in-loop-x
-profile_of-requires-in-loop-x c = low c
+profile_of-requires-in-loop-x c =
+    let low : c.loop-x.x < 192 =
+        omega (arith, c.requires.0) in
+    low
 
 pub bounds-closed-x : goal.bounds-closed-x
-bounds-closed-x c = low c.before.before
+bounds-closed-x c =
+    let low : c.loop-x.x < 192 =
+        omega (arith, c.requires.0) in
+    low
 
 pub offset_bounds-around-x : goal.offset_bounds-around-x
-offset_bounds-around-x c = omega (arith, low c.before.before.before)
+offset_bounds-around-x c =
+    let low : c.loop-x.x < 192 =
+        omega (arith, c.requires.0) in
+    omega (arith, low)
 
 pub bounds-around-x : goal.bounds-around-x
-bounds-around-x c = low c.before.before.before.before
+bounds-around-x c =
+    let low : c.loop-x.x < 192 =
+        omega (arith, c.requires.0) in
+    low
 
 pub try_node-tried-requires : goal.try_node-tried-requires
 try_node-tried-requires c = tt

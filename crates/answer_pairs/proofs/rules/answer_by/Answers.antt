@@ -16,13 +16,14 @@ returns-then-sets-eq0 c =
     let s = c.args in
     c.ruled_by.ensures ∙ sym (sized-by s.sets s.x s.y c.if-sets.false (lacks-none (bit_or s.x.held s.y.held) c.if-sets-eq0.true))
 
--- the team has two threads
-two : (c : goal.After-common) → c.args.sets.alone ≡ false
-two c = c.if-sets.false
-
 pub returns-then-common : goal.returns-then-common
-returns-then-common c = sym (sized-by _ _ _ (two c.before) (sym c.common.ensures ∙ c.if-common.true))
+returns-then-common c =
+    let two : c.args.sets.alone ≡ false =
+        c.if-sets.false in
+    sym (sized-by _ _ _ two (sym c.common.ensures ∙ c.if-common.true))
 
 pub returns : goal.returns
 returns c =
-    c.ruled_by-2.ensures ∙ sym (sized-by _ _ _ (two c.before.before) (sym c.common.ensures ∙ c.if-common.false))
+    let two : c.args.sets.alone ≡ false =
+        c.if-sets.false in
+    c.ruled_by-2.ensures ∙ sym (sized-by _ _ _ two (sym c.common.ensures ∙ c.if-common.false))

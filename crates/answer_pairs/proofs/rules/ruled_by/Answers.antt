@@ -12,20 +12,16 @@ use Rattle.lists.specs.Common.{common}
 use Rattle.answer_pairs.specs.Rules.{numbered, by_rules, rule_by, ruled_by}
 use Rattle.answer_pairs.proofs.rules.ruled_by.Goals as goal
 
--- what the tests have shown where the next one is made
-starts-shared : (c : goal.Else-not-common) → common c.args.x.starts c.args.y.starts ≡ true
-starts-shared c = sym c.common.ensures ∙ not-false _ c.if-not-common.false
-
-ends-shared : (c : goal.Else-not-common-2) → common c.args.x.ends c.args.y.ends ≡ true
-ends-shared c = sym c.common-2.ensures ∙ not-false _ c.if-not-common-2.false
-
 pub returns-then-not-common : goal.returns-then-not-common
 unfolding ruled_by by_rules
 returns-then-not-common c = rw (sym c.common.ensures ∙ not-true _ c.if-not-common.true)
 
 pub returns-then-not-common-2 : goal.returns-then-not-common-2
 unfolding ruled_by by_rules
-returns-then-not-common-2 c = rw (starts-shared c.before.before, sym c.common-2.ensures ∙ not-true _ c.if-not-common-2.true)
+returns-then-not-common-2 c =
+    let starts-shared : common c.args.x.starts c.args.y.starts ≡ true =
+        sym c.common.ensures ∙ not-false _ c.if-not-common.false in
+    rw (starts-shared, sym c.common-2.ensures ∙ not-true _ c.if-not-common-2.true)
 
 pub loop-k-init : goal.loop-k-init
 unfolding any
@@ -46,12 +42,16 @@ overflow_add-result c = omega arith
 pub returns-then-common : goal.returns-then-common
 unfolding ruled_by by_rules numbered
 returns-then-common c =
+    let starts-shared : common c.args.x.starts c.args.y.starts ≡ true =
+        sym c.common.ensures ∙ not-false _ c.if-not-common.false in
+    let ends-shared : common c.args.x.ends c.args.y.ends ≡ true =
+        sym c.common-2.ensures ∙ not-false _ c.if-not-common-2.false in
     let a = c.args in
     let f = rule_by a.sets.kinds a.x.held a.y.held in
     let k = c.loop-k.k in
     let below : k < 4 = omega arith in
     let p : f k ≡ true = sym c.common-in-loop-k.ensures ∙ c.if-common.true in
-    rw (starts-shared c.before.before.before.before.before.before.before.before.before, ends-shared c.before.before.before.before.before.before.before, at-any 4 f k below p, first-is 4 f k below p c.loop-k.invariant.1) (omega arith)
+    rw (starts-shared, ends-shared, at-any 4 f k below p, first-is 4 f k below p c.loop-k.invariant.1) (omega arith)
 
 pub overflow_add-k : goal.overflow_add-k
 overflow_add-k c = omega arith
@@ -66,5 +66,9 @@ loop-k-preserved c =
 pub returns : goal.returns
 unfolding ruled_by by_rules numbered
 returns c =
+    let starts-shared : common c.args.x.starts c.args.y.starts ≡ true =
+        sym c.common.ensures ∙ not-false _ c.if-not-common.false in
+    let ends-shared : common c.args.x.ends c.args.y.ends ≡ true =
+        sym c.common-2.ensures ∙ not-false _ c.if-not-common-2.false in
     let q : c.loop-k.k ≡ 4 = omega arith in
-    rw (starts-shared c.before.before.before.before.before.before.before, ends-shared c.before.before.before.before.before, rw q at c.loop-k.invariant.1)
+    rw (starts-shared, ends-shared, rw q at c.loop-k.invariant.1)

@@ -24,29 +24,27 @@ pub gather_names-requires : goal.gather_names-requires
 gather_names-requires c =
     (λ x l m. c.fill_names.ensures.by_index x l ∙ zeros 192 x, refl)
 
--- the region that the chart is read for
-abbrev read : goal.Start → Region
-read e = reading e.args.s.now e.args.chart
-
--- its nodes, at most 192
-nodes-are : (e : goal.Start) → ((read e).nodes ≡ e.args.chart.nodes) × (0 < (read e).nodes) × ((read e).nodes ≤ 192)
-nodes-are e =
-    let n = nodes-length _ e.args.chart e.requires.0.laid in
-    (omega (arith, n), omega (arith, n, e.requires.0.laid.two-nodes), omega (arith, n, e.requires.0.laid.nodes-most))
-
-fits : (e : goal.Start) (j : ℕ) → ((access_at e.args.accesses.now j).node < 192) × ((access_at e.args.accesses.now j).write ≤ 1)
-fits e j =
-    let (same, some, most) = nodes-are e in
-    let (node, write) = fields_fit (read e) e.args.accesses.now e.requires.1.1.well-formed e.requires.2 some j in
-    (omega arith, write)
-
 pub fill_races-requires : goal.fill_races-requires
 fill_races-requires c =
+    let read : Region =
+        reading c.args.s.now c.args.chart in
+    let nodes-are : (read.nodes ≡ c.args.chart.nodes) × (0 < read.nodes) × (read.nodes ≤ 192) =
+        let n = nodes-length _ c.args.chart c.requires.0.laid in
+    (omega (arith, n), omega (arith, n, c.requires.0.laid.two-nodes), omega (arith, n, c.requires.0.laid.nodes-most)) in
+    let fits : (j : ℕ) → ((access_at c.args.accesses.now j).node < 192) × ((access_at c.args.accesses.now j).write ≤ 1) =
+        λ j. let (same, some, most) = nodes-are in
+    let (node, write) = fields_fit read c.args.accesses.now c.requires.1.1.well-formed c.requires.2 some j in
+    (omega arith, write) in
     let list = c.args.accesses.now in
-    (omega (arith, whole-accesses (read c.before.before.before.before.before.before.before.before.before.before.before.before.before.before.before.before.before.before.before.before.before.before) list c.requires.2, few-accesses (read c.before.before.before.before.before.before.before.before.before.before.before.before.before.before.before.before.before.before.before.before.before.before) list c.requires.2), c.requires.3, fits c.before.before.before.before.before.before.before.before.before.before.before.before.before.before.before.before.before.before.before.before.before.before)
+    (omega (arith, whole-accesses read list c.requires.2, few-accesses read list c.requires.2), c.requires.3, fits)
 
 pub returns : goal.returns
 returns c =
-    let all = all-pairs (read c.before.before.before.before.before.before.before.before.before.before.before.before.before.before.before.before.before.before.before.before.before.before.before.before.before) c.args.accesses.now c.requires.1.1.well-formed c.requires.2 c.fill_lines.new.lines c.requires.1.1 c.load_closed.ensures c.fill_names.ensures.names
-    (λ a l z. c.fill_lines.ensures a (omega (arith, (nodes-are c.before.before.before.before.before.before.before.before.before.before.before.before.before.before.before.before.before.before.before.before.before.before.before.before.before).0)) z) in
+    let read : Region =
+        reading c.args.s.now c.args.chart in
+    let nodes-are : (read.nodes ≡ c.args.chart.nodes) × (0 < read.nodes) × (read.nodes ≤ 192) =
+        let n = nodes-length _ c.args.chart c.requires.0.laid in
+    (omega (arith, n), omega (arith, n, c.requires.0.laid.two-nodes), omega (arith, n, c.requires.0.laid.nodes-most)) in
+    let all = all-pairs read c.args.accesses.now c.requires.1.1.well-formed c.requires.2 c.fill_lines.new.lines c.requires.1.1 c.load_closed.ensures c.fill_names.ensures.names
+    (λ a l z. c.fill_lines.ensures a (omega (arith, nodes-are.0)) z) in
     c.fill_races.ensures ∙ ap (λ (l : List ℕ). l ++ drop (length l) c.args.out.now) all

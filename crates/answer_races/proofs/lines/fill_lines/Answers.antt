@@ -29,42 +29,61 @@ loop-a-init c =
       λ b l. absurd (omega arith),
     )
 
--- the node of this turn
-low : (t : goal.In-loop-a) → t.loop-a.a < 192
-low t = omega (arith, t.requires.0)
-
 pub profile_of-requires-in-loop-a : goal.profile_of-requires-in-loop-a
-profile_of-requires-in-loop-a c = low c
+profile_of-requires-in-loop-a c =
+    let low : c.loop-a.a < 192 =
+        omega (arith, c.requires.0) in
+    low
 
 pub bounds-closed-a : goal.bounds-closed-a
-bounds-closed-a c = low c.before.before
+bounds-closed-a c =
+    let low : c.loop-a.a < 192 =
+        omega (arith, c.requires.0) in
+    low
 
 pub keep-kept-requires : goal.keep-kept-requires
 keep-kept-requires c = tt
 
 pub offset_bounds-names-a : goal.offset_bounds-names-a
-offset_bounds-names-a c = omega (arith, low c.before.before.before.before.before)
+offset_bounds-names-a c =
+    let low : c.loop-a.a < 192 =
+        omega (arith, c.requires.0) in
+    omega (arith, low)
 
 pub bounds-names-a : goal.bounds-names-a
-bounds-names-a c = low c.before.before.before.before.before.before
+bounds-names-a c =
+    let low : c.loop-a.a < 192 =
+        omega (arith, c.requires.0) in
+    low
 
 pub line_of-requires : goal.line_of-requires
 line_of-requires c = tt
 
 pub offset_bounds-lines-a : goal.offset_bounds-lines-a
-offset_bounds-lines-a c = omega (arith, low c.before.before.before.before.before.before.before.before)
+offset_bounds-lines-a c =
+    let low : c.loop-a.a < 192 =
+        omega (arith, c.requires.0) in
+    omega (arith, low)
 
 pub bounds-lines-a : goal.bounds-lines-a
-bounds-lines-a c = low c.before.before.before.before.before.before.before.before
+bounds-lines-a c =
+    let low : c.loop-a.a < 192 =
+        omega (arith, c.requires.0) in
+    low
 
 pub overflow_add-a : goal.overflow_add-a
-overflow_add-a c = omega (arith, low c.before.before.before.before.before.before.before.before)
+overflow_add-a c =
+    let low : c.loop-a.a < 192 =
+        omega (arith, c.requires.0) in
+    omega (arith, low)
 
 pub loop-a-smaller : goal.loop-a-smaller
 loop-a-smaller c = omega arith
 
 pub loop-a-preserved : goal.loop-a-preserved
 loop-a-preserved c =
+    let low : c.loop-a.a < 192 =
+        omega (arith, c.requires.0) in
     let closed = c.args.closed.now in
     let marks = c.args.marks.now in
     let names = c.args.names.now in
@@ -74,7 +93,7 @@ loop-a-preserved c =
       omega arith,
       length-set c.loop-a.lines a _ ∙ long,
       M,
-      stored_row (Lined closed marks names) c.loop-a.lines a _ (omega (arith, low c.before.before.before.before.before.before.before.before))
+      stored_row (Lined closed marks names) c.loop-a.lines a _ (omega (arith, low))
           (λ z. subst (λ (x : Profile). LineOf closed marks names x (get_or names a 0) c.line_of.result) (c.keep-kept.ensures.0 z ∙ c.profile_of-in-loop-a.ensures)
           (c.line_of.ensures closed marks names c.keep-kept.result.own M c.requires.2)) done,
     )

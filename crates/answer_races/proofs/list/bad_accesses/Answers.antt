@@ -14,22 +14,6 @@ use Rattle.chart.proofs.Records.{nodes-length}
 use Rattle.theory_calls.specs.Access.{total, access_at, bad_access, bad_accesses}
 use Rattle.answer_races.proofs.list.bad_accesses.Goals as goal
 
--- the region that the chart is read for
-abbrev read : goal.Start → Region
-read e = reading e.args.s.now e.args.chart
-
--- before the loop, the list has been found to be of whole records and not too many
-counted : (c : goal.After-load_closed) → let list = c.args.accesses.now in
-    (eqb (length list % 4) 0 ≡ true) × (ltb 1024 (length list / 4) ≡ false)
-counted c =
-    let list = c.args.accesses.now in
-    let few : length list / 4 ≤ 1024 = omega (arith, c.if-n-gt-MOST.false) in
-    (eq-eqb (length list % 4) 0 c.if-accesses-ne0.false, le-ltb 1024 (length list / 4) few)
-
-tested : (c : goal.After-bad_access) → c.bad_access.result ≡ bad_access (read c.before.before.before.before.before.before.before.before.before.before) (access_at c.args.accesses.now c.loop-i.i)
-tested c =
-    c.bad_access.ensures (read c.before.before.before.before.before.before.before.before.before.before) c.requires.1 (nodes-length _ c.args.chart c.requires.0.laid) c.load_closed.ensures
-
 pub returns-then-accesses-ne0 : goal.returns-then-accesses-ne0
 unfolding bad_accesses
 returns-then-accesses-ne0 c = rw (ne_eqb (length c.args.accesses.now % 4) 0 c.if-accesses-ne0.true)
@@ -53,10 +37,19 @@ bad_access-requires c = (omega arith, c.requires.0.laid.nodes-most)
 pub returns-then-bad_access : goal.returns-then-bad_access
 unfolding bad_accesses total
 returns-then-bad_access c =
+    let read : Region =
+        reading c.args.s.now c.args.chart in
+    let counted : let list = c.args.accesses.now in
+    (eqb (length list % 4) 0 ≡ true) × (ltb 1024 (length list / 4) ≡ false) =
+        let list = c.args.accesses.now in
+    let few : length list / 4 ≤ 1024 = omega (arith, c.if-n-gt-MOST.false) in
+    (eq-eqb (length list % 4) 0 c.if-accesses-ne0.false, le-ltb 1024 (length list / 4) few) in
+    let tested : c.bad_access.result ≡ bad_access read (access_at c.args.accesses.now c.loop-i.i) =
+        c.bad_access.ensures read c.requires.1 (nodes-length _ c.args.chart c.requires.0.laid) c.load_closed.ensures in
     let list = c.args.accesses.now in
-    let bads : ℕ → Bool = λ k. bad_access (read c.before.before.before.before.before.before.before.before.before.before.before) (access_at list k) in
-    let (whole, few) = counted c.before.before.before.before.before in
-    rw (whole, few, at-any (length list / 4) bads c.loop-i.i (omega arith) (sym (tested c.before) ∙ c.if-bad_access.true))
+    let bads : ℕ → Bool = λ k. bad_access read (access_at list k) in
+    let (whole, few) = counted in
+    rw (whole, few, at-any (length list / 4) bads c.loop-i.i (omega arith) (sym tested ∙ c.if-bad_access.true))
 
 pub overflow_add-i : goal.overflow_add-i
 overflow_add-i c = omega arith
@@ -65,13 +58,25 @@ pub loop-i-smaller : goal.loop-i-smaller
 loop-i-smaller c = omega arith
 
 pub loop-i-preserved : goal.loop-i-preserved
-loop-i-preserved c = (omega arith, any-more _ _ c.loop-i.invariant.1 (sym (tested c.before) ∙ c.if-bad_access.false))
+loop-i-preserved c =
+    let read : Region =
+        reading c.args.s.now c.args.chart in
+    let tested : c.bad_access.result ≡ bad_access read (access_at c.args.accesses.now c.loop-i.i) =
+        c.bad_access.ensures read c.requires.1 (nodes-length _ c.args.chart c.requires.0.laid) c.load_closed.ensures in
+    (omega arith, any-more _ _ c.loop-i.invariant.1 (sym tested ∙ c.if-bad_access.false))
 
 pub returns : goal.returns
 unfolding bad_accesses total
 returns c =
+    let read : Region =
+        reading c.args.s.now c.args.chart in
+    let counted : let list = c.args.accesses.now in
+    (eqb (length list % 4) 0 ≡ true) × (ltb 1024 (length list / 4) ≡ false) =
+        let list = c.args.accesses.now in
+    let few : length list / 4 ≤ 1024 = omega (arith, c.if-n-gt-MOST.false) in
+    (eq-eqb (length list % 4) 0 c.if-accesses-ne0.false, le-ltb 1024 (length list / 4) few) in
     let list = c.args.accesses.now in
     let q : c.loop-i.i ≡ length list / 4 = omega arith in
-    let (whole, few) = counted c.before.before in
-    let none : any (length list / 4) (λ k. bad_access (read c.before.before.before.before.before.before.before.before) (access_at list k)) ≡ false = rw q at c.loop-i.invariant.1 in
+    let (whole, few) = counted in
+    let none : any (length list / 4) (λ k. bad_access read (access_at list k)) ≡ false = rw q at c.loop-i.invariant.1 in
     rw (whole, few, none)

@@ -14,31 +14,6 @@ use Rattle.answer_races.specs.PairsLines.{line_byte}
 use Rattle.answer_races.proofs.RowsLaws.{few-pairs, Long, lent-long, row_fits}
 use Rattle.answer_races.proofs.pairs.fill_races.Goals as goal
 
--- the part of row i lies within the buffer
-room : (t : goal.In-loop-i) → t.loop-i.at + (length t.args.accesses.now / 4 - t.loop-i.i) ≤ length t.loop-i.out
-unfolding total
-room t =
-    omega (arith, row_fits (length t.args.accesses.now / 4) t.loop-i.i (omega arith), t.loop-i.invariant.1, t.loop-i.invariant.2.is-long, t.requires.1)
-
-row-part : (t : goal.In-loop-i) → let n = length t.args.accesses.now / 4 in
-    let end = t.loop-i.at + (n - t.loop-i.i) in
-    length (take (end - t.loop-i.at) (drop t.loop-i.at t.loop-i.out)) ≡ n - t.loop-i.i
-row-part t = part_length _ _ _ t.loop-i.out refl (room t)
-
--- it ends at a number of 64 bits, and i is one
-few : (t : goal.In-loop-i) → (t.loop-i.at + (length t.args.accesses.now / 4 - t.loop-i.i) ≤ 524800) × (t.loop-i.i < 1024)
-unfolding total pair_count
-few t =
-    let n = length t.args.accesses.now / 4 in
-    let most : n ≤ 1024 = omega (arith, t.requires.0) in
-    let below : t.loop-i.i < n = omega arith in
-    (omega (arith, row_fits n t.loop-i.i below, few-pairs n most, t.loop-i.invariant.1), omega (arith, most, below))
-
--- the node of access i
-node : (w : goal.After-wide-node) → (w.wide-node.result ≡ (access_at w.args.accesses.now w.loop-i.i).node) × (w.wide-node.result < 192)
-unfolding access_at
-node w = (w.wide-node.ensures.0, omega (arith, w.wide-node.ensures.0, (w.requires.2 w.loop-i.i).0))
-
 pub link-requires : goal.link-requires
 link-requires c = (c.requires.0, refl, refl)
 
@@ -59,13 +34,28 @@ pub overflow_sub-end : goal.overflow_sub-end
 overflow_sub-end c = omega arith
 
 pub overflow_add-end : goal.overflow_add-end
-overflow_add-end c = omega (arith, (few c.before.before).0)
+unfolding total pair_count
+overflow_add-end c =
+    let few : (c.loop-i.at + (length c.args.accesses.now / 4 - c.loop-i.i) ≤ 524800) × (c.loop-i.i < 1024) =
+        let n = length c.args.accesses.now / 4 in
+    let most : n ≤ 1024 = omega (arith, c.requires.0) in
+    let below : c.loop-i.i < n = omega arith in
+    (omega (arith, row_fits n c.loop-i.i below, few-pairs n most, c.loop-i.invariant.1), omega (arith, most, below)) in
+    omega (arith, few.0)
 
 pub offset_bounds-lines-node : goal.offset_bounds-lines-node
-offset_bounds-lines-node c = omega (arith, (node c.before.before).1)
+unfolding access_at
+offset_bounds-lines-node c =
+    let node : (c.wide-node.result ≡ (access_at c.args.accesses.now c.loop-i.i).node) × (c.wide-node.result < 192) =
+        (c.wide-node.ensures.0, omega (arith, c.wide-node.ensures.0, (c.requires.2 c.loop-i.i).0)) in
+    omega (arith, node.1)
 
 pub bounds-lines-node : goal.bounds-lines-node
-bounds-lines-node c = (node c.before.before).1
+unfolding access_at
+bounds-lines-node c =
+    let node : (c.wide-node.result ≡ (access_at c.args.accesses.now c.loop-i.i).node) × (c.wide-node.result < 192) =
+        (c.wide-node.ensures.0, omega (arith, c.wide-node.ensures.0, (c.requires.2 c.loop-i.i).0)) in
+    node.1
 
 pub slice_bounds-fill_row-count : goal.slice_bounds-fill_row-count
 slice_bounds-fill_row-count c = omega arith
@@ -74,32 +64,57 @@ pub slice_bounds-fill_row-start : goal.slice_bounds-fill_row-start
 slice_bounds-fill_row-start c = omega arith
 
 pub slice_bounds-fill_row-end : goal.slice_bounds-fill_row-end
-slice_bounds-fill_row-end c = room c.before.before.before.before
+unfolding total
+slice_bounds-fill_row-end c =
+    let room : c.loop-i.at + (length c.args.accesses.now / 4 - c.loop-i.i) ≤ length c.loop-i.out =
+        omega (arith, row_fits (length c.args.accesses.now / 4) c.loop-i.i (omega arith), c.loop-i.invariant.1, c.loop-i.invariant.2.is-long, c.requires.1) in
+    room
 
 pub fill_row-requires : goal.fill_row-requires
 unfolding total
 fill_row-requires c =
-    (c.link.ensures, c.requires.0, omega (arith, row-part c.before.before.before.before.before), omega (arith, row-part c.before.before.before.before.before), (λ j. (c.requires.2 j).0), (c.requires.2 c.loop-i.i).1)
+    let room : c.loop-i.at + (length c.args.accesses.now / 4 - c.loop-i.i) ≤ length c.loop-i.out =
+        omega (arith, row_fits (length c.args.accesses.now / 4) c.loop-i.i (omega arith), c.loop-i.invariant.1, c.loop-i.invariant.2.is-long, c.requires.1) in
+    let row-part : let n = length c.args.accesses.now / 4 in
+    let end = c.loop-i.at + (n - c.loop-i.i) in
+    length (take (end - c.loop-i.at) (drop c.loop-i.at c.loop-i.out)) ≡ n - c.loop-i.i =
+        part_length _ _ _ c.loop-i.out refl room in
+    (c.link.ensures, c.requires.0, omega (arith, row-part), omega (arith, row-part), (λ j. (c.requires.2 j).0), (c.requires.2 c.loop-i.i).1)
 
 pub overflow_add-i : goal.overflow_add-i
-overflow_add-i c = omega (arith, (few c.before.before.before.before.before.before.before.before).1)
+unfolding total pair_count
+overflow_add-i c =
+    let few : (c.loop-i.at + (length c.args.accesses.now / 4 - c.loop-i.i) ≤ 524800) × (c.loop-i.i < 1024) =
+        let n = length c.args.accesses.now / 4 in
+    let most : n ≤ 1024 = omega (arith, c.requires.0) in
+    let below : c.loop-i.i < n = omega arith in
+    (omega (arith, row_fits n c.loop-i.i below, few-pairs n most, c.loop-i.invariant.1), omega (arith, most, below)) in
+    omega (arith, few.1)
 
 pub loop-i-smaller : goal.loop-i-smaller
 loop-i-smaller c = omega arith
 
 pub loop-i-preserved : goal.loop-i-preserved
-unfolding total
+unfolding total access_at
 loop-i-preserved c =
+    let room : c.loop-i.at + (length c.args.accesses.now / 4 - c.loop-i.i) ≤ length c.loop-i.out =
+        omega (arith, row_fits (length c.args.accesses.now / 4) c.loop-i.i (omega arith), c.loop-i.invariant.1, c.loop-i.invariant.2.is-long, c.requires.1) in
+    let row-part : let n = length c.args.accesses.now / 4 in
+    let end = c.loop-i.at + (n - c.loop-i.i) in
+    length (take (end - c.loop-i.at) (drop c.loop-i.at c.loop-i.out)) ≡ n - c.loop-i.i =
+        part_length _ _ _ c.loop-i.out refl room in
+    let node : (c.wide-node.result ≡ (access_at c.args.accesses.now c.loop-i.i).node) × (c.wide-node.result < 192) =
+        (c.wide-node.ensures.0, omega (arith, c.wide-node.ensures.0, (c.requires.2 c.loop-i.i).0)) in
     let list = c.args.accesses.now in
     let lines = c.args.lines.now in
     let i = c.loop-i.i in
     let (below, at, long, done) = c.loop-i.invariant in (
       omega arith,
       omega (arith, at, start-next (pairs_from (total list)) i),
-      lent-long c.loop-i.at (c.loop-i.at + (length list / 4 - i)) c.loop-i.out _ (omega arith) (room c.before.before.before.before.before.before.before.before) c.fill_row.ensures long,
+      lent-long c.loop-i.at (c.loop-i.at + (length list / 4 - i)) c.loop-i.out _ (omega arith) room c.fill_row.ensures long,
       filled_more (pairs_from (total list)) (line_byte lines list) i _ _ c.args.out.now c.loop-i.out _ at refl done
-          (c.fill_row.ensures ∙ ap (λ (m : ℕ). tab m (λ k. by_line (get_or lines c.wide-node.result []) (access_at list i) (access_at list (i + k)))) (row-part c.before.before.before.before.before.before.before.before)
-          ∙ ap (λ (a : ℕ). tab (length list / 4 - i) (λ k. by_line (get_or lines a []) (access_at list i) (access_at list (i + k)))) (node c.before.before.before.before.before.before).0),
+          (c.fill_row.ensures ∙ ap (λ (m : ℕ). tab m (λ k. by_line (get_or lines c.wide-node.result []) (access_at list i) (access_at list (i + k)))) row-part
+          ∙ ap (λ (a : ℕ). tab (length list / 4 - i) (λ k. by_line (get_or lines a []) (access_at list i) (access_at list (i + k)))) node.0),
     )
 
 pub shape_of-out : goal.shape_of-out

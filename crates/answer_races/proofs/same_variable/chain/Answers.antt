@@ -11,6 +11,8 @@ use Rattle.answer_races.proofs.same_variable.chain.Goals as goal
 
 pub loop-i-init : goal.loop-i-init
 loop-i-init c =
+    let few : c.loop-i.i - 1 < 1024 =
+        omega (arith, c.requires.0) in
     let n = length c.args.accesses.now / 4 in
     let few : n ≤ 1024 = omega (arith, c.requires.0) in
     (omega arith, c.requires.1, length-replicate {A = ℕ} 1021 1024, heads-none (bucket c.args.accesses.now) n few, λ j l m. absurd (omega arith))
@@ -21,10 +23,6 @@ overflow_sub-i c = omega arith
 pub variable_at-bucket-requires : goal.variable_at-bucket-requires
 variable_at-bucket-requires c = omega arith
 
--- the access of this turn has a place in the table
-few : (c : goal.In-loop-i) → c.loop-i.i - 1 < 1024
-few c = omega (arith, c.requires.0)
-
 pub offset_bounds-heads-bucket : goal.offset_bounds-heads-bucket
 offset_bounds-heads-bucket c = omega arith
 
@@ -32,13 +30,22 @@ pub bounds-heads-bucket : goal.bounds-heads-bucket
 bounds-heads-bucket c = omega arith
 
 pub offset_bounds-under-i : goal.offset_bounds-under-i
-offset_bounds-under-i c = omega (arith, few c.before)
+offset_bounds-under-i c =
+    let few : c.loop-i.i - 1 < 1024 =
+        omega (arith, c.requires.0) in
+    omega (arith, few)
 
 pub bounds-under-i : goal.bounds-under-i
-bounds-under-i c = omega (arith, few c.before.before)
+bounds-under-i c =
+    let few : c.loop-i.i - 1 < 1024 =
+        omega (arith, c.requires.0) in
+    omega (arith, few)
 
 pub overflow_cast-heads : goal.overflow_cast-heads
-overflow_cast-heads c = omega (arith, few c.before.before)
+overflow_cast-heads c =
+    let few : c.loop-i.i - 1 < 1024 =
+        omega (arith, c.requires.0) in
+    omega (arith, few)
 
 pub offset_bounds-heads-bucket-in-loop-i : goal.offset_bounds-heads-bucket-in-loop-i
 offset_bounds-heads-bucket-in-loop-i c = omega arith
@@ -52,6 +59,8 @@ loop-i-smaller c = omega arith
 pub loop-i-preserved : goal.loop-i-preserved
 unfolding bucket
 loop-i-preserved c =
+    let few : c.loop-i.i - 1 < 1024 =
+        omega (arith, c.requires.0) in
     let list = c.args.accesses.now in
     let n = length list / 4 in
     let i = c.loop-i.i - 1 in
@@ -63,7 +72,7 @@ loop-i-preserved c =
       length-set c.loop-i.under i _ ∙ long,
       length-set c.loop-i.heads (bucket list i) i ∙ wide,
       heads-more (bucket list) n c.loop-i.heads wide e b heads,
-      chains-more (bucket list) n c.loop-i.under (omega (arith, few c.before.before)) e (heads (bucket list i) b) chains,
+      chains-more (bucket list) n c.loop-i.under (omega (arith, few)) e (heads (bucket list i) b) chains,
     )
 
 pub returns : goal.returns

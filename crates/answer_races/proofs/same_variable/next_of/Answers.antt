@@ -9,23 +9,32 @@ use Rattle.answer_races.specs.Linked.{FirstFrom, bucket}
 use Rattle.answer_races.proofs.Chains.{Sought, sought-first, sought-more, sought-found, sought-none}
 use Rattle.answer_races.proofs.same_variable.next_of.Goals as goal
 
--- the list is not long
-few : (e : goal.Start) → total e.args.accesses.now ≤ 1024
-unfolding total
-few e = omega (arith, e.requires.1)
-
-first : (e : goal.Start) → (4 * e.args.i + 3 < length e.args.accesses.now) × (e.args.i < 1024)
-unfolding total
-first e = (omega (arith, e.requires.2), omega (arith, few e, e.requires.2))
-
 pub variable_at-variable-requires : goal.variable_at-variable-requires
-variable_at-variable-requires c = (first c.before).0
+unfolding total
+variable_at-variable-requires c =
+    let few : total c.args.accesses.now ≤ 1024 =
+        omega (arith, c.requires.1) in
+    let first : (4 * c.args.i + 3 < length c.args.accesses.now) × (c.args.i < 1024) =
+        (omega (arith, c.requires.2), omega (arith, few, c.requires.2)) in
+    first.0
 
 pub offset_bounds-under-i : goal.offset_bounds-under-i
-offset_bounds-under-i c = omega (arith, (first c.before.before).1)
+unfolding total
+offset_bounds-under-i c =
+    let few : total c.args.accesses.now ≤ 1024 =
+        omega (arith, c.requires.1) in
+    let first : (4 * c.args.i + 3 < length c.args.accesses.now) × (c.args.i < 1024) =
+        (omega (arith, c.requires.2), omega (arith, few, c.requires.2)) in
+    omega (arith, first.1)
 
 pub bounds-under-i : goal.bounds-under-i
-bounds-under-i c = (first c.before.before.before).1
+unfolding total
+bounds-under-i c =
+    let few : total c.args.accesses.now ≤ 1024 =
+        omega (arith, c.requires.1) in
+    let first : (4 * c.args.i + 3 < length c.args.accesses.now) × (c.args.i < 1024) =
+        (omega (arith, c.requires.2), omega (arith, few, c.requires.2)) in
+    first.1
 
 pub index-k-requires : goal.index-k-requires
 index-k-requires c = tt
@@ -34,44 +43,59 @@ pub loop-k-init : goal.loop-k-init
 loop-k-init c =
     rw c.index-k.ensures (sought-first c.args.accesses.now c.args.i (c.requires.0.after c.args.i c.requires.2))
 
--- the access of this turn
-inside : (t : goal.In-loop-k) → t.loop-k.k < total t.args.accesses.now
-unfolding total
-inside t = t.loop-k-test.true
-
-past : (t : goal.After-loop-k) → total t.args.accesses.now ≤ t.loop-k.k
-unfolding total
-past t = omega arith
-
-linked : (c : goal.After-index-k-in-loop-k) → let list = c.args.accesses.now in
-    FirstFrom (λ x. bucket list x ≡ bucket list c.loop-k.k) (total list) (c.loop-k.k + 1) (get_or c.args.under.now c.loop-k.k 0)
-linked c =
-    c.requires.0.after c.loop-k.k (inside c.before.before.before.before.before)
-
 pub variable_at-requires : goal.variable_at-requires
 variable_at-requires c = omega arith
 
 pub returns-then-variable_at-variable : goal.returns-then-variable_at-variable
+unfolding total
 returns-then-variable_at-variable c =
-    (sought-found c.args.accesses.now c.args.i (sym c.variable_at.ensures ∙ c.if-variable_at-variable.true ∙ c.variable_at-variable.ensures) c.loop-k.invariant, omega (arith, few c.before.before.before.before.before.before.before.before.before))
+    let few : total c.args.accesses.now ≤ 1024 =
+        omega (arith, c.requires.1) in
+    (sought-found c.args.accesses.now c.args.i (sym c.variable_at.ensures ∙ c.if-variable_at-variable.true ∙ c.variable_at-variable.ensures) c.loop-k.invariant, omega (arith, few))
 
 pub offset_bounds-under-k : goal.offset_bounds-under-k
-offset_bounds-under-k c = omega (arith, few c.before.before.before.before.before.before.before.before.before)
+unfolding total
+offset_bounds-under-k c =
+    let few : total c.args.accesses.now ≤ 1024 =
+        omega (arith, c.requires.1) in
+    omega (arith, few)
 
 pub bounds-under-k : goal.bounds-under-k
-bounds-under-k c = omega (arith, few c.before.before.before.before.before.before.before.before.before.before)
+unfolding total
+bounds-under-k c =
+    let few : total c.args.accesses.now ≤ 1024 =
+        omega (arith, c.requires.1) in
+    omega (arith, few)
 
 pub index-k-requires-in-loop-k : goal.index-k-requires-in-loop-k
 index-k-requires-in-loop-k c = tt
 
 pub loop-k-smaller : goal.loop-k-smaller
-loop-k-smaller c = omega (arith, c.index-k-in-loop-k.ensures, (linked c).from)
+unfolding total
+loop-k-smaller c =
+    let inside : c.loop-k.k < total c.args.accesses.now =
+        c.loop-k-test.true in
+    let linked : let list = c.args.accesses.now in
+    FirstFrom (λ x. bucket list x ≡ bucket list c.loop-k.k) (total list) (c.loop-k.k + 1) (get_or c.args.under.now c.loop-k.k 0) =
+        c.requires.0.after c.loop-k.k inside in
+    omega (arith, c.index-k-in-loop-k.ensures, linked.from)
 
 pub loop-k-preserved : goal.loop-k-preserved
+unfolding total
 loop-k-preserved c =
-    rw c.index-k-in-loop-k.ensures (sought-more c.args.accesses.now c.args.i (inside c.before.before.before.before.before)
-    (λ q. c.if-variable_at-variable.false (c.variable_at.ensures ∙ q ∙ sym c.variable_at-variable.ensures)) c.loop-k.invariant (linked c))
+    let inside : c.loop-k.k < total c.args.accesses.now =
+        c.loop-k-test.true in
+    let linked : let list = c.args.accesses.now in
+    FirstFrom (λ x. bucket list x ≡ bucket list c.loop-k.k) (total list) (c.loop-k.k + 1) (get_or c.args.under.now c.loop-k.k 0) =
+        c.requires.0.after c.loop-k.k inside in
+    rw c.index-k-in-loop-k.ensures (sought-more c.args.accesses.now c.args.i inside
+    (λ q. c.if-variable_at-variable.false (c.variable_at.ensures ∙ q ∙ sym c.variable_at-variable.ensures)) c.loop-k.invariant linked)
 
 pub returns : goal.returns
+unfolding total
 returns c =
-    (sought-none c.args.accesses.now c.args.i (past c) (few c.before.before.before.before.before.before.before) c.requires.2 c.loop-k.invariant, omega arith)
+    let few : total c.args.accesses.now ≤ 1024 =
+        omega (arith, c.requires.1) in
+    let past : total c.args.accesses.now ≤ c.loop-k.k =
+        omega arith in
+    (sought-none c.args.accesses.now c.args.i past few c.requires.2 c.loop-k.invariant, omega arith)

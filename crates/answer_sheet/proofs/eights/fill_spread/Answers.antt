@@ -13,9 +13,6 @@ first : (j : ℕ) → j < 1 → get_or (replicate 256 0) j 0 ≡ fan (bits_of j)
 unfolding fan
 first j l = let q : j ≡ 0 = omega arith in rw q refl
 
-least : (c : goal.In-loop-b) → get_or c.loop-b.table (c.loop-b.b / 2) 0 ≤ 282578800148737
-least c = low-most (c.loop-b.b / 2) _ (omega arith) (c.loop-b.invariant.3 (c.loop-b.b / 2) (omega arith))
-
 pub loop-b-init : goal.loop-b-init
 loop-b-init c = (omega arith, omega arith, refl, λ j l. first j l)
 
@@ -26,10 +23,16 @@ pub bounds-table-b : goal.bounds-table-b
 bounds-table-b c = omega arith
 
 pub overflow_mul-table : goal.overflow_mul-table
-overflow_mul-table c = omega (arith, least c.before.before)
+overflow_mul-table c =
+    let least : get_or c.loop-b.table (c.loop-b.b / 2) 0 ≤ 282578800148737 =
+        low-most (c.loop-b.b / 2) _ (omega arith) (c.loop-b.invariant.3 (c.loop-b.b / 2) (omega arith)) in
+    omega (arith, least)
 
 pub overflow_add-table : goal.overflow_add-table
-overflow_add-table c = omega (arith, least c.before.before)
+overflow_add-table c =
+    let least : get_or c.loop-b.table (c.loop-b.b / 2) 0 ≤ 282578800148737 =
+        low-most (c.loop-b.b / 2) _ (omega arith) (c.loop-b.invariant.3 (c.loop-b.b / 2) (omega arith)) in
+    omega (arith, least)
 
 pub offset_bounds-table-b-in-loop-b : goal.offset_bounds-table-b-in-loop-b
 offset_bounds-table-b-in-loop-b c = omega arith

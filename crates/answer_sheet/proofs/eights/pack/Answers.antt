@@ -12,11 +12,6 @@ use Rattle.answer_sheet.proofs.Spreads.{cover-most, pack-more}
 use Rattle.answer_sheet.proofs.eights.pack.Invariants.{cover_at}
 use Rattle.answer_sheet.proofs.eights.pack.Goals as goal
 
-small : (c : goal.In-loop-i) → c.loop-i.word ≤ 72057594037927935
-small c =
-    let e = c.args in
-    rw c.loop-i.invariant.1 (cover-most (λ k. eqb (get_or e.closed.now (e.at + (c.loop-i.i + k)) 0) 0) (8 - c.loop-i.i) (omega arith))
-
 pub loop-i-init : goal.loop-i-init
 unfolding fan
 loop-i-init c = (omega arith, refl)
@@ -25,7 +20,11 @@ pub overflow_sub-i : goal.overflow_sub-i
 overflow_sub-i c = omega arith
 
 pub overflow_mul-word : goal.overflow_mul-word
-overflow_mul-word c = omega (arith, small c)
+overflow_mul-word c =
+    let small : c.loop-i.word ≤ 72057594037927935 =
+        let e = c.args in
+    rw c.loop-i.invariant.1 (cover-most (λ k. eqb (get_or e.closed.now (e.at + (c.loop-i.i + k)) 0) 0) (8 - c.loop-i.i) (omega arith)) in
+    omega (arith, small)
 
 pub overflow_add-at : goal.overflow_add-at
 overflow_add-at c = omega arith
@@ -37,7 +36,11 @@ pub cover-requires : goal.cover-requires
 cover-requires c = tt
 
 pub overflow_add-word : goal.overflow_add-word
-overflow_add-word c = omega (arith, small c.before.before.before, c.cover.ensures.1)
+overflow_add-word c =
+    let small : c.loop-i.word ≤ 72057594037927935 =
+        let e = c.args in
+    rw c.loop-i.invariant.1 (cover-most (λ k. eqb (get_or e.closed.now (e.at + (c.loop-i.i + k)) 0) 0) (8 - c.loop-i.i) (omega arith)) in
+    omega (arith, small, c.cover.ensures.1)
 
 pub loop-i-smaller : goal.loop-i-smaller
 loop-i-smaller c = omega arith

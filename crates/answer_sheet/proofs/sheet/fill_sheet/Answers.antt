@@ -46,75 +46,104 @@ loop-a-init c = (
   λ R size q M Z C. after_none (entry R (answer_for R size)) R.nodes c.args.out.now,
 )
 
--- the region that the chart is read for, and its answers
-abbrev read : goal.Start → Region
-read e = reading e.args.s.now e.args.chart
-
-abbrev answer : goal.Start → ℕ → ℕ → ℕ
-answer e = answer_for (read e) e.args.size
-
--- the rows passed are those of its sheet, and so the buffer is as long as it was
-passed : (l : goal.At-loop-a) → l.loop-a.out ≡ after (entry (read l.before.before.before.before.before.before.before.before.before.before.before.before.before.before.before.before.before.before.before) (answer l.before.before.before.before.before.before.before.before.before.before.before.before.before.before.before.before.before.before.before)) (read l.before.before.before.before.before.before.before.before.before.before.before.before.before.before.before.before.before.before.before).nodes l.loop-a.a l.args.out.now
-passed l =
-    let (Z, same) = (l.sets_for-sets.ensures.sized, l.sets_for-sets.ensures.kinds_value) in
-    l.loop-a.invariant.3 (read l.before.before.before.before.before.before.before.before.before.before.before.before.before.before.before.before.before.before.before) l.args.size (nodes-length _ l.args.chart l.requires.0.laid) (subst (Marks (read l.before.before.before.before.before.before.before.before.before.before.before.before.before.before.before.before.before.before.before) l.args.marks.now) (sym same) l.requires.1) Z l.load_closed.ensures
-
-long : (l : goal.At-loop-a) → length l.loop-a.out ≡ length l.args.out.now
-long l =
-    let n = nodes-length _ l.args.chart l.requires.0.laid in
-    let most = mul-le-mul_right {m = l.loop-a.a} {n = l.args.chart.nodes} l.args.chart.nodes l.loop-a.invariant.0 in
-    ap length (passed l) ∙ after-length (entry (read l.before.before.before.before.before.before.before.before.before.before.before.before.before.before.before.before.before.before.before) (answer l.before.before.before.before.before.before.before.before.before.before.before.before.before.before.before.before.before.before.before)) (read l.before.before.before.before.before.before.before.before.before.before.before.before.before.before.before.before.before.before.before).nodes l.loop-a.a l.args.out.now (rw n (omega (arith, most, l.requires.2)))
-
-few : (c : goal.In-loop-a) → c.loop-a.a < 192
-few c = omega (arith, c.requires.0.laid.nodes-most, c.loop-a-test.true)
-
--- row a ends where the next one starts, within the buffer
-ends : (c : goal.In-loop-a) → let n = c.args.chart.nodes in (c.loop-a.a + 1) * n ≡ c.loop-a.a * n + n
-ends c = row-end c.loop-a.a c.args.chart.nodes
-
-most : (c : goal.In-loop-a) → (c.loop-a.a + 1) * c.args.chart.nodes ≤ 36864
-most c =
-    omega (arith, ends c, row_room c.loop-a.a c.args.chart.nodes c.loop-a-test.true, square c.requires.0.laid.nodes-most)
-
-room : (c : goal.In-loop-a) → (c.loop-a.a + 1) * c.args.chart.nodes ≤ length c.loop-a.out
-room c =
-    omega (arith, ends c, row_room c.loop-a.a c.args.chart.nodes c.loop-a-test.true, c.requires.2, long c.before)
-
 pub profile_of-requires : goal.profile_of-requires
-profile_of-requires c = few c
+profile_of-requires c =
+    let few : c.loop-a.a < 192 =
+        omega (arith, c.requires.0.laid.nodes-most, c.loop-a-test.true) in
+    few
 
 pub bounds-closed-a : goal.bounds-closed-a
-bounds-closed-a c = few c.before
+bounds-closed-a c =
+    let few : c.loop-a.a < 192 =
+        omega (arith, c.requires.0.laid.nodes-most, c.loop-a-test.true) in
+    few
 
 pub keep_row-kept-requires : goal.keep_row-kept-requires
 keep_row-kept-requires c =
     (c.fill_spread.ensures, c.loop-a.invariant.1)
 
 pub overflow_mul-a : goal.overflow_mul-a
-overflow_mul-a c = omega (arith, most c.before.before.before.before.before.before.before.before, ends c.before.before.before.before.before.before.before.before)
+overflow_mul-a c =
+    let ends : let n = c.args.chart.nodes in (c.loop-a.a + 1) * n ≡ c.loop-a.a * n + n =
+        row-end c.loop-a.a c.args.chart.nodes in
+    let most : (c.loop-a.a + 1) * c.args.chart.nodes ≤ 36864 =
+        omega (arith, ends, row_room c.loop-a.a c.args.chart.nodes c.loop-a-test.true, square c.requires.0.laid.nodes-most) in
+    omega (arith, most, ends)
 
 pub overflow_add-a : goal.overflow_add-a
-overflow_add-a c = omega (arith, few c.before.before.before.before.before.before.before.before)
+overflow_add-a c =
+    let few : c.loop-a.a < 192 =
+        omega (arith, c.requires.0.laid.nodes-most, c.loop-a-test.true) in
+    omega (arith, few)
 
 pub overflow_mul-a-in-loop-a : goal.overflow_mul-a-in-loop-a
-overflow_mul-a-in-loop-a c = omega (arith, most c.before.before.before.before.before.before.before.before)
+overflow_mul-a-in-loop-a c =
+    let ends : let n = c.args.chart.nodes in (c.loop-a.a + 1) * n ≡ c.loop-a.a * n + n =
+        row-end c.loop-a.a c.args.chart.nodes in
+    let most : (c.loop-a.a + 1) * c.args.chart.nodes ≤ 36864 =
+        omega (arith, ends, row_room c.loop-a.a c.args.chart.nodes c.loop-a-test.true, square c.requires.0.laid.nodes-most) in
+    omega (arith, most)
 
 pub slice_bounds-fill_row-count : goal.slice_bounds-fill_row-count
-slice_bounds-fill_row-count c = omega (arith, ends c.before.before.before.before.before.before.before.before)
+slice_bounds-fill_row-count c =
+    let ends : let n = c.args.chart.nodes in (c.loop-a.a + 1) * n ≡ c.loop-a.a * n + n =
+        row-end c.loop-a.a c.args.chart.nodes in
+    omega (arith, ends)
 
 pub slice_bounds-fill_row-start : goal.slice_bounds-fill_row-start
-slice_bounds-fill_row-start c = omega (arith, ends c.before.before.before.before.before.before.before.before)
+slice_bounds-fill_row-start c =
+    let ends : let n = c.args.chart.nodes in (c.loop-a.a + 1) * n ≡ c.loop-a.a * n + n =
+        row-end c.loop-a.a c.args.chart.nodes in
+    omega (arith, ends)
 
 pub slice_bounds-fill_row-end : goal.slice_bounds-fill_row-end
-slice_bounds-fill_row-end c = room c.before.before.before.before.before.before.before.before
+slice_bounds-fill_row-end c =
+    let read : Region =
+        reading c.args.s.now c.args.chart in
+    let answer : ℕ → ℕ → ℕ =
+        answer_for read c.args.size in
+    let passed : c.loop-a.out ≡ after (entry read answer) read.nodes c.loop-a.a c.args.out.now =
+        let (Z, same) = (c.sets_for-sets.ensures.sized, c.sets_for-sets.ensures.kinds_value) in
+    c.loop-a.invariant.3 read c.args.size (nodes-length _ c.args.chart c.requires.0.laid) (subst (Marks read c.args.marks.now) (sym same) c.requires.1) Z c.load_closed.ensures in
+    let long : length c.loop-a.out ≡ length c.args.out.now =
+        let n = nodes-length _ c.args.chart c.requires.0.laid in
+    let most = mul-le-mul_right {m = c.loop-a.a} {n = c.args.chart.nodes} c.args.chart.nodes c.loop-a.invariant.0 in
+    ap length passed ∙ after-length (entry read answer) read.nodes c.loop-a.a c.args.out.now (rw n (omega (arith, most, c.requires.2))) in
+    let ends : let n = c.args.chart.nodes in (c.loop-a.a + 1) * n ≡ c.loop-a.a * n + n =
+        row-end c.loop-a.a c.args.chart.nodes in
+    let most : (c.loop-a.a + 1) * c.args.chart.nodes ≤ 36864 =
+        omega (arith, ends, row_room c.loop-a.a c.args.chart.nodes c.loop-a-test.true, square c.requires.0.laid.nodes-most) in
+    let room : (c.loop-a.a + 1) * c.args.chart.nodes ≤ length c.loop-a.out =
+        omega (arith, ends, row_room c.loop-a.a c.args.chart.nodes c.loop-a-test.true, c.requires.2, long) in
+    room
 
 pub fill_row-requires : goal.fill_row-requires
 fill_row-requires c =
-    let long = part_length c.args.chart.nodes _ _ c.loop-a.out (ends c.before.before.before.before.before.before.before.before.before) (room c.before.before.before.before.before.before.before.before.before) in
+    let read : Region =
+        reading c.args.s.now c.args.chart in
+    let answer : ℕ → ℕ → ℕ =
+        answer_for read c.args.size in
+    let passed : c.loop-a.out ≡ after (entry read answer) read.nodes c.loop-a.a c.args.out.now =
+        let (Z, same) = (c.sets_for-sets.ensures.sized, c.sets_for-sets.ensures.kinds_value) in
+    c.loop-a.invariant.3 read c.args.size (nodes-length _ c.args.chart c.requires.0.laid) (subst (Marks read c.args.marks.now) (sym same) c.requires.1) Z c.load_closed.ensures in
+    let long : length c.loop-a.out ≡ length c.args.out.now =
+        let n = nodes-length _ c.args.chart c.requires.0.laid in
+    let most = mul-le-mul_right {m = c.loop-a.a} {n = c.args.chart.nodes} c.args.chart.nodes c.loop-a.invariant.0 in
+    ap length passed ∙ after-length (entry read answer) read.nodes c.loop-a.a c.args.out.now (rw n (omega (arith, most, c.requires.2))) in
+    let ends : let n = c.args.chart.nodes in (c.loop-a.a + 1) * n ≡ c.loop-a.a * n + n =
+        row-end c.loop-a.a c.args.chart.nodes in
+    let most : (c.loop-a.a + 1) * c.args.chart.nodes ≤ 36864 =
+        omega (arith, ends, row_room c.loop-a.a c.args.chart.nodes c.loop-a-test.true, square c.requires.0.laid.nodes-most) in
+    let room : (c.loop-a.a + 1) * c.args.chart.nodes ≤ length c.loop-a.out =
+        omega (arith, ends, row_room c.loop-a.a c.args.chart.nodes c.loop-a-test.true, c.requires.2, long) in
+    let long = part_length c.args.chart.nodes _ _ c.loop-a.out ends room in
     (omega (arith, long, c.requires.0.laid.nodes-most), omega (arith, long))
 
 pub overflow_add-a-in-loop-a : goal.overflow_add-a-in-loop-a
-overflow_add-a-in-loop-a c = omega (arith, few c.before.before.before.before.before.before.before.before.before.before.before.before)
+overflow_add-a-in-loop-a c =
+    let few : c.loop-a.a < 192 =
+        omega (arith, c.requires.0.laid.nodes-most, c.loop-a-test.true) in
+    omega (arith, few)
 
 pub loop-a-smaller : goal.loop-a-smaller
 loop-a-smaller c = omega arith
@@ -122,26 +151,66 @@ loop-a-smaller c = omega arith
 pub loop-a-preserved : goal.loop-a-preserved
 unfolding row
 loop-a-preserved c =
+    let read : Region =
+        reading c.args.s.now c.args.chart in
+    let answer : ℕ → ℕ → ℕ =
+        answer_for read c.args.size in
+    let passed : c.loop-a.out ≡ after (entry read answer) read.nodes c.loop-a.a c.args.out.now =
+        let (Z, same) = (c.sets_for-sets.ensures.sized, c.sets_for-sets.ensures.kinds_value) in
+    c.loop-a.invariant.3 read c.args.size (nodes-length _ c.args.chart c.requires.0.laid) (subst (Marks read c.args.marks.now) (sym same) c.requires.1) Z c.load_closed.ensures in
+    let long : length c.loop-a.out ≡ length c.args.out.now =
+        let n = nodes-length _ c.args.chart c.requires.0.laid in
+    let most = mul-le-mul_right {m = c.loop-a.a} {n = c.args.chart.nodes} c.args.chart.nodes c.loop-a.invariant.0 in
+    ap length passed ∙ after-length (entry read answer) read.nodes c.loop-a.a c.args.out.now (rw n (omega (arith, most, c.requires.2))) in
+    let ends : let n = c.args.chart.nodes in (c.loop-a.a + 1) * n ≡ c.loop-a.a * n + n =
+        row-end c.loop-a.a c.args.chart.nodes in
+    let most : (c.loop-a.a + 1) * c.args.chart.nodes ≤ 36864 =
+        omega (arith, ends, row_room c.loop-a.a c.args.chart.nodes c.loop-a-test.true, square c.requires.0.laid.nodes-most) in
+    let room : (c.loop-a.a + 1) * c.args.chart.nodes ≤ length c.loop-a.out =
+        omega (arith, ends, row_room c.loop-a.a c.args.chart.nodes c.loop-a-test.true, c.requires.2, long) in
     let (below, wide, kept, done) = c.loop-a.invariant in
     let next = c.keep_row-kept.ensures.2 _ _ c.gather_all.ensures c.fill_fence.ensures kept in (
       omega arith,
       c.keep_row-kept.ensures.0,
       next,
       λ R size n M Z C.
-          let filled = c.fill_row.ensures R (answer_for R size) (n ∙ sym (part_length c.args.chart.nodes _ _ c.loop-a.out (ends c.before.before.before.before.before.before.before.before.before.before.before.before) (room c.before.before.before.before.before.before.before.before.before.before.before.before))) C
+          let filled = c.fill_row.ensures R (answer_for R size) (n ∙ sym (part_length c.args.chart.nodes _ _ c.loop-a.out ends room)) C
           (λ o j h. next j (omega (arith, n, c.requires.0.laid.nodes-most, h)) ∙ kept_row _ M size Z C c.loop-a.a j _ _ (omega (arith, n, c.loop-a-test.true)) h c.keep_row-kept.ensures.1 c.profile_of.ensures o)
           in
           after_more (entry R (answer_for R size)) R.nodes c.loop-a.a _ _ c.args.out.now c.loop-a.out _ (ap (λ (k : ℕ). c.loop-a.a * k) (sym n))
-          (ends c.before.before.before.before.before.before.before.before.before.before.before.before ∙ ap (λ (k : ℕ). c.loop-a.a * c.args.chart.nodes + k) (sym n)) (done R size n M Z C) filled,
+          (ends ∙ ap (λ (k : ℕ). c.loop-a.a * c.args.chart.nodes + k) (sym n)) (done R size n M Z C) filled,
     )
 
 pub shape_of-out : goal.shape_of-out
-shape_of-out c = long c.before
+shape_of-out c =
+    let read : Region =
+        reading c.args.s.now c.args.chart in
+    let answer : ℕ → ℕ → ℕ =
+        answer_for read c.args.size in
+    let passed : c.loop-a.out ≡ after (entry read answer) read.nodes c.loop-a.a c.args.out.now =
+        let (Z, same) = (c.sets_for-sets.ensures.sized, c.sets_for-sets.ensures.kinds_value) in
+    c.loop-a.invariant.3 read c.args.size (nodes-length _ c.args.chart c.requires.0.laid) (subst (Marks read c.args.marks.now) (sym same) c.requires.1) Z c.load_closed.ensures in
+    let long : length c.loop-a.out ≡ length c.args.out.now =
+        let n = nodes-length _ c.args.chart c.requires.0.laid in
+    let most = mul-le-mul_right {m = c.loop-a.a} {n = c.args.chart.nodes} c.args.chart.nodes c.loop-a.invariant.0 in
+    ap length passed ∙ after-length (entry read answer) read.nodes c.loop-a.a c.args.out.now (rw n (omega (arith, most, c.requires.2))) in
+    let ends : let n = c.args.chart.nodes in (c.loop-a.a + 1) * n ≡ c.loop-a.a * n + n =
+        row-end c.loop-a.a c.args.chart.nodes in
+    let most : (c.loop-a.a + 1) * c.args.chart.nodes ≤ 36864 =
+        omega (arith, ends, row_room c.loop-a.a c.args.chart.nodes c.loop-a-test.true, square c.requires.0.laid.nodes-most) in
+    long
 
 pub returns : goal.returns
 unfolding sheet
 returns c =
-    let R = read c.before.before.before.before.before.before.before.before.before.before.before.before.before.before.before.before.before.before.before.before in
-    let f = answer c.before.before.before.before.before.before.before.before.before.before.before.before.before.before.before.before.before.before.before.before in
+    let read : Region =
+        reading c.args.s.now c.args.chart in
+    let answer : ℕ → ℕ → ℕ =
+        answer_for read c.args.size in
+    let passed : c.loop-a.out ≡ after (entry read answer) read.nodes c.loop-a.a c.args.out.now =
+        let (Z, same) = (c.sets_for-sets.ensures.sized, c.sets_for-sets.ensures.kinds_value) in
+    c.loop-a.invariant.3 read c.args.size (nodes-length _ c.args.chart c.requires.0.laid) (subst (Marks read c.args.marks.now) (sym same) c.requires.1) Z c.load_closed.ensures in
+    let R = read in
+    let f = answer in
     let q : c.loop-a.a ≡ R.nodes = omega (arith, nodes-length _ c.args.chart c.requires.0.laid) in
-    passed c.before ∙ ap (λ (k : ℕ). after (entry R f) R.nodes k c.args.out.now) q ∙ after-all (entry R f) R.nodes R.nodes c.args.out.now
+    passed ∙ ap (λ (k : ℕ). after (entry R f) R.nodes k c.args.out.now) q ∙ after-all (entry R f) R.nodes R.nodes c.args.out.now

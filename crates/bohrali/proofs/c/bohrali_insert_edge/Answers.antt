@@ -13,18 +13,19 @@ use Rattle.theory_edits.specs.InsertCorrect.{InsertCorrect}
 use Rattle.theory_edits.specs.InsertCorrectLaws.{insert-correct}
 use Rattle.bohrali.proofs.c.bohrali_insert_edge.Goals as goal
 
-abbrev receipt : goal.Start → Receipt
-receipt e = record { length = e.args.receipt_length; place = e.args.receipt_place }
-
 -- a result that was written had room, and so fits
 pub number_of-requires : goal.number_of-requires
 number_of-requires c count h =
+    let receipt : Receipt =
+        record { length = c.args.receipt_length; place = c.args.receipt_place } in
     let h = sym c.insert_edge.ensures.value ∙ h in
     let buffer = c.args.buffer.now in
-    omega (arith, insert-returns buffer c.args.chart_len (receipt c.before.before.before.before.before) c.args.from c.args.to h, room buffer c.args.chart_len (receipt c.before.before.before.before.before) c.args.from c.args.to h)
+    omega (arith, insert-returns buffer c.args.chart_len receipt c.args.from c.args.to h, room buffer c.args.chart_len receipt c.args.from c.args.to h)
 
 pub returns : goal.returns
 returns c =
+    let receipt : Receipt =
+        record { length = c.args.receipt_length; place = c.args.receipt_place } in
     let e : to_z w64 (of_z w64 c.number_of.result) ≡ c.number_of.result = search rules in
     carried (InsertCorrect _ _ _ _ _) (e ∙ c.number_of.ensures ∙ ap number_of c.insert_edge.ensures.value) c.insert_edge.ensures.buffer_after
-    (insert-correct _ _ (receipt c.before.before.before.before.before.before) _ _)
+    (insert-correct _ _ receipt _ _)

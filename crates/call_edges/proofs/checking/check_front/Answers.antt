@@ -12,13 +12,14 @@ pub returns-then-buffer-len : goal.returns-then-buffer-len
 unfolding checked_by
 returns-then-buffer-len c = rw (beyond c.args.buffer.now c.args.len c.if-buffer-len.true)
 
--- the chart, as long as it was said to be
-long : (c : goal.Else-buffer-len) → length (take c.args.len c.args.buffer.now) ≡ c.args.len
-long c = length-take-le c.args.len c.args.buffer.now c.if-buffer-len.false
-
 pub slice_bounds-check_all-end : goal.slice_bounds-check_all-end
-slice_bounds-check_all-end c = sym (long c)
+slice_bounds-check_all-end c =
+    let long : length (take c.args.len c.args.buffer.now) ≡ c.args.len =
+        length-take-le c.args.len c.args.buffer.now c.if-buffer-len.false in
+    sym long
 
 pub returns : goal.returns
 returns c =
-    rw (within c.args.buffer.now c.args.len refl (long c.before)) c.check_all.ensures
+    let long : length (take c.args.len c.args.buffer.now) ≡ c.args.len =
+        length-take-le c.args.len c.args.buffer.now c.if-buffer-len.false in
+    rw (within c.args.buffer.now c.args.len refl long) c.check_all.ensures

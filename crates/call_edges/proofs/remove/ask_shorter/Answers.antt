@@ -26,10 +26,6 @@ lacks_edge-requires c =
     let ((admits, counts), long) = c.requires in
     (rw counts (laid _ (trailer-passes _ admits)), admitted-rising _ admits, c.place_of-place.ensures.0)
 
--- where the edge is there
-there : (c : goal.Else-lacks_edge) → not (edge_in (decode c.args.s.now).edges c.args.edge.from c.args.edge.to) ≡ false
-there c = sym c.lacks_edge.ensures ∙ c.if-lacks_edge.false
-
 pub returns-then-lacks_edge : goal.returns-then-lacks_edge
 returns-then-lacks_edge c =
     let none-such = no_edge c.args.s.now c.args.edge.from c.args.edge.to (sym c.lacks_edge.ensures ∙ c.if-lacks_edge.true) in
@@ -40,10 +36,12 @@ overflow_sub-size c = let least = chart-least _ c.requires.0.0 in omega arith
 
 pub put_shorter-requires : goal.put_shorter-requires
 put_shorter-requires c =
+    let there : not (edge_in (decode c.args.s.now).edges c.args.edge.from c.args.edge.to) ≡ false =
+        sym c.lacks_edge.ensures ∙ c.if-lacks_edge.false in
     let ((admits, counts), long) = c.requires in
     let edges = (decode c.args.s.now).edges in
     let L : Laid c.args.s.now c.args.chart = rw counts (laid _ (trailer-passes _ admits)) in
-    let below = (at_place edges (admitted-rising _ admits) c.args.edge.from c.args.edge.to (not-false _ (there c.before))).0 in (
+    let below = (at_place edges (admitted-rising _ admits) c.args.edge.from c.args.edge.to (not-false _ there)).0 in (
       (trailer-passes _ admits, counts),
       omega (arith, below, c.place_of-place.ensures.0, edges-length c.args.s.now c.args.chart L),
       omega (arith, chart-most _ admits),
@@ -51,18 +49,22 @@ put_shorter-requires c =
 
 pub returns-in-Refused : goal.returns-in-Refused
 returns-in-Refused c =
+    let there : not (edge_in (decode c.args.s.now).edges c.args.edge.from c.args.edge.to) ≡ false =
+        sym c.lacks_edge.ensures ∙ c.if-lacks_edge.false in
     let s = c.args.s.now in
     let x = c.args.edge.from in
     let y = c.args.edge.to in
     let is = c.put_shorter.ensures x y c.place_of-place.ensures.0 in
     let h = refused-some _ _ (sym c.check_front.ensures ∙ c.in-Refused.is) in
-    record { value = (refused _ _ [] [] (sym (short-front s x y (there c.before.before.before.before.before.before.before.before) c.requires.0.0 _ is) ∙ h)).0; by_index = λ count q. absurd (apart q) }
+    record { value = (refused _ _ [] [] (sym (short-front s x y there c.requires.0.0 _ is) ∙ h)).0; by_index = λ count q. absurd (apart q) }
 
 pub returns-in-Passed : goal.returns-in-Passed
 returns-in-Passed c =
+    let there : not (edge_in (decode c.args.s.now).edges c.args.edge.from c.args.edge.to) ≡ false =
+        sym c.lacks_edge.ensures ∙ c.if-lacks_edge.false in
     let s = c.args.s.now in
     let x = c.args.edge.from in
     let y = c.args.edge.to in
     let is = c.put_shorter.ensures x y c.place_of-place.ensures.0 in
     let h = (passed_none _ _ (sym c.check_front.ensures ∙ c.in-Passed.is)).0 in
-    record { value = (passed _ _ [] [] refl (sym (short-front s x y (there c.before.before.before.before.before.before.before) c.requires.0.0 _ is) ∙ h)).0; by_index = λ count q. is }
+    record { value = (passed _ _ [] [] refl (sym (short-front s x y there c.requires.0.0 _ is) ∙ h)).0; by_index = λ count q. is }

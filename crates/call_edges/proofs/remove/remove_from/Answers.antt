@@ -14,31 +14,44 @@ use Rattle.call_edges.proofs.CheckLaws.{chart-most}
 use Rattle.call_edges.specs.Removing.{short_rows, short_left}
 use Rattle.call_edges.proofs.remove.remove_from.Goals as goal
 
--- the chart, as long as it was said to be
-long : (e : goal.Start) → length (take e.args.len e.args.buffer.now) ≡ e.args.len
-long e = length-take-le e.args.len e.args.buffer.now e.requires.0
-
 pub slice_bounds-ask_shorter-end-2 : goal.slice_bounds-ask_shorter-end-2
-slice_bounds-ask_shorter-end-2 c = sym (long c.before)
-
--- the scratch memory, which has room for the chart
-abbrev scratch : goal.In-Bytes-2 → List ℕ
-scratch m = m.ask_shorter.new.shorter
-
-fits : (m : goal.In-Bytes-2) → m.args.len ≤ length (scratch m)
-fits m =
-    let full : length (scratch m) ≡ 3122 = search rules in
-    omega (arith, chart-most _ m.requires.1.0, long m.before.before.before.before.before.before)
+slice_bounds-ask_shorter-end-2 c =
+    let long : length (take c.args.len c.args.buffer.now) ≡ c.args.len =
+        length-take-le c.args.len c.args.buffer.now c.requires.0 in
+    sym long
 
 pub slice_bounds-shorter-end : goal.slice_bounds-shorter-end
-slice_bounds-shorter-end c = fits c.before.before
+slice_bounds-shorter-end c =
+    let long : length (take c.args.len c.args.buffer.now) ≡ c.args.len =
+        length-take-le c.args.len c.args.buffer.now c.requires.0 in
+    let scratch : List ℕ =
+        c.ask_shorter.new.shorter in
+    let fits : c.args.len ≤ length scratch =
+        let full : length scratch ≡ 3122 = search rules in
+    omega (arith, chart-most _ c.requires.1.0, long) in
+    fits
 
 pub slice_bounds-put_part-end : goal.slice_bounds-put_part-end
-slice_bounds-put_part-end c = sym (length-take-le _ _ (fits c.before.before.before))
+slice_bounds-put_part-end c =
+    let long : length (take c.args.len c.args.buffer.now) ≡ c.args.len =
+        length-take-le c.args.len c.args.buffer.now c.requires.0 in
+    let scratch : List ℕ =
+        c.ask_shorter.new.shorter in
+    let fits : c.args.len ≤ length scratch =
+        let full : length scratch ≡ 3122 = search rules in
+    omega (arith, chart-most _ c.requires.1.0, long) in
+    sym (length-take-le _ _ fits)
 
 pub put_part-requires : goal.put_part-requires
 put_part-requires c =
-    part_room (scratch c.before.before.before) c.args.len _ (fits c.before.before.before) c.requires.0
+    let long : length (take c.args.len c.args.buffer.now) ≡ c.args.len =
+        length-take-le c.args.len c.args.buffer.now c.requires.0 in
+    let scratch : List ℕ =
+        c.ask_shorter.new.shorter in
+    let fits : c.args.len ≤ length scratch =
+        let full : length scratch ≡ 3122 = search rules in
+    omega (arith, chart-most _ c.requires.1.0, long) in
+    part_room scratch c.args.len _ fits c.requires.0
 
 pub returns-in-Refused : goal.returns-in-Refused
 unfolding written_by
@@ -48,11 +61,15 @@ returns-in-Refused c =
 pub returns-in-Bytes : goal.returns-in-Bytes
 unfolding written_by
 returns-in-Bytes c =
+    let long : length (take c.args.len c.args.buffer.now) ≡ c.args.len =
+        length-take-le c.args.len c.args.buffer.now c.requires.0 in
+    let scratch : List ℕ =
+        c.ask_shorter.new.shorter in
     let buffer = c.args.buffer.now in
     let s = take c.args.len buffer in
     let edge = c.args.edge in
     let (passes, size) = bytes-none _ (sym c.ask_shorter.ensures.value ∙ c.in-Bytes.is) in
     let (count, left) = passed (short_rows s edge.from edge.to) (c.args.len - 2) (short_left s edge.from edge.to) buffer
-    (ap (λ (n : ℕ). n - 2) (sym (long c.before.before.before.before.before.before.before.before.before.before.before.before)) ∙ size) passes in
-    let is = rw (long c.before.before.before.before.before.before.before.before.before.before.before.before) at (c.ask_shorter.ensures.by_index _ c.in-Bytes.is) in
-    record { value = count; buffer_after = rw is at (front (take c.args.len (scratch c.before.before.before.before.before.before)) buffer _ c.put_part.ensures.out_after c.put_part.ensures.out_unchanged) ∙ left }
+    (ap (λ (n : ℕ). n - 2) (sym long) ∙ size) passes in
+    let is = rw long at (c.ask_shorter.ensures.by_index _ c.in-Bytes.is) in
+    record { value = count; buffer_after = rw is at (front (take c.args.len scratch) buffer _ c.put_part.ensures.out_after c.put_part.ensures.out_unchanged) ∙ left }

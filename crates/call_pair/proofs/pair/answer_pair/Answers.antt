@@ -18,13 +18,12 @@ use Rattle.call_pair.proofs.pair.answer_pair.Goals as goal
 pub bad_node-requires : goal.bad_node-requires
 bad_node-requires c = (c.requires.0, c.requires.1.well-formed)
 
-abbrev R : (c : goal.After-bad_node) → Region
-R c = reading c.args.s.now c.args.chart
-
 pub returns-then-bad_node : goal.returns-then-bad_node
 unfolding answered numbers_row first_of
 returns-then-bad_node c =
-    rw (or_left (bad_number (R c.before) c.args.a) (bad_number (R c.before) c.args.b) (sym c.bad_node.ensures ∙ c.if-bad_node.true))
+    let R : Region =
+        reading c.args.s.now c.args.chart in
+    rw (or_left (bad_number R c.args.a) (bad_number R c.args.b) (sym c.bad_node.ensures ∙ c.if-bad_node.true))
 
 pub bad_node-requires-2 : goal.bad_node-requires-2
 bad_node-requires-2 c = (c.requires.0, c.requires.1.well-formed)
@@ -32,42 +31,56 @@ bad_node-requires-2 c = (c.requires.0, c.requires.1.well-formed)
 pub returns-then-bad_node-2 : goal.returns-then-bad_node-2
 unfolding answered numbers_row first_of
 returns-then-bad_node-2 c =
-    rw (or_right (bad_number (R c.before.before.before) c.args.a) (bad_number (R c.before.before.before) c.args.b) (sym c.bad_node-2.ensures ∙ c.if-bad_node-2.true))
+    let R : Region =
+        reading c.args.s.now c.args.chart in
+    rw (or_right (bad_number R c.args.a) (bad_number R c.args.b) (sym c.bad_node-2.ensures ∙ c.if-bad_node-2.true))
 
 -- past the tests both numbers are those of nodes that a claim may name, and the size decides
-module _ (c : goal.Else-bad_node-2) where
-
-  good-a : bad_number (R c.before.before.before) c.args.a ≡ false
-  good-a = sym c.bad_node.ensures ∙ c.if-bad_node.false
-
-  good-b : bad_number (R c.before.before.before) c.args.b ≡ false
-  good-b = sym c.bad_node-2.ensures ∙ c.if-bad_node-2.false
-
-  below-a : c.args.a < (R c.before.before.before).nodes
-  below-a = (good-number (R c.before.before.before) c.args.a c.requires.1.well-formed good-a).0
-
-  below-b : c.args.b < (R c.before.before.before).nodes
-  below-b = (good-number (R c.before.before.before) c.args.b c.requires.1.well-formed good-b).0
-
-  rest : first_of (numbers_row (R c.before.before.before) c.args.a c.args.b ∷ size_rows c.args.size) ≡ first_of (size_rows c.args.size)
-  unfolding numbers_row first_of
-  rest = rw (neither-or (bad_number (R c.before.before.before) c.args.a) (bad_number (R c.before.before.before) c.args.b) good-a good-b)
-
 pub returns-then-bad_size : goal.returns-then-bad_size
-unfolding answered
+unfolding answered numbers_row first_of
 returns-then-bad_size c =
-    rw (rest c.before.before, c.bad_size.ensures, c.if-bad_size.true)
+    let R : Region =
+        reading c.args.s.now c.args.chart in
+    let good-a : bad_number R c.args.a ≡ false =
+        sym c.bad_node.ensures ∙ c.if-bad_node.false in
+    let good-b : bad_number R c.args.b ≡ false =
+        sym c.bad_node-2.ensures ∙ c.if-bad_node-2.false in
+    let rest : first_of (numbers_row R c.args.a c.args.b ∷ size_rows c.args.size) ≡ first_of (size_rows c.args.size) =
+        rw (neither-or (bad_number R c.args.a) (bad_number R c.args.b) good-a good-b) in
+    rw (rest, c.bad_size.ensures, c.if-bad_size.true)
 
 pub sets_for-requires : goal.sets_for-requires
 sets_for-requires c = c.requires.0
 
 pub pair-number-requires : goal.pair-number-requires
 pair-number-requires c =
+    let R : Region =
+        reading c.args.s.now c.args.chart in
+    let good-a : bad_number R c.args.a ≡ false =
+        sym c.bad_node.ensures ∙ c.if-bad_node.false in
+    let good-b : bad_number R c.args.b ≡ false =
+        sym c.bad_node-2.ensures ∙ c.if-bad_node-2.false in
+    let below-a : c.args.a < R.nodes =
+        (good-number R c.args.a c.requires.1.well-formed good-a).0 in
+    let below-b : c.args.b < R.nodes =
+        (good-number R c.args.b c.requires.1.well-formed good-b).0 in
     let M = c.requires.1 in
-    (omega (arith, M.few, below-a c.before.before.before), omega (arith, M.few, below-b c.before.before.before))
+    (omega (arith, M.few, below-a), omega (arith, M.few, below-b))
 
 pub returns : goal.returns
-unfolding answered
+unfolding answered numbers_row first_of
 returns c =
+    let R : Region =
+        reading c.args.s.now c.args.chart in
+    let good-a : bad_number R c.args.a ≡ false =
+        sym c.bad_node.ensures ∙ c.if-bad_node.false in
+    let good-b : bad_number R c.args.b ≡ false =
+        sym c.bad_node-2.ensures ∙ c.if-bad_node-2.false in
+    let below-a : c.args.a < R.nodes =
+        (good-number R c.args.a c.requires.1.well-formed good-a).0 in
+    let below-b : c.args.b < R.nodes =
+        (good-number R c.args.b c.requires.1.well-formed good-b).0 in
+    let rest : first_of (numbers_row R c.args.a c.args.b ∷ size_rows c.args.size) ≡ first_of (size_rows c.args.size) =
+        rw (neither-or (bad_number R c.args.a) (bad_number R c.args.b) good-a good-b) in
     let (Z, same) = (c.sets_for.ensures.sized, c.sets_for.ensures.kinds_value) in
-    rw (rest c.before.before.before.before, c.bad_size.ensures, c.if-bad_size.false, ← c.pair-number.ensures (R c.before.before.before.before.before.before.before) c.args.size (rw same c.requires.1) Z (below-a c.before.before.before.before) (below-b c.before.before.before.before))
+    rw (rest, c.bad_size.ensures, c.if-bad_size.false, ← c.pair-number.ensures R c.args.size (rw same c.requires.1) Z below-a below-b)

@@ -16,20 +16,22 @@ size : (R : Region) (n : ℕ) → R.nodes ≡ n → length (phases_result R) ≡
 unfolding phases_result
 size R n q = tab-length (16 * R.nodes) (phase_byte R) ∙ ap (λ (k : ℕ). 16 * k) q
 
-answers : (c : goal.After-room_for) → (R : Region) → R.nodes ≡ c.args.n
-    → c.room_for.result ≡ written_by (output_rows [] (length c.args.out.now) (length (phases_result R)) []) (length (phases_result R))
-answers c R q = rw (size R c.args.n q) c.room_for.ensures
-
 pub fill_phases-requires : goal.fill_phases-requires
 fill_phases-requires c =
     (c.requires, (had-room [] [] (length c.args.out.now) (16 * c.args.n) (sym c.room_for.ensures ∙ c.in-Bytes.is)).1)
 
 pub returns-in-Refused : goal.returns-in-Refused
 returns-in-Refused c =
+    let answers : (R : Region) → R.nodes ≡ c.args.n
+    → c.room_for.result ≡ written_by (output_rows [] (length c.args.out.now) (length (phases_result R)) []) (length (phases_result R)) =
+        λ R q. rw (size R c.args.n q) c.room_for.ensures in
     let h = c.in-Refused.is in
-    record { value = (λ R q. sym h ∙ answers c.before.before.before R q); of_masks = λ R q S E. kept _ _ (phases_result R) _ (sym (answers c.before.before.before R q) ∙ h) }
+    record { value = (λ R q. sym h ∙ answers R q); of_masks = λ R q S E. kept _ _ (phases_result R) _ (sym (answers R q) ∙ h) }
 
 pub returns-in-Bytes : goal.returns-in-Bytes
 returns-in-Bytes c =
+    let answers : (R : Region) → R.nodes ≡ c.args.n
+    → c.room_for.result ≡ written_by (output_rows [] (length c.args.out.now) (length (phases_result R)) []) (length (phases_result R)) =
+        λ R q. rw (size R c.args.n q) c.room_for.ensures in
     let h = c.in-Bytes.is in
-    record { value = (λ R q. sym h ∙ answers c.before.before.before.before.before.before.before R q); of_masks = λ R q S E. c.fill_phases.ensures R q S E ∙ put _ _ (phases_result R) _ (sym (answers c.before.before.before.before.before.before.before R q) ∙ h) }
+    record { value = (λ R q. sym h ∙ answers R q); of_masks = λ R q S E. c.fill_phases.ensures R q S E ∙ put _ _ (phases_result R) _ (sym (answers R q) ∙ h) }

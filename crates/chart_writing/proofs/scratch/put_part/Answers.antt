@@ -9,11 +9,6 @@ use lib.ListN.{length, get_or, set, take, drop}
 use lib.Seq.{paste, paste-zero, paste-suc, length-paste, take-paste, drop-paste, take_all}
 use Rattle.chart_writing.proofs.scratch.put_part.Goals as goal
 
--- the length stays
-long : (l : goal.At-loop-k) → length l.loop-k.out ≡ length l.args.out.now
-long l =
-    ap length l.loop-k.invariant.1 ∙ length-paste l.args.out.now l.args.at l.args.part.now l.loop-k.k (omega (arith, l.requires, l.loop-k.invariant.0)) l.loop-k.invariant.0
-
 pub loop-k-init : goal.loop-k-init
 loop-k-init c = (omega arith, paste-zero c.args.out.now c.args.at c.args.part.now)
 
@@ -24,7 +19,10 @@ pub overflow_add-out : goal.overflow_add-out
 overflow_add-out c = omega arith
 
 pub bounds-out-at : goal.bounds-out-at
-bounds-out-at c = omega (arith, long c.before.before, c.requires)
+bounds-out-at c =
+    let long : length c.loop-k.out ≡ length c.args.out.now =
+        ap length c.loop-k.invariant.1 ∙ length-paste c.args.out.now c.args.at c.args.part.now c.loop-k.k (omega (arith, c.requires, c.loop-k.invariant.0)) c.loop-k.invariant.0 in
+    omega (arith, long, c.requires)
 
 pub overflow_add-k : goal.overflow_add-k
 overflow_add-k c = omega arith
@@ -44,7 +42,10 @@ loop-k-preserved c =
     )
 
 pub shape_of-out : goal.shape_of-out
-shape_of-out c = long c.before
+shape_of-out c =
+    let long : length c.loop-k.out ≡ length c.args.out.now =
+        ap length c.loop-k.invariant.1 ∙ length-paste c.args.out.now c.args.at c.args.part.now c.loop-k.k (omega (arith, c.requires, c.loop-k.invariant.0)) c.loop-k.invariant.0 in
+    long
 
 pub returns : goal.returns
 returns c =

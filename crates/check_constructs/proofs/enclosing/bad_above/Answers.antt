@@ -16,28 +16,30 @@ use Rattle.check_constructs.proofs.KindLaws.{barred-found, names-left}
 use borrow.Author.Rules.{rules}
 use Rattle.check_constructs.proofs.enclosing.bad_above.Goals as goal
 
--- the kinds that are asked for are those that may not stand above c
-barred-is : (e : goal.Start) → e.args.barred ≡ mask_of (barred_by (construct_at (decode e.args.s.now).constructs e.args.c).kind) 8
-barred-is e = e.requires.kind_value.1 ∙ ap (λ (kind : ℕ). mask_of (barred_by kind) 8) e.requires.kind_value.0
-
 pub returns-then-above-barred-ne0 : goal.returns-then-above-barred-ne0
 returns-then-above-barred-ne0 c =
+    let barred-is : c.args.barred ≡ mask_of (barred_by (construct_at (decode c.args.s.now).constructs c.args.c).kind) 8 =
+        c.requires.kind_value.1 ∙ ap (λ (kind : ℕ). mask_of (barred_by kind) 8) c.requires.kind_value.0 in
     let l = constructs-length _ c.args.chart c.requires.laid.0 in
-    sym (barred-found _ c.args.c c.requires.laid.2 c.requires.kinds_from (omega (arith, l, c.requires.laid.1)) (rw (← barred-is c.before.before, ne_eqb _ 0 c.if-above-barred-ne0.true)))
-
--- no kind is there that may not be
-kinds-pass : (c : goal.Else-above-barred-ne0) → common c.args.above (mask_of (barred_by (construct_at (decode c.args.s.now).constructs c.args.c).kind) 8) ≡ false
-kinds-pass c = rw (← barred-is c.before.before, eq-eqb _ 0 c.if-above-barred-ne0.false)
+    sym (barred-found _ c.args.c c.requires.laid.2 c.requires.kinds_from (omega (arith, l, c.requires.laid.1)) (rw (← barred-is, ne_eqb _ 0 c.if-above-barred-ne0.true)))
 
 pub returns-then-above-bit-eq0 : goal.returns-then-above-bit-eq0
 returns-then-above-bit-eq0 c =
+    let barred-is : c.args.barred ≡ mask_of (barred_by (construct_at (decode c.args.s.now).constructs c.args.c).kind) 8 =
+        c.requires.kind_value.1 ∙ ap (λ (kind : ℕ). mask_of (barred_by kind) 8) c.requires.kind_value.0 in
+    let kinds-pass : common c.args.above (mask_of (barred_by (construct_at (decode c.args.s.now).constructs c.args.c).kind) 8) ≡ false =
+        rw (← barred-is, eq-eqb _ 0 c.if-above-barred-ne0.false) in
     let none : bit_and c.args.above (2 ^ critical_byte) ≡ 0 = ap (bit_and c.args.above) (sym c.bit.ensures) ∙ c.if-above-bit-eq0.true in
-    sym (names-left _ c.args.c c.requires.laid.2 c.requires.kinds_from (kinds-pass c.before.before)
+    sym (names-left _ c.args.c c.requires.laid.2 c.requires.kinds_from kinds-pass
     (λ k h. has-none critical_byte (subst (λ (m : ℕ). Has m critical_byte) none (both-and _ (2 ^ critical_byte) critical_byte h (has-own critical_byte)))))
 
 pub returns-then-kind-ne-CRITICAL : goal.returns-then-kind-ne-CRITICAL
 returns-then-kind-ne-CRITICAL c =
-    sym (names-left _ c.args.c c.requires.laid.2 c.requires.kinds_from (kinds-pass c.before.before.before) (λ k h. c.if-kind-ne-CRITICAL.true (c.requires.kind_value.0 ∙ k)))
+    let barred-is : c.args.barred ≡ mask_of (barred_by (construct_at (decode c.args.s.now).constructs c.args.c).kind) 8 =
+        c.requires.kind_value.1 ∙ ap (λ (kind : ℕ). mask_of (barred_by kind) 8) c.requires.kind_value.0 in
+    let kinds-pass : common c.args.above (mask_of (barred_by (construct_at (decode c.args.s.now).constructs c.args.c).kind) 8) ≡ false =
+        rw (← barred-is, eq-eqb _ 0 c.if-above-barred-ne0.false) in
+    sym (names-left _ c.args.c c.requires.laid.2 c.requires.kinds_from kinds-pass (λ k h. c.if-kind-ne-CRITICAL.true (c.requires.kind_value.0 ∙ k)))
 
 pub same_above-requires : goal.same_above-requires
 same_above-requires c =

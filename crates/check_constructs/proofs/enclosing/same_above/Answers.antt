@@ -28,52 +28,51 @@ read-outer-requires c =
     let cs = (decode c.args.s.now).constructs in
     (c.requires.laid.0, omega (arith, place-below cs c.requires.laid.2 c.loop-p.invariant c.loop-p-test.true, c.requires.laid.1, c.wide.ensures.0))
 
--- what was read of the construct that the walk has come to
-kind-read : (c : goal.After-read-outer) →
-    c.read-outer.result.kind ≡ (construct_at (decode c.args.s.now).constructs c.loop-p.p).kind
-kind-read c = cc (c.read-outer.ensures.0, c.wide.ensures.0)
-
-parent-read : (c : goal.After-read-outer) →
-    c.read-outer.result.parent ≡ (construct_at (decode c.args.s.now).constructs c.loop-p.p).parent
-parent-read c = cc (c.read-outer.ensures.1, c.wide.ensures.0)
-
 pub returns-then-outer-eq-PARALLEL : goal.returns-then-outer-eq-PARALLEL
 unfolding is_parallel
 returns-then-outer-eq-PARALLEL c =
-    sym (walk_end (decode c.args.s.now).constructs c.requires.laid.2 c.loop-p.invariant (inr (eq-eqb _ parallel_byte (sym (kind-read c.before.before) ∙ c.if-outer-eq-PARALLEL.true))))
-
--- the walk goes on within the region
-within : (c : goal.Else-outer-eq-PARALLEL) →
-    is_parallel (decode c.args.s.now).constructs c.loop-p.p ≡ false
-unfolding is_parallel
-within c = ne_eqb _ parallel_byte (λ q. c.if-outer-eq-PARALLEL.false (kind-read c.before.before ∙ q))
-
--- the test of one construct above, in terms of the decoded chart
-tested : (c : goal.After-same_name) →
-    c.same_name.result ≡ against (decode c.args.s.now).constructs c.args.c c.loop-p.p
-tested c =
-    let i = c.read-inner.ensures in
-    cc (c.same_name.ensures, c.requires.c_value, i.2, c.read-outer.ensures.0, c.read-outer.ensures.2, c.wide.ensures.0)
+    let kind-read : c.read-outer.result.kind ≡ (construct_at (decode c.args.s.now).constructs c.loop-p.p).kind =
+        cc (c.read-outer.ensures.0, c.wide.ensures.0) in
+    sym (walk_end (decode c.args.s.now).constructs c.requires.laid.2 c.loop-p.invariant (inr (eq-eqb _ parallel_byte (sym kind-read ∙ c.if-outer-eq-PARALLEL.true))))
 
 pub returns-then-same_name : goal.returns-then-same_name
+unfolding is_parallel
 returns-then-same_name c =
+    let kind-read : c.read-outer.result.kind ≡ (construct_at (decode c.args.s.now).constructs c.loop-p.p).kind =
+        cc (c.read-outer.ensures.0, c.wide.ensures.0) in
+    let within : is_parallel (decode c.args.s.now).constructs c.loop-p.p ≡ false =
+        ne_eqb _ parallel_byte (λ q. c.if-outer-eq-PARALLEL.false (kind-read ∙ q)) in
+    let tested : c.same_name.result ≡ against (decode c.args.s.now).constructs c.args.c c.loop-p.p =
+        let i = c.read-inner.ensures in
+    cc (c.same_name.ensures, c.requires.c_value, i.2, c.read-outer.ensures.0, c.read-outer.ensures.2, c.wide.ensures.0) in
     let cs = (decode c.args.s.now).constructs in
     let n = constructs-length _ c.args.chart c.requires.laid.0 in
-    sym (walk-found cs c.requires.laid.2 (omega (arith, n, c.requires.laid.1)) c.loop-p.invariant c.loop-p-test.true (within c.before.before) (sym (tested c.before) ∙ c.if-same_name.true))
+    sym (walk-found cs c.requires.laid.2 (omega (arith, n, c.requires.laid.1)) c.loop-p.invariant c.loop-p-test.true within (sym tested ∙ c.if-same_name.true))
 
 pub loop-p-smaller : goal.loop-p-smaller
 unfolding parent_of
 loop-p-smaller c =
+    let parent-read : c.read-outer.result.parent ≡ (construct_at (decode c.args.s.now).constructs c.loop-p.p).parent =
+        cc (c.read-outer.ensures.1, c.wide.ensures.0) in
     let cs = (decode c.args.s.now).constructs in
-    subst (λ (q : ℕ). height q < height c.loop-p.p) (sym (parent-read c.before.before.before.before))
+    subst (λ (q : ℕ). height q < height c.loop-p.p) (sym parent-read)
     (height-falls c.loop-p-test.true (parents cs (c.args.c + 1) c.requires.laid.2 c.loop-p.p (omega (arith, place-below cs c.requires.laid.2 c.loop-p.invariant c.loop-p-test.true))))
 
 pub loop-p-preserved : goal.loop-p-preserved
-unfolding parent_of
+unfolding parent_of is_parallel
 loop-p-preserved c =
+    let kind-read : c.read-outer.result.kind ≡ (construct_at (decode c.args.s.now).constructs c.loop-p.p).kind =
+        cc (c.read-outer.ensures.0, c.wide.ensures.0) in
+    let parent-read : c.read-outer.result.parent ≡ (construct_at (decode c.args.s.now).constructs c.loop-p.p).parent =
+        cc (c.read-outer.ensures.1, c.wide.ensures.0) in
+    let within : is_parallel (decode c.args.s.now).constructs c.loop-p.p ≡ false =
+        ne_eqb _ parallel_byte (λ q. c.if-outer-eq-PARALLEL.false (kind-read ∙ q)) in
+    let tested : c.same_name.result ≡ against (decode c.args.s.now).constructs c.args.c c.loop-p.p =
+        let i = c.read-inner.ensures in
+    cc (c.same_name.ensures, c.requires.c_value, i.2, c.read-outer.ensures.0, c.read-outer.ensures.2, c.wide.ensures.0) in
     let cs = (decode c.args.s.now).constructs in
-    subst (Walked cs c.args.c) (sym (parent-read c.before.before.before.before))
-    (walk_more cs c.requires.laid.2 c.loop-p.invariant c.loop-p-test.true (within c.before.before) (sym (tested c.before) ∙ c.if-same_name.false))
+    subst (Walked cs c.args.c) (sym parent-read)
+    (walk_more cs c.requires.laid.2 c.loop-p.invariant c.loop-p-test.true within (sym tested ∙ c.if-same_name.false))
 
 pub returns : goal.returns
 returns c =

@@ -34,23 +34,20 @@ one_more : (flag : Bool) (k m : ℕ) → k < 8 → bit_or ((bool_byte flag * 2 ^
 one_more true k m l = rw (shl_exact {a = 1} 1 k 8 (omega arith) (omega arith), one-mul (2 ^ k))
 one_more false k m l = rw (shl_exact {a = 0} 0 k 8 (omega arith) (omega arith), zero-mul (2 ^ k)) (or_zero_l m)
 
--- the entry that is read, as the flag of kind k
-flagged : (l : goal.At-loop-k) → let a = l.args in
-    let k = l.loop-k.k in
-    k < 8 → not (get_or (get_or a.table.now a.row []) (k - 1) false) ≡ barred_by (a.row + 1) k
-unfolding barred_by
-flagged l h =
-    let a = l.args in
-    let k = l.loop-k.k in
-    let q : k - 1 + 1 ≡ k = omega (arith, l.loop-k.invariant.0) in
-    rw (lt-ltb 0 k (omega (arith, l.loop-k.invariant.0))) (ap not (l.requires.0.entry a.row (k - 1) l.requires.1 (omega (arith, h)) ∙ ap (λ (n : ℕ). may_enclose (kind_of (a.row + 1)) (kind_of n)) q))
-
 pub loop-k-preserved : goal.loop-k-preserved
+unfolding barred_by
 loop-k-preserved c =
+    let flagged : let a = c.args in
+    let k = c.loop-k.k in
+    k < 8 → not (get_or (get_or a.table.now a.row []) (k - 1) false) ≡ barred_by (a.row + 1) k =
+        λ h. let a = c.args in
+    let k = c.loop-k.k in
+    let q : k - 1 + 1 ≡ k = omega (arith, c.loop-k.invariant.0) in
+    rw (lt-ltb 0 k (omega (arith, c.loop-k.invariant.0))) (ap not (c.requires.0.entry a.row (k - 1) c.requires.1 (omega (arith, h)) ∙ ap (λ (n : ℕ). may_enclose (kind_of (a.row + 1)) (kind_of n)) q)) in
     let f = barred_by (c.args.row + 1) in
     let k = c.loop-k.k in
     let next : mask_of f (k + 1) ≡ cond (f k) (bit_or (2 ^ k) c.loop-k.bits) c.loop-k.bits = rw c.loop-k.invariant.2 (mask_next f k) in
-    (omega arith, omega arith, rw (flagged c.before.before (omega arith)) (one_more (f k) k c.loop-k.bits (omega arith) ∙ sym next))
+    (omega arith, omega arith, rw (flagged (omega arith)) (one_more (f k) k c.loop-k.bits (omega arith) ∙ sym next))
 
 pub returns : goal.returns
 returns c =

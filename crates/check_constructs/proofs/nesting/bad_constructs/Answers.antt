@@ -32,16 +32,17 @@ bad_nesting-requires c = (c.requires, tested _ refl)
 pub returns-then-bad_nesting : goal.returns-then-bad_nesting
 returns-then-bad_nesting c = rw (joined _, sym c.bad_nesting.ensures ∙ c.if-bad_nesting.true)
 
--- the constructs pass
-passed : (c : goal.Else-bad_nesting) → let D = decode c.args.s.now in
-    (any (length D.constructs) (bad_alone D.constructs) || any (length D.constructs) (misnested D.constructs)) ≡ false
-passed c = sym c.bad_nesting.ensures ∙ c.if-bad_nesting.false
-
 pub returns-then-not-occurs : goal.returns-then-not-occurs
 returns-then-not-occurs c =
+    let passed : let D = decode c.args.s.now in
+    (any (length D.constructs) (bad_alone D.constructs) || any (length D.constructs) (misnested D.constructs)) ≡ false =
+        sym c.bad_nesting.ensures ∙ c.if-bad_nesting.false in
     let s = c.args.s.now in
-    rw (joined _, passed c.before.before) (sym (no_stray (decode s) (sym c.occurs.ensures ∙ not-true _ c.if-not-occurs.true)))
+    rw (joined _, passed) (sym (no_stray (decode s) (sym c.occurs.ensures ∙ not-true _ c.if-not-occurs.true)))
 
 pub returns : goal.returns
 returns c =
-    rw (joined _, passed c.before.before.before) c.stray_nodes.ensures
+    let passed : let D = decode c.args.s.now in
+    (any (length D.constructs) (bad_alone D.constructs) || any (length D.constructs) (misnested D.constructs)) ≡ false =
+        sym c.bad_nesting.ensures ∙ c.if-bad_nesting.false in
+    rw (joined _, passed) c.stray_nodes.ensures

@@ -42,15 +42,12 @@ bad_at-requires c =
     let alone = (or-neither (any k (bad_alone cs)) _ (sym (any-or k (bad_alone cs) (misnested cs)) ∙ c.loop-c.invariant.1)).0 in
     record { laid = (c.requires.0, omega arith, alone); barred_table = (c.barred_kinds.ensures, placed _ refl refl); noted_to = (c.loop-c.invariant.2, c.loop-c.invariant.3) }
 
--- the answer of one turn
-answered : (b : goal.After-bad_at) →
-    b.bad_at.result ≡ bad b.args.s.now b.loop-c.c
-answered b = b.bad_at.ensures.value
-
 pub returns-then-bad_at : goal.returns-then-bad_at
 returns-then-bad_at c =
+    let answered : c.bad_at.result ≡ bad c.args.s.now c.loop-c.c =
+        c.bad_at.ensures.value in
     let s = c.args.s.now in
-    sym (sym (row s) ∙ at-any _ (bad s) c.loop-c.c (omega (arith, constructs-length _ c.args.chart c.requires.0)) (sym (answered c.before) ∙ c.if-bad_at.true))
+    sym (sym (row s) ∙ at-any _ (bad s) c.loop-c.c (omega (arith, constructs-length _ c.args.chart c.requires.0)) (sym answered ∙ c.if-bad_at.true))
 
 pub overflow_add-c : goal.overflow_add-c
 overflow_add-c c = omega arith
@@ -60,8 +57,10 @@ loop-c-smaller c = omega arith
 
 pub loop-c-preserved : goal.loop-c-preserved
 loop-c-preserved c =
+    let answered : c.bad_at.result ≡ bad c.args.s.now c.loop-c.c =
+        c.bad_at.ensures.value in
     let noted = c.bad_at.ensures.fact c.if-bad_at.false in
-    (omega arith, any-more c.loop-c.c _ c.loop-c.invariant.1 (sym (answered c.before) ∙ c.if-bad_at.false), noted.0, noted.1)
+    (omega arith, any-more c.loop-c.c _ c.loop-c.invariant.1 (sym answered ∙ c.if-bad_at.false), noted.0, noted.1)
 
 pub returns : goal.returns
 returns c =

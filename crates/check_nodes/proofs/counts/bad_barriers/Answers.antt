@@ -34,38 +34,40 @@ returns-then-read-ne-BARRIER-2 c =
       ne_eqb _ _ c.if-read-ne-BARRIER-2.true,
     )
 
--- with a barrier at either end, what is left of the row
-left : (c : goal.Else-read-ne-BARRIER-2) →
-    let D = decode c.args.s.now in
-    bad_barriers D ≡ (too_many_in D.nodes outside || any (length D.constructs) (λ p. is_parallel D.constructs p && too_many_in D.nodes p))
-unfolding bad_barriers is_barrier
-left c =
-    rw (
+pub returns-then-wide-gt-BARRIERS : goal.returns-then-wide-gt-BARRIERS
+unfolding bad_barriers is_barrier too_many_in
+returns-then-wide-gt-BARRIERS c =
+    let left : let D = decode c.args.s.now in
+    bad_barriers D ≡ (too_many_in D.nodes outside || any (length D.constructs) (λ p. is_parallel D.constructs p && too_many_in D.nodes p)) =
+        rw (
       ← c.read.ensures.0,
       eq-eqb _ _ c.if-read-ne-BARRIER.false,
       nodes-length _ c.args.chart c.requires,
       ← c.read-2.ensures.0,
       eq-eqb _ _ c.if-read-ne-BARRIER-2.false,
-    )
-
--- the test of the outermost region, in terms of the decoded chart
-outermost : (c : goal.After-wide) →
-    ltb 64 c.wide.result ≡ too_many_in (decode c.args.s.now).nodes outside
-unfolding too_many_in
-outermost c = ap (ltb 64) (c.wide.ensures.0 ∙ c.count_outermost.ensures)
-
-pub returns-then-wide-gt-BARRIERS : goal.returns-then-wide-gt-BARRIERS
-returns-then-wide-gt-BARRIERS c = rw (left c.before.before.before, ← outermost c.before, lt-ltb _ _ c.if-wide-gt-BARRIERS.true)
-
--- with not too many barriers in the outermost region, what is left of the row
-inner : (c : goal.Else-wide-gt-BARRIERS) →
-    let D = decode c.args.s.now in
-    bad_barriers D ≡ any (length D.constructs) (λ p. is_parallel D.constructs p && too_many_in D.nodes p)
-inner c = rw (left c.before.before.before, ← outermost c.before, le-ltb _ _ c.if-wide-gt-BARRIERS.false)
+    ) in
+    let outermost : ltb 64 c.wide.result ≡ too_many_in (decode c.args.s.now).nodes outside =
+        ap (ltb 64) (c.wide.ensures.0 ∙ c.count_outermost.ensures) in
+    rw (left, ← outermost, lt-ltb _ _ c.if-wide-gt-BARRIERS.true)
 
 pub returns-then-not-occurs : goal.returns-then-not-occurs
+unfolding bad_barriers is_barrier too_many_in
 returns-then-not-occurs c =
-    rw (inner c.before.before) (sym (none-crowded (decode c.args.s.now) (sym c.occurs.ensures ∙ not-true _ c.if-not-occurs.true)))
+    let left : let D = decode c.args.s.now in
+    bad_barriers D ≡ (too_many_in D.nodes outside || any (length D.constructs) (λ p. is_parallel D.constructs p && too_many_in D.nodes p)) =
+        rw (
+      ← c.read.ensures.0,
+      eq-eqb _ _ c.if-read-ne-BARRIER.false,
+      nodes-length _ c.args.chart c.requires,
+      ← c.read-2.ensures.0,
+      eq-eqb _ _ c.if-read-ne-BARRIER-2.false,
+    ) in
+    let outermost : ltb 64 c.wide.result ≡ too_many_in (decode c.args.s.now).nodes outside =
+        ap (ltb 64) (c.wide.ensures.0 ∙ c.count_outermost.ensures) in
+    let inner : let D = decode c.args.s.now in
+    bad_barriers D ≡ any (length D.constructs) (λ p. is_parallel D.constructs p && too_many_in D.nodes p) =
+        rw (left, ← outermost, le-ltb _ _ c.if-wide-gt-BARRIERS.false) in
+    rw inner (sym (none-crowded (decode c.args.s.now) (sym c.occurs.ensures ∙ not-true _ c.if-not-occurs.true)))
 
 pub count_barriers-requires : goal.count_barriers-requires
 unfolding count
@@ -73,4 +75,20 @@ count_barriers-requires c =
     (c.requires, record { long = refl; at = zeros 256 })
 
 pub returns : goal.returns
-returns c = rw (inner c.before.before.before.before.before.before) c.crowded.ensures
+unfolding bad_barriers is_barrier too_many_in
+returns c =
+    let left : let D = decode c.args.s.now in
+    bad_barriers D ≡ (too_many_in D.nodes outside || any (length D.constructs) (λ p. is_parallel D.constructs p && too_many_in D.nodes p)) =
+        rw (
+      ← c.read.ensures.0,
+      eq-eqb _ _ c.if-read-ne-BARRIER.false,
+      nodes-length _ c.args.chart c.requires,
+      ← c.read-2.ensures.0,
+      eq-eqb _ _ c.if-read-ne-BARRIER-2.false,
+    ) in
+    let outermost : ltb 64 c.wide.result ≡ too_many_in (decode c.args.s.now).nodes outside =
+        ap (ltb 64) (c.wide.ensures.0 ∙ c.count_outermost.ensures) in
+    let inner : let D = decode c.args.s.now in
+    bad_barriers D ≡ any (length D.constructs) (λ p. is_parallel D.constructs p && too_many_in D.nodes p) =
+        rw (left, ← outermost, le-ltb _ _ c.if-wide-gt-BARRIERS.false) in
+    rw inner c.crowded.ensures

@@ -18,17 +18,13 @@ loop-x-init c = (omega arith, refl)
 pub read-requires : goal.read-requires
 read-requires c = (c.requires, omega arith)
 
--- the count with one node more
-next : (c : goal.After-outermost-found) →
-    c.loop-x.found + c.outermost-found.result ≡ count (c.loop-x.x + 1) (barrier_of (decode c.args.s.now).nodes outside)
-unfolding barrier_of
-next c =
-    let r = c.read.ensures in
-    cc (c.loop-x.invariant.1, c.outermost-found.ensures, r.0, r.1, count-more c.loop-x.x (barrier_of (decode c.args.s.now).nodes outside))
-
 pub overflow_add-found : goal.overflow_add-found
+unfolding barrier_of
 overflow_add-found c =
-    omega (arith, next c, count_most (c.loop-x.x + 1) (barrier_of (decode c.args.s.now).nodes outside), c.requires.nodes-most)
+    let next : c.loop-x.found + c.outermost-found.result ≡ count (c.loop-x.x + 1) (barrier_of (decode c.args.s.now).nodes outside) =
+        let r = c.read.ensures in
+    cc (c.loop-x.invariant.1, c.outermost-found.ensures, r.0, r.1, count-more c.loop-x.x (barrier_of (decode c.args.s.now).nodes outside)) in
+    omega (arith, next, count_most (c.loop-x.x + 1) (barrier_of (decode c.args.s.now).nodes outside), c.requires.nodes-most)
 
 pub overflow_add-x : goal.overflow_add-x
 overflow_add-x c = omega arith
@@ -37,7 +33,12 @@ pub loop-x-smaller : goal.loop-x-smaller
 loop-x-smaller c = omega arith
 
 pub loop-x-preserved : goal.loop-x-preserved
-loop-x-preserved c = (omega arith, next c)
+unfolding barrier_of
+loop-x-preserved c =
+    let next : c.loop-x.found + c.outermost-found.result ≡ count (c.loop-x.x + 1) (barrier_of (decode c.args.s.now).nodes outside) =
+        let r = c.read.ensures in
+    cc (c.loop-x.invariant.1, c.outermost-found.ensures, r.0, r.1, count-more c.loop-x.x (barrier_of (decode c.args.s.now).nodes outside)) in
+    (omega arith, next)
 
 pub returns : goal.returns
 returns c =

@@ -16,16 +16,15 @@ pub bounds-found-c : goal.bounds-found-c
 bounds-found-c c =
     omega (arith, c.requires.1.long, c.requires.2, c.requires.0.constructs-most)
 
--- the test of the count, in terms of the decoded chart
-tested : (c : goal.After-wide) → ltb 64 c.wide.result ≡ too_many_in (decode c.args.s.now).nodes c.args.c
-tested c =
-    ap (ltb 64) c.wide.ensures.0 ∙ many _ c.args.chart c.requires.0 c.requires.1 c.args.c
-
 pub returns-then-wide-le-BARRIERS : goal.returns-then-wide-le-BARRIERS
 returns-then-wide-le-BARRIERS c =
-    rw (← tested c.before, le-ltb _ _ c.if-wide-le-BARRIERS.true) (sym (and-false (is_parallel (decode c.args.s.now).constructs c.args.c)))
+    let tested : ltb 64 c.wide.result ≡ too_many_in (decode c.args.s.now).nodes c.args.c =
+        ap (ltb 64) c.wide.ensures.0 ∙ many _ c.args.chart c.requires.0 c.requires.1 c.args.c in
+    rw (← tested, le-ltb _ _ c.if-wide-le-BARRIERS.true) (sym (and-false (is_parallel (decode c.args.s.now).constructs c.args.c)))
 
 pub returns : goal.returns
 unfolding is_parallel
 returns c =
-    simp (← tested c.before.before.before, lt-ltb _ _ c.if-wide-le-BARRIERS.false, c.read.ensures.0, and-true)
+    let tested : ltb 64 c.wide.result ≡ too_many_in (decode c.args.s.now).nodes c.args.c =
+        ap (ltb 64) c.wide.ensures.0 ∙ many _ c.args.chart c.requires.0 c.requires.1 c.args.c in
+    simp (← tested, lt-ltb _ _ c.if-wide-le-BARRIERS.false, c.read.ensures.0, and-true)

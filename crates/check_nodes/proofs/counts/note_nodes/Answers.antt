@@ -15,25 +15,32 @@ loop-x-init c = (omega arith, omega arith, rw c.requires.2 (noted-none _))
 pub read-node-requires : goal.read-node-requires
 read-node-requires c = (c.requires.0, omega arith)
 
--- the kind that was read is one of the four
-known : (c : goal.After-wide-kind) → c.wide-kind.result ≤ 3
-known c =
-    omega (arith, c.wide-kind.ensures.0, c.read-node.ensures.0, (in_order _ c.args.chart c.requires.0 c.requires.1 c.loop-x.x (omega arith)).0)
-
 pub overflow_add-frames : goal.overflow_add-frames
-overflow_add-frames c = omega (arith, known c, c.requires.0.nodes-most)
+overflow_add-frames c =
+    let known : c.wide-kind.result ≤ 3 =
+        omega (arith, c.wide-kind.ensures.0, c.read-node.ensures.0, (in_order _ c.args.chart c.requires.0 c.requires.1 c.loop-x.x (omega arith)).0) in
+    omega (arith, known, c.requires.0.nodes-most)
 
 pub overflow_cast-noted : goal.overflow_cast-noted
 overflow_cast-noted c = omega arith
 
 pub overflow_mul-noted : goal.overflow_mul-noted
-overflow_mul-noted c = omega (arith, known c)
+overflow_mul-noted c =
+    let known : c.wide-kind.result ≤ 3 =
+        omega (arith, c.wide-kind.ensures.0, c.read-node.ensures.0, (in_order _ c.args.chart c.requires.0 c.requires.1 c.loop-x.x (omega arith)).0) in
+    omega (arith, known)
 
 pub overflow_add-noted : goal.overflow_add-noted
-overflow_add-noted c = omega (arith, known c.before)
+overflow_add-noted c =
+    let known : c.wide-kind.result ≤ 3 =
+        omega (arith, c.wide-kind.ensures.0, c.read-node.ensures.0, (in_order _ c.args.chart c.requires.0 c.requires.1 c.loop-x.x (omega arith)).0) in
+    omega (arith, known)
 
 pub bounds-noted-kind : goal.bounds-noted-kind
-bounds-noted-kind c = omega (arith, known c.before.before)
+bounds-noted-kind c =
+    let known : c.wide-kind.result ≤ 3 =
+        omega (arith, c.wide-kind.ensures.0, c.read-node.ensures.0, (in_order _ c.args.chart c.requires.0 c.requires.1 c.loop-x.x (omega arith)).0) in
+    omega (arith, known)
 
 pub overflow_add-x : goal.overflow_add-x
 overflow_add-x c = omega arith
@@ -43,11 +50,13 @@ loop-x-smaller c = omega arith
 
 pub loop-x-preserved : goal.loop-x-preserved
 loop-x-preserved c =
+    let known : c.wide-kind.result ≤ 3 =
+        omega (arith, c.wide-kind.ensures.0, c.read-node.ensures.0, (in_order _ c.args.chart c.requires.0 c.requires.1 c.loop-x.x (omega arith)).0) in
     let r = c.read-node.ensures in
     let x = c.loop-x.x in
     let same : x % 256 ≡ x = omega (arith, c.requires.0.nodes-most) in
     let more = noted_more (decode c.args.s.now) {x = x} (in_order _ c.args.chart c.requires.0 c.requires.1 x (omega arith)).0 c.loop-x.invariant.2 in
-    (omega arith, omega (arith, known c.before.before), rw (same, c.wide-kind.ensures.0, c.wide.ensures.0, r.0, r.1) more)
+    (omega arith, omega (arith, known), rw (same, c.wide-kind.ensures.0, c.wide.ensures.0, r.0, r.1) more)
 
 pub returns : goal.returns
 returns c =

@@ -21,15 +21,13 @@ loop-x-init c = (omega arith, refl)
 pub read-requires : goal.read-requires
 read-requires c = (c.requires, omega arith)
 
--- the test of one node, in terms of the decoded chart
-tested : (c : goal.After-bad_node) → c.bad_node.result ≡ bad c.args.s.now c.loop-x.x
-tested c = cc (c.bad_node.ensures, c.read.ensures.0, c.read.ensures.1)
-
 pub returns-then-bad_node : goal.returns-then-bad_node
 returns-then-bad_node c =
+    let tested : c.bad_node.result ≡ bad c.args.s.now c.loop-x.x =
+        cc (c.bad_node.ensures, c.read.ensures.0, c.read.ensures.1) in
     let l = nodes-length _ c.args.chart c.requires in
     let x = c.loop-x.x in
-    sym (at-any _ (bad c.args.s.now) x (omega arith) (sym (tested c.before) ∙ c.if-bad_node.true))
+    sym (at-any _ (bad c.args.s.now) x (omega arith) (sym tested ∙ c.if-bad_node.true))
 
 pub overflow_add-x : goal.overflow_add-x
 overflow_add-x c = omega arith
@@ -38,7 +36,10 @@ pub loop-x-smaller : goal.loop-x-smaller
 loop-x-smaller c = omega arith
 
 pub loop-x-preserved : goal.loop-x-preserved
-loop-x-preserved c = (omega arith, any-more _ _ c.loop-x.invariant.1 (sym (tested c.before) ∙ c.if-bad_node.false))
+loop-x-preserved c =
+    let tested : c.bad_node.result ≡ bad c.args.s.now c.loop-x.x =
+        cc (c.bad_node.ensures, c.read.ensures.0, c.read.ensures.1) in
+    (omega arith, any-more _ _ c.loop-x.invariant.1 (sym tested ∙ c.if-bad_node.false))
 
 pub returns : goal.returns
 returns c =

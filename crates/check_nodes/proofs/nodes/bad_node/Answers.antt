@@ -21,24 +21,26 @@ pub returns-then-number : goal.returns-then-number
 unfolding bad_node
 returns-then-number c = simp (le-ltb _ _ c.if-kind-gt-END.false, eq-eqb _ _ c.if-number.true, and-false, and-true)
 
--- how the number compares with the count of the constructs
-many : (c : goal.After-struct_known-1) → length (decode c.args.s.now).constructs ≡ c.args.chart.constructs
-many c = constructs-length _ c.args.chart c.requires
-
 pub returns-then-chart-c : goal.returns-then-chart-c
 unfolding bad_node
 returns-then-chart-c c =
-    let l : length (decode c.args.s.now).constructs ≤ c.args.node.number = omega (arith, many c.before, c.wide-c.ensures.0, c.if-chart-c.true) in
+    let many : length (decode c.args.s.now).constructs ≡ c.args.chart.constructs =
+        constructs-length _ c.args.chart c.requires in
+    let l : length (decode c.args.s.now).constructs ≤ c.args.node.number = omega (arith, many, c.wide-c.ensures.0, c.if-chart-c.true) in
     simp (le-ltb _ _ c.if-kind-gt-END.false, ne_eqb _ _ c.if-number.false, le-ltb _ _ l)
 
 pub returns-then-kind-ne-BARRIER : goal.returns-then-kind-ne-BARRIER
 unfolding bad_node
 returns-then-kind-ne-BARRIER c =
-    let l : c.args.node.number < length (decode c.args.s.now).constructs = omega (arith, many c.before.before, c.wide-c.ensures.0, c.if-chart-c.false) in
+    let many : length (decode c.args.s.now).constructs ≡ c.args.chart.constructs =
+        constructs-length _ c.args.chart c.requires in
+    let l : c.args.node.number < length (decode c.args.s.now).constructs = omega (arith, many, c.wide-c.ensures.0, c.if-chart-c.false) in
     simp (le-ltb _ _ c.if-kind-gt-END.false, ne_eqb _ _ c.if-number.false, lt-ltb _ _ l, ne_eqb _ _ c.if-kind-ne-BARRIER.true, and-false)
 
 pub returns : goal.returns
 unfolding bad_node is_parallel
 returns c =
-    let l : c.args.node.number < length (decode c.args.s.now).constructs = omega (arith, many c.before.before.before.before, c.wide-c.ensures.0, c.if-chart-c.false) in
+    let many : length (decode c.args.s.now).constructs ≡ c.args.chart.constructs =
+        constructs-length _ c.args.chart c.requires in
+    let l : c.args.node.number < length (decode c.args.s.now).constructs = omega (arith, many, c.wide-c.ensures.0, c.if-chart-c.false) in
     simp (le-ltb _ _ c.if-kind-gt-END.false, ne_eqb _ _ c.if-number.false, lt-ltb _ _ l, eq-eqb _ _ c.if-kind-ne-BARRIER.false, c.read.ensures.0, c.wide-c.ensures.0, and-false, or-false)

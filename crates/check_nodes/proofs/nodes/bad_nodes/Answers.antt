@@ -33,31 +33,38 @@ row s chart L =
     parts (decode s) (omega (arith, n, L.two-nodes))
     ∙ ap (λ (m : ℕ). (names_region (decode s) 0 || names_region (decode s) (m - 1)) || any (length (decode s).nodes) (alone_at (decode s))) n
 
--- the tests of the first node and the last, in terms of the decoded chart
-first : (c : goal.After-names_region) → c.names_region.result ≡ names_region (decode c.args.s.now) 0
-first c = cc (c.names_region.ensures, c.read.ensures.0, c.read.ensures.1)
-
-last : (c : goal.After-names_region-2) → c.names_region-2.result ≡ names_region (decode c.args.s.now) (c.args.chart.nodes - 1)
-last c = cc (c.names_region-2.ensures, c.read-2.ensures.0, c.read-2.ensures.1)
-
 pub returns-then-names_region : goal.returns-then-names_region
 returns-then-names_region c =
-    rw (row _ c.args.chart c.requires, sym (first c.before) ∙ c.if-names_region.true)
+    let first : c.names_region.result ≡ names_region (decode c.args.s.now) 0 =
+        cc (c.names_region.ensures, c.read.ensures.0, c.read.ensures.1) in
+    rw (row _ c.args.chart c.requires, sym first ∙ c.if-names_region.true)
 
 pub returns-then-names_region-2 : goal.returns-then-names_region-2
 returns-then-names_region-2 c =
-    rw (row _ c.args.chart c.requires, sym (first c.before.before.before.before.before) ∙ c.if-names_region.false, sym (last c.before) ∙ c.if-names_region-2.true)
-
--- with no region named at either end, what is left of the row
-left : (c : goal.Else-names_region-2) →
-    let D = decode c.args.s.now in
-    bad_nodes D ≡ any (length D.nodes) (alone_at D)
-left c =
-    rw (row _ c.args.chart c.requires, sym (first c.before.before.before.before.before) ∙ c.if-names_region.false, sym (last c.before) ∙ c.if-names_region-2.false)
+    let first : c.names_region.result ≡ names_region (decode c.args.s.now) 0 =
+        cc (c.names_region.ensures, c.read.ensures.0, c.read.ensures.1) in
+    let last : c.names_region-2.result ≡ names_region (decode c.args.s.now) (c.args.chart.nodes - 1) =
+        cc (c.names_region-2.ensures, c.read-2.ensures.0, c.read-2.ensures.1) in
+    rw (row _ c.args.chart c.requires, sym first ∙ c.if-names_region.false, sym last ∙ c.if-names_region-2.true)
 
 pub returns-then-not-any_doubtful : goal.returns-then-not-any_doubtful
 returns-then-not-any_doubtful c =
-    rw (left c.before.before) (sym (none-bad (decode c.args.s.now) (sym c.any_doubtful.ensures ∙ not-true _ c.if-not-any_doubtful.true)))
+    let first : c.names_region.result ≡ names_region (decode c.args.s.now) 0 =
+        cc (c.names_region.ensures, c.read.ensures.0, c.read.ensures.1) in
+    let last : c.names_region-2.result ≡ names_region (decode c.args.s.now) (c.args.chart.nodes - 1) =
+        cc (c.names_region-2.ensures, c.read-2.ensures.0, c.read-2.ensures.1) in
+    let left : let D = decode c.args.s.now in
+    bad_nodes D ≡ any (length D.nodes) (alone_at D) =
+        rw (row _ c.args.chart c.requires, sym first ∙ c.if-names_region.false, sym last ∙ c.if-names_region-2.false) in
+    rw left (sym (none-bad (decode c.args.s.now) (sym c.any_doubtful.ensures ∙ not-true _ c.if-not-any_doubtful.true)))
 
 pub returns : goal.returns
-returns c = rw (left c.before.before.before) c.bad_each.ensures
+returns c =
+    let first : c.names_region.result ≡ names_region (decode c.args.s.now) 0 =
+        cc (c.names_region.ensures, c.read.ensures.0, c.read.ensures.1) in
+    let last : c.names_region-2.result ≡ names_region (decode c.args.s.now) (c.args.chart.nodes - 1) =
+        cc (c.names_region-2.ensures, c.read-2.ensures.0, c.read-2.ensures.1) in
+    let left : let D = decode c.args.s.now in
+    bad_nodes D ≡ any (length D.nodes) (alone_at D) =
+        rw (row _ c.args.chart c.requires, sym first ∙ c.if-names_region.false, sym last ∙ c.if-names_region-2.false) in
+    rw left c.bad_each.ensures

@@ -19,15 +19,11 @@ offset_bounds-masks-x c = omega arith
 pub bounds-masks-x : goal.bounds-masks-x
 bounds-masks-x c = omega arith
 
--- the count with one mask more
-next : (c : goal.After-blank-found) →
-    c.loop-x.found + c.blank-found.result ≡ count (c.loop-x.x + 1) (λ y. eqb (get_or c.args.masks.now y 0) 0)
-next c =
-    cc (c.loop-x.invariant.1, c.blank-found.ensures, count-more c.loop-x.x (λ y. eqb (get_or c.args.masks.now y 0) 0))
-
 pub overflow_add-found : goal.overflow_add-found
 overflow_add-found c =
-    omega (arith, next c, count_most (c.loop-x.x + 1) (λ y. eqb (get_or c.args.masks.now y 0) 0), c.requires)
+    let next : c.loop-x.found + c.blank-found.result ≡ count (c.loop-x.x + 1) (λ y. eqb (get_or c.args.masks.now y 0) 0) =
+        cc (c.loop-x.invariant.1, c.blank-found.ensures, count-more c.loop-x.x (λ y. eqb (get_or c.args.masks.now y 0) 0)) in
+    omega (arith, next, count_most (c.loop-x.x + 1) (λ y. eqb (get_or c.args.masks.now y 0) 0), c.requires)
 
 pub overflow_add-x : goal.overflow_add-x
 overflow_add-x c = omega arith
@@ -36,7 +32,10 @@ pub loop-x-smaller : goal.loop-x-smaller
 loop-x-smaller c = omega arith
 
 pub loop-x-preserved : goal.loop-x-preserved
-loop-x-preserved c = (omega arith, next c)
+loop-x-preserved c =
+    let next : c.loop-x.found + c.blank-found.result ≡ count (c.loop-x.x + 1) (λ y. eqb (get_or c.args.masks.now y 0) 0) =
+        cc (c.loop-x.invariant.1, c.blank-found.ensures, count-more c.loop-x.x (λ y. eqb (get_or c.args.masks.now y 0) 0)) in
+    (omega arith, next)
 
 pub returns : goal.returns
 returns c =

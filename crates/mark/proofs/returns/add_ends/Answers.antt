@@ -16,27 +16,35 @@ returns-then-barriers-n-gt-MOST c = let (few, most, long) = c.requires in added_
 pub loop-c-init : goal.loop-c-init
 loop-c-init c = let (few, most, long) = c.requires in (omega arith, added-start long few)
 
--- there is room for one more
-room : (c : goal.After-nodes-1) → c.args.barriers + c.loop-c.c < 64
-room c = omega arith
-
 pub bounds-ends-c : goal.bounds-ends-c
 bounds-ends-c c = let (few, most, long) = c.requires in omega arith
 
 pub overflow_add-nodes : goal.overflow_add-nodes
-overflow_add-nodes c = omega (arith, room c)
+overflow_add-nodes c =
+    let room : c.args.barriers + c.loop-c.c < 64 =
+        omega arith in
+    omega (arith, room)
 
 pub bounds-nodes-barriers : goal.bounds-nodes-barriers
-bounds-nodes-barriers c = room c.before
+bounds-nodes-barriers c =
+    let room : c.args.barriers + c.loop-c.c < 64 =
+        omega arith in
+    room
 
 pub overflow_add-c : goal.overflow_add-c
-overflow_add-c c = omega (arith, room c.before)
+overflow_add-c c =
+    let room : c.args.barriers + c.loop-c.c < 64 =
+        omega arith in
+    omega (arith, room)
 
 pub loop-c-smaller : goal.loop-c-smaller
 loop-c-smaller c = omega arith
 
 pub loop-c-preserved : goal.loop-c-preserved
-loop-c-preserved c = (omega arith, added_more (room c.before) c.loop-c.invariant.1)
+loop-c-preserved c =
+    let room : c.args.barriers + c.loop-c.c < 64 =
+        omega arith in
+    (omega arith, added_more room c.loop-c.invariant.1)
 
 pub overflow_add-result : goal.overflow_add-result
 overflow_add-result c = let (few, most, long) = c.requires in omega arith

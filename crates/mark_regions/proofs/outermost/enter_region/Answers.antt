@@ -12,22 +12,22 @@ use Rattle.mark_regions.specs.Entered.{Entry}
 use Rattle.mark_regions.proofs.Entering.{marked-same, few, not_none, cut_off, connects, refuses, marks}
 use Rattle.mark_regions.proofs.outermost.enter_region.Goals as goal
 
--- where the function was called, and what is known of the chart
-is-accepted : (c : goal.After-load_tables-extent) → Accepted c.args.s.now c.args.chart
-is-accepted c = c.requires.accepted.0
-
 pub load_tables-extent-requires : goal.load_tables-extent-requires
 load_tables-extent-requires c = (c.requires.accepted.0, blank_none, refl)
 
 pub fill-lost-requires : goal.fill-lost-requires
 fill-lost-requires c =
-    let A = is-accepted c.before.before.before.before.before.before in
+    let is-accepted : Accepted c.args.s.now c.args.chart =
+        c.requires.accepted.0 in
+    let A = is-accepted in
     let (T, (H, (S, N, Q, none))) = (c.load_tables-extent.ensures.arranged, (c.load_tables-extent.ensures.handed, c.load_tables-extent.ensures.stops)) in
     record { barriers_bound = (few A N, none, not_none A N, omega (arith, Q, A.laid.nodes-most), c.requires.starts_value.0, c.requires.starts_value.1, (_, _, H)); by_index = N.node }
 
 pub returns-then-refuses : goal.returns-then-refuses
 returns-then-refuses c =
-    let A = is-accepted c.before.before.before.before.before.before.before.before.before in
+    let is-accepted : Accepted c.args.s.now c.args.chart =
+        c.requires.accepted.0 in
+    let A = is-accepted in
     let (T, (H, (S, N, Q, none))) = (c.load_tables-extent.ensures.arranged, (c.load_tables-extent.ensures.handed, c.load_tables-extent.ensures.stops)) in
     let lost = c.fill-lost.ensures.by_index_2 _ _ (well-formed _ _ A) T S N (Q ∙ sym (nodes-length _ _ A.laid)) in
     let (whole, not) = c.refuses.ensures in record { value = (
@@ -37,7 +37,9 @@ returns-then-refuses c =
 
 pub returns : goal.returns
 returns c =
-    let A = is-accepted c.before.before.before.before.before.before.before.before.before in
+    let is-accepted : Accepted c.args.s.now c.args.chart =
+        c.requires.accepted.0 in
+    let A = is-accepted in
     let W = well-formed _ _ A in
     let (T, (H, (S, N, Q, none))) = (c.load_tables-extent.ensures.arranged, (c.load_tables-extent.ensures.handed, c.load_tables-extent.ensures.stops)) in
     let (lost, marked) = (c.fill-lost.ensures.by_index_2, c.fill-lost.ensures.by_index_3) in

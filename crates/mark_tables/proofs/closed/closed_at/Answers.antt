@@ -17,12 +17,11 @@ read-node-requires c = (c.requires.0.laid, c.requires.1)
 pub region_byte-region-requires : goal.region_byte-region-requires
 region_byte-region-requires c = region-byte _ c.args.chart c.requires.0
 
-below : (c : goal.After-read-node) → c.args.x < length (decode c.args.s.now).nodes
-below c = omega (arith, nodes-length _ c.args.chart c.requires.0.laid, c.requires.1)
-
 pub returns-then-chart-eq-OUTERMOST : goal.returns-then-chart-eq-OUTERMOST
 returns-then-chart-eq-OUTERMOST c =
-    rw (stop-closed _ c.args.chart c.args.x c.if-chart-eq-OUTERMOST.true (below c.before.before.before.before))
+    let below : c.args.x < length (decode c.args.s.now).nodes =
+        omega (arith, nodes-length _ c.args.chart c.requires.0.laid, c.requires.1) in
+    rw (stop-closed _ c.args.chart c.args.x c.if-chart-eq-OUTERMOST.true below)
     (stop-byte _ c.args.chart c.requires.0 c.args.x _ _ _ c.read-node.ensures.0 c.read-node.ensures.1 (rw c.region_byte-region.ensures at c.stop.ensures))
 
 pub within-requires : goal.within-requires
@@ -30,5 +29,7 @@ within-requires c = (c.requires.0, c.if-chart-eq-OUTERMOST.false)
 
 pub returns : goal.returns
 returns c =
-    closed-turn _ c.args.chart c.requires.0 c.if-chart-eq-OUTERMOST.false c.args.x _ _ _ _ (below c.before.before.before.before.before.before.before) c.read-node.ensures.0 c.read-node.ensures.1 c.within.ensures
+    let below : c.args.x < length (decode c.args.s.now).nodes =
+        omega (arith, nodes-length _ c.args.chart c.requires.0.laid, c.requires.1) in
+    closed-turn _ c.args.chart c.requires.0 c.if-chart-eq-OUTERMOST.false c.args.x _ _ _ _ below c.read-node.ensures.0 c.read-node.ensures.1 c.within.ensures
     (rw c.region_byte-region.ensures at c.shut.ensures)

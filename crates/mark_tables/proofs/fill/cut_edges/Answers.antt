@@ -21,19 +21,21 @@ loop-i-init c = (omega arith, tabling-none _ _ _ c.requires.1)
 pub read-edge-requires : goal.read-edge-requires
 read-edge-requires c = (c.requires.0.laid, omega arith)
 
--- the edge of a turn, and the room for it
-room : (c : goal.After-read-edge)
-    → (let l = c.loop-i in
-    Next l.table l.loaded.edges c.args.stops.now l.loaded.parts
-    c.read-edge.result.from c.read-edge.result.to)
-room c =
-    tabling-room _ c.args.chart c.requires.0 (omega arith) c.read-edge.ensures.0 c.read-edge.ensures.1 c.loop-i.invariant.1
-
 pub bounds-flags-wide : goal.bounds-flags-wide
-bounds-flags-wide c = omega (arith, c.wide.ensures.0, (room c.before).from)
+bounds-flags-wide c =
+    let room : (let l = c.loop-i in
+    Next l.table l.loaded.edges c.args.stops.now l.loaded.parts
+    c.read-edge.result.from c.read-edge.result.to) =
+        tabling-room _ c.args.chart c.requires.0 (omega arith) c.read-edge.ensures.0 c.read-edge.ensures.1 c.loop-i.invariant.1 in
+    omega (arith, c.wide.ensures.0, room.from)
 
 pub keep-loaded-requires : goal.keep-loaded-requires
-keep-loaded-requires c = room c.before.before
+keep-loaded-requires c =
+    let room : (let l = c.loop-i in
+    Next l.table l.loaded.edges c.args.stops.now l.loaded.parts
+    c.read-edge.result.from c.read-edge.result.to) =
+        tabling-room _ c.args.chart c.requires.0 (omega arith) c.read-edge.ensures.0 c.read-edge.ensures.1 c.loop-i.invariant.1 in
+    room
 
 pub overflow_add-i : goal.overflow_add-i
 overflow_add-i c = omega arith
@@ -43,11 +45,15 @@ loop-i-smaller c = omega arith
 
 pub loop-i-preserved : goal.loop-i-preserved
 loop-i-preserved c =
+    let room : (let l = c.loop-i in
+    Next l.table l.loaded.edges c.args.stops.now l.loaded.parts
+    c.read-edge.result.from c.read-edge.result.to) =
+        tabling-room _ c.args.chart c.requires.0 (omega arith) c.read-edge.ensures.0 c.read-edge.ensures.1 c.loop-i.invariant.1 in
     let A = c.requires.0 in
     let (P, S) = (c.keep-loaded.ensures.split, c.keep-loaded.ensures.stored_in) in
     let edges = edges-length _ c.args.chart A.laid in (
       omega arith,
-      tabling-more _ _ c.loop-i.i (tables _ c.args.chart A) (omega arith) (room c.before.before.before).within (leaving-flag _ _ c.loop-i.i c.leaving.ensures c.wide.ensures.0 c.read-edge.ensures.0)
+      tabling-more _ _ c.loop-i.i (tables _ c.args.chart A) (omega arith) room.within (leaving-flag _ _ c.loop-i.i c.leaving.ensures c.wide.ensures.0 c.read-edge.ensures.0)
           c.read-edge.ensures.0 c.read-edge.ensures.1 c.loop-i.invariant.1 S P,
     )
 

@@ -17,20 +17,17 @@ sweep-new-requires-2 c =
     let ((L, long), fits) = (c.requires.lists, c.requires.by_index) in
     record { a_le_b = (L.low-most, omega arith, run_long long c.sweep-new.ensures); by_index = L.key; by_index_2 = L.value }
 
--- the first two sweeps
-first_two : (c : goal.After-sweep-new-2)
-    → (let args = c.args in
-    Closing bit_or Sub (λ m. m < 18446744073709551616) args.keys.now args.values.now args.ups args.low args.masks.now
-    c.sweep-new-2.new.masks c.sweep-new-2.result)
-first_two c =
-    let ((L, long), fits) = (c.requires.lists, c.requires.by_index) in
-    opened masks-kind L long fits c.sweep-new.ensures c.sweep-new-2.ensures
-
 pub steps_of-turn-requires : goal.steps_of-turn-requires
 steps_of-turn-requires c = let L = c.requires.lists.0 in (L.ups-most, L.low-most)
 
 pub loop-new-init : goal.loop-new-init
-loop-new-init c = rebase (first_two c.before)
+loop-new-init c =
+    let first_two : (let args = c.args in
+    Closing bit_or Sub (λ m. m < 18446744073709551616) args.keys.now args.values.now args.ups args.low args.masks.now
+    c.sweep-new-2.new.masks c.sweep-new-2.result) =
+        let ((L, long), fits) = (c.requires.lists, c.requires.by_index) in
+    opened masks-kind L long fits c.sweep-new.ensures c.sweep-new-2.ensures in
+    rebase first_two
 
 pub drain-requires : goal.drain-requires
 drain-requires c =
@@ -40,8 +37,13 @@ drain-requires c =
 
 pub returns-then-left-turn : goal.returns-then-left-turn
 returns-then-left-turn c =
+    let first_two : (let args = c.args in
+    Closing bit_or Sub (λ m. m < 18446744073709551616) args.keys.now args.values.now args.ups args.low args.masks.now
+    c.sweep-new-2.new.masks c.sweep-new-2.result) =
+        let ((L, long), fits) = (c.requires.lists, c.requires.by_index) in
+    opened masks-kind L long fits c.sweep-new.ensures c.sweep-new-2.ensures in
     let h = c.loop-new.invariant.half in
-    record { carried = carried_on (first_two c.before.before.before.before.before.before).half.carried (carried_on h.carried c.drain.ensures.carried); closed = c.drain.ensures.closed }
+    record { carried = carried_on first_two.half.carried (carried_on h.carried c.drain.ensures.carried); closed = c.drain.ensures.closed }
 
 pub sweep-new-requires-in-loop-new : goal.sweep-new-requires-in-loop-new
 sweep-new-requires-in-loop-new c =
@@ -71,5 +73,10 @@ loop-new-preserved c =
 
 pub returns : goal.returns
 returns c =
+    let first_two : (let args = c.args in
+    Closing bit_or Sub (λ m. m < 18446744073709551616) args.keys.now args.values.now args.ups args.low args.masks.now
+    c.sweep-new-2.new.masks c.sweep-new-2.result) =
+        let ((L, long), fits) = (c.requires.lists, c.requires.by_index) in
+    opened masks-kind L long fits c.sweep-new.ensures c.sweep-new-2.ensures in
     let i = c.loop-new.invariant in
-    record { carried = carried_on (first_two c.before.before.before).half.carried i.half.carried; closed = closing-closed i (omega arith) }
+    record { carried = carried_on first_two.half.carried i.half.carried; closed = closing-closed i (omega arith) }

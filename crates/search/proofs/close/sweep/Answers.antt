@@ -16,18 +16,21 @@ loop-j-init c = (c.requires.a_le_b.0, none)
 pub place_of-at-requires : goal.place_of-at-requires
 place_of-at-requires c = let i = c.loop-j.invariant in (run-from i.1, omega arith, c.requires.a_le_b.1)
 
--- the place is one of the list
-inside : (c : goal.After-place_of-at) → c.place_of-at.result < 1024
-inside c =
-    let i = c.loop-j.invariant in
-    let pre = (c.requires.a_le_b, (c.requires.by_index, c.requires.by_index_2)) in
-    omega (arith, c.place_of-at.ensures, pre.0.1, place-below c.args.a c.args.b c.args.back c.loop-j.j (run-from i.1) (omega arith))
-
 pub bounds-keys-at : goal.bounds-keys-at
-bounds-keys-at c = inside c.before.before
+bounds-keys-at c =
+    let inside : c.place_of-at.result < 1024 =
+        let i = c.loop-j.invariant in
+    let pre = (c.requires.a_le_b, (c.requires.by_index, c.requires.by_index_2)) in
+    omega (arith, c.place_of-at.ensures, pre.0.1, place-below c.args.a c.args.b c.args.back c.loop-j.j (run-from i.1) (omega arith)) in
+    inside
 
 pub bounds-values-at : goal.bounds-values-at
-bounds-values-at c = inside c.before.before.before.before
+bounds-values-at c =
+    let inside : c.place_of-at.result < 1024 =
+        let i = c.loop-j.invariant in
+    let pre = (c.requires.a_le_b, (c.requires.by_index, c.requires.by_index_2)) in
+    omega (arith, c.place_of-at.ensures, pre.0.1, place-below c.args.a c.args.b c.args.back c.loop-j.j (run-from i.1) (omega arith)) in
+    inside
 
 pub carry-new-requires : goal.carry-new-requires
 carry-new-requires c =

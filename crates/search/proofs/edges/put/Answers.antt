@@ -7,14 +7,17 @@ use borrow.Author.Rules.{rules}
 use Rattle.search.proofs.Steps.{pick-inside, rise-most, fall-most, put_is, wrote}
 use Rattle.search.proofs.edges.put.Goals as goal
 
-inside : (c : goal.After-pick-at) → c.pick-at.result < 1024
-inside c = let pre = c.requires in omega (arith, pre.1, (pick-inside _ _ _ _ _ pre.0 c.pick-at.ensures).1)
-
 pub bounds-edges-at : goal.bounds-edges-at
-bounds-edges-at c = inside c
+bounds-edges-at c =
+    let inside : c.pick-at.result < 1024 =
+        let pre = c.requires in omega (arith, pre.1, (pick-inside _ _ _ _ _ pre.0 c.pick-at.ensures).1) in
+    inside
 
 pub bounds-edges-at-2 : goal.bounds-edges-at-2
-bounds-edges-at-2 c = inside c
+bounds-edges-at-2 c =
+    let inside : c.pick-at.result < 1024 =
+        let pre = c.requires in omega (arith, pre.1, (pick-inside _ _ _ _ _ pre.0 c.pick-at.ensures).1) in
+    inside
 
 pub overflow_add-result : goal.overflow_add-result
 overflow_add-result c = omega (arith, rise-most _ _ _ _ c.rises.ensures)

@@ -19,24 +19,26 @@ sweep-new-requires-2 c =
     let w = run-swept levels-kind _ _ _ _ _ L.key L.value long fits c.sweep-new.ensures in
     record { a_le_b = (L.low-most, omega arith, w.long, w.bound); by_index = (L.key, L.value) }
 
--- the first two sweeps
-first_two : (c : goal.After-sweep-new-2)
-    → (let args = c.args in
-    Closing nearer Follows (λ d. d ≤ 254) args.keys.now args.values.now args.ups args.low args.levels.now
-    c.sweep-new-2.new.levels c.sweep-new-2.result)
-first_two c =
-    let ((L, long), fits) = (c.requires.lists, c.requires.by_index) in
-    opened levels-kind L long fits c.sweep-new.ensures c.sweep-new-2.ensures
-
 pub steps_of-turn-requires : goal.steps_of-turn-requires
 steps_of-turn-requires c = let L = c.requires.lists.0 in (L.ups-most, L.low-most)
 
 pub loop-new-init : goal.loop-new-init
-loop-new-init c = rebase (first_two c.before)
+loop-new-init c =
+    let first_two : (let args = c.args in
+    Closing nearer Follows (λ d. d ≤ 254) args.keys.now args.values.now args.ups args.low args.levels.now
+    c.sweep-new-2.new.levels c.sweep-new-2.result) =
+        let ((L, long), fits) = (c.requires.lists, c.requires.by_index) in
+    opened levels-kind L long fits c.sweep-new.ensures c.sweep-new-2.ensures in
+    rebase first_two
 
 pub returns-then-left-turn : goal.returns-then-left-turn
 returns-then-left-turn c =
-    record { carried = carried_on (first_two c.before.before.before.before).half.carried c.loop-new.invariant.half.carried; closed = λ h. absurd (clash h refl) }
+    let first_two : (let args = c.args in
+    Closing nearer Follows (λ d. d ≤ 254) args.keys.now args.values.now args.ups args.low args.levels.now
+    c.sweep-new-2.new.levels c.sweep-new-2.result) =
+        let ((L, long), fits) = (c.requires.lists, c.requires.by_index) in
+    opened levels-kind L long fits c.sweep-new.ensures c.sweep-new-2.ensures in
+    record { carried = carried_on first_two.half.carried c.loop-new.invariant.half.carried; closed = λ h. absurd (clash h refl) }
 
 pub sweep-new-requires-in-loop-new : goal.sweep-new-requires-in-loop-new
 sweep-new-requires-in-loop-new c =
@@ -68,5 +70,10 @@ loop-new-preserved c =
 
 pub returns : goal.returns
 returns c =
+    let first_two : (let args = c.args in
+    Closing nearer Follows (λ d. d ≤ 254) args.keys.now args.values.now args.ups args.low args.levels.now
+    c.sweep-new-2.new.levels c.sweep-new-2.result) =
+        let ((L, long), fits) = (c.requires.lists, c.requires.by_index) in
+    opened levels-kind L long fits c.sweep-new.ensures c.sweep-new-2.ensures in
     let i = c.loop-new.invariant in
-    record { carried = carried_on (first_two c.before.before.before).half.carried i.half.carried; closed = λ _. closing-closed i (omega arith) }
+    record { carried = carried_on first_two.half.carried i.half.carried; closed = λ _. closing-closed i (omega arith) }

@@ -13,23 +13,20 @@ use Rattle.search.proofs.levels.sweep.Goals as goal
 pub loop-j-init : goal.loop-j-init
 loop-j-init c = (c.requires.a_le_b.0, none)
 
--- what was swept so far
-swept : (l : goal.At-loop-j) → Swept (λ a b. b ≤ a) (λ d. d ≤ 254) l.args.levels.now l.loop-j.levels l.loop-j.new
-swept l =
-    let (sizes, nodes) = (l.requires.a_le_b, l.requires.by_index) in
-    run-swept levels-kind _ _ _ _ _ nodes.0 nodes.1 sizes.2 sizes.3 l.loop-j.invariant.1
-
-node : (l : goal.At-loop-j) → get_or l.args.values.now l.loop-j.j 0 < 192
-node l = l.requires.by_index.1 l.loop-j.j
-
 pub bounds-values-j : goal.bounds-values-j
 bounds-values-j c = omega arith
 
 pub overflow_cast-old : goal.overflow_cast-old
-overflow_cast-old c = omega (arith, node c.before.before.before)
+overflow_cast-old c =
+    let node : get_or c.args.values.now c.loop-j.j 0 < 192 =
+        c.requires.by_index.1 c.loop-j.j in
+    omega (arith, node)
 
 pub bounds-levels-values : goal.bounds-levels-values
-bounds-levels-values c = node c.before.before.before.before
+bounds-levels-values c =
+    let node : get_or c.args.values.now c.loop-j.j 0 < 192 =
+        c.requires.by_index.1 c.loop-j.j in
+    node
 
 pub bounds-keys-j : goal.bounds-keys-j
 bounds-keys-j c = omega arith
@@ -39,8 +36,13 @@ bounds-values-j-in-loop-j c = omega arith
 
 pub ascend-requires : goal.ascend-requires
 ascend-requires c =
+    let swept : Swept (λ a b. b ≤ a) (λ d. d ≤ 254) c.args.levels.now c.loop-j.levels c.loop-j.new =
+        let (sizes, nodes) = (c.requires.a_le_b, c.requires.by_index) in
+    run-swept levels-kind _ _ _ _ _ nodes.0 nodes.1 sizes.2 sizes.3 c.loop-j.invariant.1 in
+    let node : get_or c.args.values.now c.loop-j.j 0 < 192 =
+        c.requires.by_index.1 c.loop-j.j in
     let key = c.requires.by_index.0 c.loop-j.j in
-    ((swept c.before.before.before.before.before.before.before.before.before).long, key, node c.before.before.before.before.before.before.before.before.before, (swept c.before.before.before.before.before.before.before.before.before).bound _)
+    (swept.long, key, node, swept.bound _)
 
 pub overflow_add-j : goal.overflow_add-j
 overflow_add-j c = omega arith

@@ -14,14 +14,17 @@ returns-then-extent-ne2 c = λ h. absurd (clash h refl)
 pub returns-then-extent-ne2-2 : goal.returns-then-extent-ne2-2
 returns-then-extent-ne2-2 c = λ h. absurd (clash h refl)
 
-below : (c : goal.After-wide-second) → c.wide-second.result < 192
-below c = omega (arith, c.wide-second.ensures.0, c.requires 1)
-
 pub bounds-places-second : goal.bounds-places-second
-bounds-places-second c = omega (arith, below c.before)
+bounds-places-second c =
+    let below : c.wide-second.result < 192 =
+        omega (arith, c.wide-second.ensures.0, c.requires 1) in
+    omega (arith, below)
 
 pub bounds-places-second-2 : goal.bounds-places-second-2
-bounds-places-second-2 c = omega (arith, below c.before.before)
+bounds-places-second-2 c =
+    let below : c.wide-second.result < 192 =
+        omega (arith, c.wide-second.ensures.0, c.requires 1) in
+    omega (arith, below)
 
 pub returns : goal.returns
 returns c = λ h.

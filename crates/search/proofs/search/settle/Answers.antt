@@ -6,24 +6,29 @@ use borrow.Author.Rules.{rules}
 use Rattle.search.proofs.Settling.{settled}
 use Rattle.search.proofs.search.settle.Goals as goal
 
--- the two stops
-first : (c : goal.After-wide-first) → c.wide-first.result < 192
-first c = omega (arith, c.wide-first.ensures.0, c.requires.by_index 0)
-
-second : (c : goal.After-wide-second) → c.wide-second.result < 192
-second c = omega (arith, c.wide-second.ensures.0, c.requires.by_index 1)
-
 pub bounds-masks-first : goal.bounds-masks-first
-bounds-masks-first c = first c.before.before.before
+bounds-masks-first c =
+    let first : c.wide-first.result < 192 =
+        omega (arith, c.wide-first.ensures.0, c.requires.by_index 0) in
+    first
 
 pub bounds-masks-second : goal.bounds-masks-second
-bounds-masks-second c = second c.before.before
+bounds-masks-second c =
+    let second : c.wide-second.result < 192 =
+        omega (arith, c.wide-second.ensures.0, c.requires.by_index 1) in
+    second
 
 pub bounds-masks-first-2 : goal.bounds-masks-first-2
-bounds-masks-first-2 c = first c.before.before.before.before.before.before.before.before
+bounds-masks-first-2 c =
+    let first : c.wide-first.result < 192 =
+        omega (arith, c.wide-first.ensures.0, c.requires.by_index 0) in
+    first
 
 pub bounds-masks-second-2 : goal.bounds-masks-second-2
-bounds-masks-second-2 c = second c.before.before.before.before.before.before
+bounds-masks-second-2 c =
+    let second : c.wide-second.result < 192 =
+        omega (arith, c.wide-second.ensures.0, c.requires.by_index 1) in
+    second
 
 pub returns : goal.returns
 returns c =

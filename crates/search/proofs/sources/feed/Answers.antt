@@ -16,33 +16,44 @@ loop-j-init c = (omega arith, c.requires.a_le_b.0, c.requires.a_le_b.2, fed-none
 pub bounds-values-j : goal.bounds-values-j
 bounds-values-j c = omega arith
 
--- the two nodes of a turn
-to_below : (c : goal.After-wide-y) → c.wide-y.result < 192
-to_below c = omega (arith, c.wide-y.ensures, c.requires.by_index_2 c.loop-j.j)
-
-from-below : (c : goal.After-wide) → c.wide.result < 192
-from-below c = omega (arith, c.wide.ensures, c.requires.by_index c.loop-j.j)
-
 pub offset_bounds-masks-y : goal.offset_bounds-masks-y
-offset_bounds-masks-y c = omega (arith, to_below c)
+offset_bounds-masks-y c =
+    let to_below : c.wide-y.result < 192 =
+        omega (arith, c.wide-y.ensures, c.requires.by_index_2 c.loop-j.j) in
+    omega (arith, to_below)
 
 pub bounds-masks-y : goal.bounds-masks-y
-bounds-masks-y c = to_below c.before
+bounds-masks-y c =
+    let to_below : c.wide-y.result < 192 =
+        omega (arith, c.wide-y.ensures, c.requires.by_index_2 c.loop-j.j) in
+    to_below
 
 pub bounds-keys-j : goal.bounds-keys-j
 bounds-keys-j c = omega arith
 
 pub offset_bounds-from-wide : goal.offset_bounds-from-wide
-offset_bounds-from-wide c = omega (arith, from-below c)
+offset_bounds-from-wide c =
+    let from-below : c.wide.result < 192 =
+        omega (arith, c.wide.ensures, c.requires.by_index c.loop-j.j) in
+    omega (arith, from-below)
 
 pub bounds-from-wide : goal.bounds-from-wide
-bounds-from-wide c = from-below c.before
+bounds-from-wide c =
+    let from-below : c.wide.result < 192 =
+        omega (arith, c.wide.ensures, c.requires.by_index c.loop-j.j) in
+    from-below
 
 pub offset_bounds-masks-y-in-loop-j : goal.offset_bounds-masks-y-in-loop-j
-offset_bounds-masks-y-in-loop-j c = omega (arith, to_below c.before.before.before.before.before.before.before)
+offset_bounds-masks-y-in-loop-j c =
+    let to_below : c.wide-y.result < 192 =
+        omega (arith, c.wide-y.ensures, c.requires.by_index_2 c.loop-j.j) in
+    omega (arith, to_below)
 
 pub bounds-masks-y-in-loop-j : goal.bounds-masks-y-in-loop-j
-bounds-masks-y-in-loop-j c = to_below c.before.before.before.before.before.before.before
+bounds-masks-y-in-loop-j c =
+    let to_below : c.wide-y.result < 192 =
+        omega (arith, c.wide-y.ensures, c.requires.by_index_2 c.loop-j.j) in
+    to_below
 
 pub overflow_add-j : goal.overflow_add-j
 overflow_add-j c = omega arith

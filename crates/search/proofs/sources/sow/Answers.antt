@@ -17,31 +17,45 @@ loop-b-init c = let ((order, _, _), ((sown, begun), _)) = (c.requires.first_le_t
 pub bounds-sources-b : goal.bounds-sources-b
 bounds-sources-b c = omega (arith, c.requires.first_le_total.1)
 
-below : (c : goal.After-wide-x) → c.wide-x.result < 192
-below c = omega (arith, c.wide-x.ensures, c.requires.by_index c.loop-b.b)
-
 pub offset_bounds-places-x : goal.offset_bounds-places-x
-offset_bounds-places-x c = omega (arith, below c)
+offset_bounds-places-x c =
+    let below : c.wide-x.result < 192 =
+        omega (arith, c.wide-x.ensures, c.requires.by_index c.loop-b.b) in
+    omega (arith, below)
 
 pub bounds-places-x : goal.bounds-places-x
-bounds-places-x c = omega (arith, below c.before)
+bounds-places-x c =
+    let below : c.wide-x.result < 192 =
+        omega (arith, c.wide-x.ensures, c.requires.by_index c.loop-b.b) in
+    omega (arith, below)
 
 pub overflow_add-x : goal.overflow_add-x
-overflow_add-x c = omega (arith, below c.before.before)
+overflow_add-x c =
+    let below : c.wide-x.result < 192 =
+        omega (arith, c.wide-x.ensures, c.requires.by_index c.loop-b.b) in
+    omega (arith, below)
 
 pub offset_bounds-places-x-in-loop-b : goal.offset_bounds-places-x-in-loop-b
-offset_bounds-places-x-in-loop-b c = omega (arith, below c.before.before)
+offset_bounds-places-x-in-loop-b c =
+    let below : c.wide-x.result < 192 =
+        omega (arith, c.wide-x.ensures, c.requires.by_index c.loop-b.b) in
+    omega (arith, below)
 
 pub bounds-places-x-in-loop-b : goal.bounds-places-x-in-loop-b
-bounds-places-x-in-loop-b c = omega (arith, below c.before.before)
+bounds-places-x-in-loop-b c =
+    let below : c.wide-x.result < 192 =
+        omega (arith, c.wide-x.ensures, c.requires.by_index c.loop-b.b) in
+    omega (arith, below)
 
 pub bit-requires : goal.bit-requires
 bit-requires c = omega (arith, c.requires.first_le_total.1)
 
 pub sow_edges-requires : goal.sow_edges-requires
 sow_edges-requires c =
+    let below : c.wide-x.result < 192 =
+        omega (arith, c.wide-x.ensures, c.requires.by_index c.loop-b.b) in
     let ((order, few, bounded), (_, sources)) = (c.requires.first_le_total, (c.requires.sowed, c.requires.by_index)) in
-    let (rise, most) = bounded.place c.wide-x.result (below c.before.before.before.before.before.before) in
+    let (rise, most) = bounded.place c.wide-x.result below in
     let (under, sowed, begun) = c.loop-b.invariant in
     record { a_le_b = (rise, most, omega (arith, c.bit.ensures, pow_pos c.loop-b.b), sowed.long, begun); by_index = bounded.node }
 

@@ -21,24 +21,35 @@ loop-j-init c =
 pub bounds-values-j : goal.bounds-values-j
 bounds-values-j c = omega arith
 
--- the node of a turn
-below : (c : goal.After-wide-y) → c.wide-y.result < 192
-below c = omega (arith, c.wide-y.ensures, c.requires.by_index c.loop-j.j)
-
 pub offset_bounds-masks-y : goal.offset_bounds-masks-y
-offset_bounds-masks-y c = omega (arith, below c)
+offset_bounds-masks-y c =
+    let below : c.wide-y.result < 192 =
+        omega (arith, c.wide-y.ensures, c.requires.by_index c.loop-j.j) in
+    omega (arith, below)
 
 pub bounds-masks-y : goal.bounds-masks-y
-bounds-masks-y c = below c.before
+bounds-masks-y c =
+    let below : c.wide-y.result < 192 =
+        omega (arith, c.wide-y.ensures, c.requires.by_index c.loop-j.j) in
+    below
 
 pub offset_bounds-masks-y-in-loop-j : goal.offset_bounds-masks-y-in-loop-j
-offset_bounds-masks-y-in-loop-j c = omega (arith, below c.before.before)
+offset_bounds-masks-y-in-loop-j c =
+    let below : c.wide-y.result < 192 =
+        omega (arith, c.wide-y.ensures, c.requires.by_index c.loop-j.j) in
+    omega (arith, below)
 
 pub bounds-masks-y-in-loop-j : goal.bounds-masks-y-in-loop-j
-bounds-masks-y-in-loop-j c = below c.before.before
+bounds-masks-y-in-loop-j c =
+    let below : c.wide-y.result < 192 =
+        omega (arith, c.wide-y.ensures, c.requires.by_index c.loop-j.j) in
+    below
 
 pub bounds-levels-y : goal.bounds-levels-y
-bounds-levels-y c = below c.before.before.before
+bounds-levels-y c =
+    let below : c.wide-y.result < 192 =
+        omega (arith, c.wide-y.ensures, c.requires.by_index c.loop-j.j) in
+    below
 
 pub overflow_add-j : goal.overflow_add-j
 overflow_add-j c = omega arith
@@ -48,6 +59,8 @@ loop-j-smaller c = omega arith
 
 pub loop-j-preserved : goal.loop-j-preserved
 loop-j-preserved c =
+    let below : c.wide-y.result < 192 =
+        omega (arith, c.wide-y.ensures, c.requires.by_index c.loop-j.j) in
     let (above, under, long, fed, begun) = c.loop-j.invariant in
     let ((order, most, some, wide, _), values) = (c.requires.a_le_b, c.requires.by_index) in
     let y : c.wide-y.result ≡ get_or c.args.values.now c.loop-j.j 0 = c.wide-y.ensures.0 in (
@@ -55,7 +68,7 @@ loop-j-preserved c =
       omega arith,
       length-set c.loop-j.masks _ _ ∙ long,
       rw y (feed-turn above (omega (arith, long, values c.loop-j.j)) fed),
-      begins-turn long (below c.before.before.before) some begun,
+      begins-turn long below some begun,
     )
 
 pub returns : goal.returns

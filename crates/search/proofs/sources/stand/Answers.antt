@@ -15,23 +15,32 @@ loop-b-init c = (omega arith, owned-none _)
 pub bounds-sources-b : goal.bounds-sources-b
 bounds-sources-b c = omega arith
 
-below : (c : goal.After-wide-x) → c.wide-x.result < 192
-below c = omega (arith, c.wide-x.ensures, c.requires.by_index c.loop-b.b)
-
 pub offset_bounds-own-x : goal.offset_bounds-own-x
-offset_bounds-own-x c = omega (arith, below c)
+offset_bounds-own-x c =
+    let below : c.wide-x.result < 192 =
+        omega (arith, c.wide-x.ensures, c.requires.by_index c.loop-b.b) in
+    omega (arith, below)
 
 pub bounds-own-x : goal.bounds-own-x
-bounds-own-x c = below c.before
+bounds-own-x c =
+    let below : c.wide-x.result < 192 =
+        omega (arith, c.wide-x.ensures, c.requires.by_index c.loop-b.b) in
+    below
 
 pub bit-requires : goal.bit-requires
 bit-requires c = omega arith
 
 pub offset_bounds-own-x-in-loop-b : goal.offset_bounds-own-x-in-loop-b
-offset_bounds-own-x-in-loop-b c = omega (arith, below c.before.before.before)
+offset_bounds-own-x-in-loop-b c =
+    let below : c.wide-x.result < 192 =
+        omega (arith, c.wide-x.ensures, c.requires.by_index c.loop-b.b) in
+    omega (arith, below)
 
 pub bounds-own-x-in-loop-b : goal.bounds-own-x-in-loop-b
-bounds-own-x-in-loop-b c = below c.before.before.before
+bounds-own-x-in-loop-b c =
+    let below : c.wide-x.result < 192 =
+        omega (arith, c.wide-x.ensures, c.requires.by_index c.loop-b.b) in
+    below
 
 pub overflow_add-b : goal.overflow_add-b
 overflow_add-b c = omega arith

@@ -14,20 +14,6 @@ use Rattle.search.proofs.together.sweep.Goals as goal
 pub loop-j-init : goal.loop-j-init
 loop-j-init c = (c.requires.a_le_b.0, begun)
 
--- the tables can be swept on
-lent : (l : goal.At-loop-j) → Lent l.loop-j.starts l.loop-j.levels l.loop-j.ends
-lent l = together-lent l.requires.by_index.0 l.requires.by_index.1 l.requires.a_le_b.2 l.loop-j.invariant.1
-
--- a turn is left
-below : (c : goal.In-loop-j) → c.loop-j.j < c.args.b
-below c = omega arith
-
--- the place is one of the list
-inside : (c : goal.After-place_of-at) → c.place_of-at.result < 1024
-inside c =
-    let args = c.args in
-    omega (arith, c.place_of-at.ensures, c.requires.a_le_b.1, place-below args.a args.b true c.loop-j.j (from c.loop-j.invariant.1) (omega arith))
-
 pub bounds-keys-j : goal.bounds-keys-j
 bounds-keys-j c = omega (arith, c.requires.a_le_b.1)
 
@@ -36,35 +22,53 @@ bounds-values-j c = omega (arith, c.requires.a_le_b.1)
 
 pub carry-new-requires : goal.carry-new-requires
 carry-new-requires c =
-    ((lent c.before.before.before.before.before.before).starts, c.requires.by_index.0 c.loop-j.j, c.requires.by_index.1 c.loop-j.j)
-
--- the edge leads to a node
-node : (l : goal.At-loop-j) → get_or (row l.args.edges.now 3) l.loop-j.j 0 < 192
-node l = l.requires.by_index.1 l.loop-j.j
+    let lent : Lent c.loop-j.starts c.loop-j.levels c.loop-j.ends =
+        together-lent c.requires.by_index.0 c.requires.by_index.1 c.requires.a_le_b.2 c.loop-j.invariant.1 in
+    (lent.starts, c.requires.by_index.0 c.loop-j.j, c.requires.by_index.1 c.loop-j.j)
 
 pub overflow_cast-old : goal.overflow_cast-old
-overflow_cast-old c = omega (arith, node c.before.before.before.before.before.before.before)
+overflow_cast-old c =
+    let node : get_or (row c.args.edges.now 3) c.loop-j.j 0 < 192 =
+        c.requires.by_index.1 c.loop-j.j in
+    omega (arith, node)
 
 pub bounds-levels-y : goal.bounds-levels-y
-bounds-levels-y c = node c.before.before.before.before.before.before.before.before
+bounds-levels-y c =
+    let node : get_or (row c.args.edges.now 3) c.loop-j.j 0 < 192 =
+        c.requires.by_index.1 c.loop-j.j in
+    node
 
 pub ascend-requires : goal.ascend-requires
 ascend-requires c =
-    ((lent c.before.before.before.before.before.before.before.before.before.before).levels, c.requires.by_index.0 c.loop-j.j, node c.before.before.before.before.before.before.before.before.before.before, (lent c.before.before.before.before.before.before.before.before.before.before).levels-fit _)
+    let lent : Lent c.loop-j.starts c.loop-j.levels c.loop-j.ends =
+        together-lent c.requires.by_index.0 c.requires.by_index.1 c.requires.a_le_b.2 c.loop-j.invariant.1 in
+    let node : get_or (row c.args.edges.now 3) c.loop-j.j 0 < 192 =
+        c.requires.by_index.1 c.loop-j.j in
+    (lent.levels, c.requires.by_index.0 c.loop-j.j, node, lent.levels-fit _)
 
 pub place_of-at-requires : goal.place_of-at-requires
 place_of-at-requires c =
     (from c.loop-j.invariant.1, omega arith, c.requires.a_le_b.1)
 
 pub bounds-values-at : goal.bounds-values-at
-bounds-values-at c = inside c.before
+bounds-values-at c =
+    let inside : c.place_of-at.result < 1024 =
+        let args = c.args in
+    omega (arith, c.place_of-at.ensures, c.requires.a_le_b.1, place-below args.a args.b true c.loop-j.j (from c.loop-j.invariant.1) (omega arith)) in
+    inside
 
 pub bounds-keys-at : goal.bounds-keys-at
-bounds-keys-at c = inside c.before.before
+bounds-keys-at c =
+    let inside : c.place_of-at.result < 1024 =
+        let args = c.args in
+    omega (arith, c.place_of-at.ensures, c.requires.a_le_b.1, place-below args.a args.b true c.loop-j.j (from c.loop-j.invariant.1) (omega arith)) in
+    inside
 
 pub carry-new-requires-in-loop-j : goal.carry-new-requires-in-loop-j
 carry-new-requires-in-loop-j c =
-    ((lent c.before.before.before.before.before.before.before.before.before.before.before.before.before.before.before.before).ends, c.requires.by_index.1 c.place_of-at.result, c.requires.by_index.0 c.place_of-at.result)
+    let lent : Lent c.loop-j.starts c.loop-j.levels c.loop-j.ends =
+        together-lent c.requires.by_index.0 c.requires.by_index.1 c.requires.a_le_b.2 c.loop-j.invariant.1 in
+    (lent.ends, c.requires.by_index.1 c.place_of-at.result, c.requires.by_index.0 c.place_of-at.result)
 
 pub overflow_add-j : goal.overflow_add-j
 overflow_add-j c = omega arith
@@ -74,8 +78,10 @@ loop-j-smaller c = omega arith
 
 pub loop-j-preserved : goal.loop-j-preserved
 loop-j-preserved c =
+    let below : c.loop-j.j < c.args.b =
+        omega arith in
     rw c.change.ensures (
-      omega (arith, below c.before.before.before.before.before.before.before.before.before.before.before.before.before.before.before.before),
+      omega (arith, below),
       turned c.place_of-at.result c.place_of-at.ensures c.loop-j.invariant.1 c.carry-new.ensures (risen-step c.ascend.ensures) c.carry-new-in-loop-j.ensures,
     )
 

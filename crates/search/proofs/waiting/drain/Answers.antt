@@ -27,21 +27,6 @@ loop-n-init c =
     let pre = (c.requires.ups_le_low, (c.requires.by_index, c.requires.by_index_2)) in
     begun _ _ _ _ pre.1.0.0 pre.1.0.1 pre.0.2 pre.1.1 c.enter_all.ensures
 
-kn : (l : goal.At-loop-n) (j : ℕ) → get_or l.args.keys.now j 0 < 192
-kn l = l.requires.by_index.0
-
-vn : (l : goal.At-loop-n) (j : ℕ) → get_or l.args.values.now j 0 < 192
-vn l = l.requires.by_index.1
-
-links : (l : goal.At-loop-n)
-    → (Linked l.args.keys.now (Upto l.args.ups l.args.low 1024) l.link-2.new.last l.link-2.new.before)
-links l =
-    l.link-2.ensures l.args.ups l.requires.ups_le_low.0 (linked-both (l.link.ensures 0 (omega arith) (linked-none _)))
-
--- the ring's first entry is a node
-below : (c : goal.After-wide-x) → c.wide-x.result < 192
-below c = omega (arith, c.wide-x.ensures, node-first _ _ _ _ (kn c.before.before) (vn c.before.before) c.loop-n.invariant (omega arith))
-
 pub bounds-ring-head : goal.bounds-ring-head
 bounds-ring-head c = c.loop-n.invariant.fits.first
 
@@ -49,40 +34,100 @@ pub overflow_add-head : goal.overflow_add-head
 overflow_add-head c = omega (arith, c.loop-n.invariant.fits.first)
 
 pub bounds-held-x : goal.bounds-held-x
-bounds-held-x c = below c
+bounds-held-x c =
+    let kn : (j : ℕ) → get_or c.args.keys.now j 0 < 192 =
+        c.requires.by_index.0 in
+    let vn : (j : ℕ) → get_or c.args.values.now j 0 < 192 =
+        c.requires.by_index.1 in
+    let below : c.wide-x.result < 192 =
+        omega (arith, c.wide-x.ensures, node-first _ _ _ _ kn vn c.loop-n.invariant (omega arith)) in
+    below
 
 pub offset_bounds-masks-x : goal.offset_bounds-masks-x
-offset_bounds-masks-x c = omega (arith, below c)
+offset_bounds-masks-x c =
+    let kn : (j : ℕ) → get_or c.args.keys.now j 0 < 192 =
+        c.requires.by_index.0 in
+    let vn : (j : ℕ) → get_or c.args.values.now j 0 < 192 =
+        c.requires.by_index.1 in
+    let below : c.wide-x.result < 192 =
+        omega (arith, c.wide-x.ensures, node-first _ _ _ _ kn vn c.loop-n.invariant (omega arith)) in
+    omega (arith, below)
 
 pub bounds-masks-x : goal.bounds-masks-x
-bounds-masks-x c = below c.before
+bounds-masks-x c =
+    let kn : (j : ℕ) → get_or c.args.keys.now j 0 < 192 =
+        c.requires.by_index.0 in
+    let vn : (j : ℕ) → get_or c.args.values.now j 0 < 192 =
+        c.requires.by_index.1 in
+    let below : c.wide-x.result < 192 =
+        omega (arith, c.wide-x.ensures, node-first _ _ _ _ kn vn c.loop-n.invariant (omega arith)) in
+    below
 
 pub offset_bounds-last-x : goal.offset_bounds-last-x
-offset_bounds-last-x c = omega (arith, below c.before.before)
+offset_bounds-last-x c =
+    let kn : (j : ℕ) → get_or c.args.keys.now j 0 < 192 =
+        c.requires.by_index.0 in
+    let vn : (j : ℕ) → get_or c.args.values.now j 0 < 192 =
+        c.requires.by_index.1 in
+    let below : c.wide-x.result < 192 =
+        omega (arith, c.wide-x.ensures, node-first _ _ _ _ kn vn c.loop-n.invariant (omega arith)) in
+    omega (arith, below)
 
 pub bounds-last-x : goal.bounds-last-x
-bounds-last-x c = below c.before.before
+bounds-last-x c =
+    let kn : (j : ℕ) → get_or c.args.keys.now j 0 < 192 =
+        c.requires.by_index.0 in
+    let vn : (j : ℕ) → get_or c.args.values.now j 0 < 192 =
+        c.requires.by_index.1 in
+    let below : c.wide-x.result < 192 =
+        omega (arith, c.wide-x.ensures, node-first _ _ _ _ kn vn c.loop-n.invariant (omega arith)) in
+    below
 
 pub overflow_cast-first : goal.overflow_cast-first
-overflow_cast-first c = omega (arith, (links c.before.before.before.before).most c.wide-x.result)
+overflow_cast-first c =
+    let links : (Linked c.args.keys.now (Upto c.args.ups c.args.low 1024) c.link-2.new.last c.link-2.new.before) =
+        c.link-2.ensures c.args.ups c.requires.ups_le_low.0 (linked-both (c.link.ensures 0 (omega arith) (linked-none _))) in
+    omega (arith, links.most c.wide-x.result)
 
 pub overflow_sub-waiting : goal.overflow_sub-waiting
 overflow_sub-waiting c = omega arith
 
 pub pass_on-n-requires : goal.pass_on-n-requires
 pass_on-n-requires c =
-    let k = links c.before.before.before.before.before.before.before.before in
-    record { fits = (rw c.wide-x.ensures.0 (left-fits _ _ _ _ (kn c.before.before.before.before.before.before.before.before) (vn c.before.before.before.before.before.before.before.before) c.loop-n.invariant (omega arith)), k.most c.wide-x.result); by_index = (vn c.before.before.before.before.before.before.before.before, k.back) }
+    let kn : (j : ℕ) → get_or c.args.keys.now j 0 < 192 =
+        c.requires.by_index.0 in
+    let vn : (j : ℕ) → get_or c.args.values.now j 0 < 192 =
+        c.requires.by_index.1 in
+    let links : (Linked c.args.keys.now (Upto c.args.ups c.args.low 1024) c.link-2.new.last c.link-2.new.before) =
+        c.link-2.ensures c.args.ups c.requires.ups_le_low.0 (linked-both (c.link.ensures 0 (omega arith) (linked-none _))) in
+    let k = links in
+    record { fits = (rw c.wide-x.ensures.0 (left-fits _ _ _ _ kn vn c.loop-n.invariant (omega arith)), k.most c.wide-x.result); by_index = (vn, k.back) }
 
 pub loop-n-smaller : goal.loop-n-smaller
 loop-n-smaller c =
-    (turned _ _ _ _ (kn c.before.before.before.before.before.before.before.before.before) (vn c.before.before.before.before.before.before.before.before.before) c.loop-n.invariant (omega arith) (links c.before.before.before.before.before.before.before.before.before) (rw c.wide-x.ensures.0 c c.pass_on-n.ensures.walk)).1
+    let kn : (j : ℕ) → get_or c.args.keys.now j 0 < 192 =
+        c.requires.by_index.0 in
+    let vn : (j : ℕ) → get_or c.args.values.now j 0 < 192 =
+        c.requires.by_index.1 in
+    let links : (Linked c.args.keys.now (Upto c.args.ups c.args.low 1024) c.link-2.new.last c.link-2.new.before) =
+        c.link-2.ensures c.args.ups c.requires.ups_le_low.0 (linked-both (c.link.ensures 0 (omega arith) (linked-none _))) in
+    (turned _ _ _ _ kn vn c.loop-n.invariant (omega arith) links (rw c.wide-x.ensures.0 c c.pass_on-n.ensures.walk)).1
 
 pub loop-n-preserved : goal.loop-n-preserved
 loop-n-preserved c =
-    (turned _ _ _ _ (kn c.before.before.before.before.before.before.before.before.before) (vn c.before.before.before.before.before.before.before.before.before) c.loop-n.invariant (omega arith) (links c.before.before.before.before.before.before.before.before.before) (rw c.wide-x.ensures.0 c c.pass_on-n.ensures.walk)).0
+    let kn : (j : ℕ) → get_or c.args.keys.now j 0 < 192 =
+        c.requires.by_index.0 in
+    let vn : (j : ℕ) → get_or c.args.values.now j 0 < 192 =
+        c.requires.by_index.1 in
+    let links : (Linked c.args.keys.now (Upto c.args.ups c.args.low 1024) c.link-2.new.last c.link-2.new.before) =
+        c.link-2.ensures c.args.ups c.requires.ups_le_low.0 (linked-both (c.link.ensures 0 (omega arith) (linked-none _))) in
+    (turned _ _ _ _ kn vn c.loop-n.invariant (omega arith) links (rw c.wide-x.ensures.0 c c.pass_on-n.ensures.walk)).0
 
 pub returns : goal.returns
 returns c =
+    let kn : (j : ℕ) → get_or c.args.keys.now j 0 < 192 =
+        c.requires.by_index.0 in
+    let vn : (j : ℕ) → get_or c.args.values.now j 0 < 192 =
+        c.requires.by_index.1 in
     let none : c.loop-n.n ≡ 0 = omega arith in
-    record { carried = c.loop-n.invariant.carried; closed = drained _ _ _ _ (kn c.before) (vn c.before) (rw none at c.loop-n.invariant) }
+    record { carried = c.loop-n.invariant.carried; closed = drained _ _ _ _ kn vn (rw none at c.loop-n.invariant) }

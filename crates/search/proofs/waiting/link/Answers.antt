@@ -13,14 +13,17 @@ loop-j-init c = (omega arith, c.requires.a_le_b.0, λ u h l. l)
 pub bounds-keys-j : goal.bounds-keys-j
 bounds-keys-j c = omega arith
 
-below : (c : goal.After-wide-x) → c.wide-x.result < 192
-below c = omega (arith, c.wide-x.ensures, c.requires.a_le_b.2 c.loop-j.j)
-
 pub offset_bounds-last-x : goal.offset_bounds-last-x
-offset_bounds-last-x c = omega (arith, below c)
+offset_bounds-last-x c =
+    let below : c.wide-x.result < 192 =
+        omega (arith, c.wide-x.ensures, c.requires.a_le_b.2 c.loop-j.j) in
+    omega (arith, below)
 
 pub bounds-last-x : goal.bounds-last-x
-bounds-last-x c = below c.before
+bounds-last-x c =
+    let below : c.wide-x.result < 192 =
+        omega (arith, c.wide-x.ensures, c.requires.a_le_b.2 c.loop-j.j) in
+    below
 
 pub offset_bounds-before-j : goal.offset_bounds-before-j
 offset_bounds-before-j c = omega arith
@@ -35,10 +38,16 @@ pub overflow_cast-last : goal.overflow_cast-last
 overflow_cast-last c = omega arith
 
 pub offset_bounds-last-x-in-loop-j : goal.offset_bounds-last-x-in-loop-j
-offset_bounds-last-x-in-loop-j c = omega (arith, below c.before.before.before)
+offset_bounds-last-x-in-loop-j c =
+    let below : c.wide-x.result < 192 =
+        omega (arith, c.wide-x.ensures, c.requires.a_le_b.2 c.loop-j.j) in
+    omega (arith, below)
 
 pub bounds-last-x-in-loop-j : goal.bounds-last-x-in-loop-j
-bounds-last-x-in-loop-j c = below c.before.before.before
+bounds-last-x-in-loop-j c =
+    let below : c.wide-x.result < 192 =
+        omega (arith, c.wide-x.ensures, c.requires.a_le_b.2 c.loop-j.j) in
+    below
 
 pub overflow_add-j : goal.overflow_add-j
 overflow_add-j c = omega arith

@@ -16,22 +16,29 @@ pub returns-then-held-at-ne0 : goal.returns-then-held-at-ne0
 returns-then-held-at-ne0 c =
     record { visited = rw c.wide-at.ensures.0 (kept (rw c.wide-at.ensures.0 at c.if-all-old.false) (λ z. let t = rw c.wide-at.ensures.0 at c.if-held-at-ne0.true in omega arith)); upper_bound = c.requires.0.room }
 
-free : (c : goal.Else-held-at-ne0) → (get_or c.args.held.now c.args.y 0 ≡ 0)
-free c = let t = rw c.wide-at.ensures.0 at c.if-held-at-ne0.false in omega arith
-
--- the node is not held: one more is counted, so there was room for it
-counted : (c : goal.Else-held-at-ne0)
-    → (let held = c.args.held.now in (filled (set held c.args.y 1) ≡ suc (filled held)) × (filled held < 192))
-counted c =
-    let lt = filled-lt c.args.held.now c.args.y (omega arith) (free c) in
-    (filled-set _ _ _ (omega arith) (free c) (omega arith), omega arith)
-
 pub overflow_add-ring : goal.overflow_add-ring
-overflow_add-ring c = omega (arith, counted c.before)
+overflow_add-ring c =
+    let free : (get_or c.args.held.now c.args.y 0 ≡ 0) =
+        let t = rw c.wide-at.ensures.0 at c.if-held-at-ne0.false in omega arith in
+    let counted : (let held = c.args.held.now in (filled (set held c.args.y 1) ≡ suc (filled held)) × (filled held < 192)) =
+        let lt = filled-lt c.args.held.now c.args.y (omega arith) free in
+    (filled-set _ _ _ (omega arith) free (omega arith), omega arith) in
+    omega (arith, counted)
 
 pub overflow_add-result : goal.overflow_add-result
-overflow_add-result c = omega (arith, counted c.before.before.before)
+overflow_add-result c =
+    let free : (get_or c.args.held.now c.args.y 0 ≡ 0) =
+        let t = rw c.wide-at.ensures.0 at c.if-held-at-ne0.false in omega arith in
+    let counted : (let held = c.args.held.now in (filled (set held c.args.y 1) ≡ suc (filled held)) × (filled held < 192)) =
+        let lt = filled-lt c.args.held.now c.args.y (omega arith) free in
+    (filled-set _ _ _ (omega arith) free (omega arith), omega arith) in
+    omega (arith, counted)
 
 pub returns : goal.returns
 returns c =
-    rw c.wide-at.ensures.0 (fresh (rw c.wide-at.ensures.0 at c.if-all-old.false) (free c.before.before.before), let k = counted c.before.before.before in omega arith)
+    let free : (get_or c.args.held.now c.args.y 0 ≡ 0) =
+        let t = rw c.wide-at.ensures.0 at c.if-held-at-ne0.false in omega arith in
+    let counted : (let held = c.args.held.now in (filled (set held c.args.y 1) ≡ suc (filled held)) × (filled held < 192)) =
+        let lt = filled-lt c.args.held.now c.args.y (omega arith) free in
+    (filled-set _ _ _ (omega arith) free (omega arith), omega arith) in
+    rw c.wide-at.ensures.0 (fresh (rw c.wide-at.ensures.0 at c.if-all-old.false) free, let k = counted in omega arith)
