@@ -87,7 +87,7 @@ module _ {R : Region} (W : WellFormed R) (C : Connected R) {m : ℕ} where
   pub travel : {σ : State} {b z y : ℕ} → Path (Edge R) Any z y → R.role b ≡ barrier → R.role y ≡ barrier
       → (z ≡ b) ⊎ (Open R z × BarrierFree R b z) → AllAt m σ b → AllCome R m σ y
   travel (last e) hb hy s all = interval hb hy (extend s e) all
-  travel (next {z = v} e p w) hb hy s all = elim (barrier? (R.role v)) [
-    | yes hv ↦ (let G = interval hb hv (extend s e) all in run-then G.1 (travel w hv hy (inl refl) G.2))
-    | no o ↦ travel w hb hy (inr (o, extend s e)) all
+  travel {σ = σ} {b = b} (next {z = v} e p w) hb hy s all = elim (barrier? (R.role v)) [
+    | yes hv ↦ (let G = interval hb hv (extend s e) all in run-then G.1 (travel {σ = G.0} {b = v} w hv hy (inl refl) G.2))
+    | no o ↦ travel {σ = σ} {b = b} w hb hy (inr (o, extend s e)) all
   ]

@@ -20,7 +20,7 @@ one_end : {r : Role} {c d : ℕ} → r ≡ closes c → r ≡ closes d → c ≡
 one_end p q = cc
 
 -- A sections' end is left for a section that no thread has taken in the instance, or once all are taken.
-pub sections-left : {R : Region} {m : ℕ} {σ τ : State} {t v c : ℕ} → ThreadStep R m σ t v τ → R.role (σ.node t) ≡ closes c → R.kind c ≡ sections
+pub sections-left : {R : Region} {m : ℕ} {σ : State} {t v : ℕ} {τ : State} {c : ℕ} → ThreadStep R m σ t v τ → R.role (σ.node t) ≡ closes c → R.kind c ≡ sections
     → Takes R m σ v c (σ.encounters t c) ⊎ AllTaken R m σ c (σ.encounters t c)
 sections-left {R} {m} {σ} {t = t} {c = c} (move h e) w k =
     let g : R.kind c ≡ sections → AllTaken R m σ c (σ.encounters t c) = subst (MayMove R m σ t) w h in
@@ -100,7 +100,7 @@ module _ (R : Region) (ρ : State) (t c : ℕ) where
   ]
 
 -- The thread, its target and the state before determine the state after.
-pub determined : {R : Region} → WellFormed R → {m : ℕ} {σ τ : State} {t v : ℕ} → ThreadStep R m σ t v τ → τ ≡ outcome R (R.role (σ.node t)) σ t v
+pub determined : {R : Region} → WellFormed R → {m : ℕ} {σ : State} {t v : ℕ} {τ : State} → ThreadStep R m σ t v τ → τ ≡ outcome R (R.role (σ.node t)) σ t v
 determined {R} W {m} {σ} {t = t} {v} (move h e) = go (R.role (σ.node t)) refl h
   where
     go : (r : Role) → R.role (σ.node t) ≡ r → MayMove R m σ t r → moved σ t v ≡ outcome R r σ t v
