@@ -141,6 +141,7 @@ frames-hits kind c (d ∷ l) =
 
 -- an edge of the list is an edge
 member-at : {A : Type 0} (d : A) {a : A} (l : List A) → Member a l → (i : ℕ) × (i < length l) × (get_or l i d ≡ a)
+member-at d [] x = elim x [ ]
 member-at d (a ∷ l) here = (0, omega arith, refl)
 member-at d (b ∷ l) (there m) = let (i, b, e) = member-at d l m in (suc i, omega arith, e)
 

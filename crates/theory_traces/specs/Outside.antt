@@ -18,7 +18,7 @@ module _ {R : Region} (W : WellFormed R) (C : Connected R) where
   end_kept w = W.from-kept (first_edge (C.end-to-finish w)).1
 
   -- a step leads to a node of the region
-  pub target-kept : {m : ℕ} {σ τ : State} {t v : ℕ} → ThreadStep R m σ t v τ → R.kept v ≡ true
+  pub target-kept : {m : ℕ} {σ : State} {t v : ℕ} {τ : State} → ThreadStep R m σ t v τ → R.kept v ≡ true
   target-kept (move h e) = W.to-kept e
   target-kept (enter w p e) = W.to-kept e
   target-kept (pass w p e) = subst (λ (x : ℕ). R.kept x ≡ true) (sym e) (end_kept (W.opens-ended w))
