@@ -39,7 +39,7 @@ unfolding bad_barriers is_barrier too_many_in
 returns-then-wide-gt-BARRIERS c =
     let left : let D = decode c.args.s.now in
     bad_barriers D ≡ (too_many_in D.nodes outside || any (length D.constructs) (λ p. is_parallel D.constructs p && too_many_in D.nodes p)) =
-        rw (
+    rw (
       ← c.read.ensures.0,
       eq-eqb _ _ c.if-read-ne-BARRIER.false,
       nodes-length _ c.args.chart c.requires,
@@ -47,7 +47,7 @@ returns-then-wide-gt-BARRIERS c =
       eq-eqb _ _ c.if-read-ne-BARRIER-2.false,
     ) in
     let outermost : ltb 64 c.wide.result ≡ too_many_in (decode c.args.s.now).nodes outside =
-        ap (ltb 64) (c.wide.ensures.0 ∙ c.count_outermost.ensures) in
+    ap (ltb 64) (c.wide.ensures.0 ∙ c.count_outermost.ensures) in
     rw (left, ← outermost, lt-ltb _ _ c.if-wide-gt-BARRIERS.true)
 
 pub returns-then-not-occurs : goal.returns-then-not-occurs
@@ -55,7 +55,7 @@ unfolding bad_barriers is_barrier too_many_in
 returns-then-not-occurs c =
     let left : let D = decode c.args.s.now in
     bad_barriers D ≡ (too_many_in D.nodes outside || any (length D.constructs) (λ p. is_parallel D.constructs p && too_many_in D.nodes p)) =
-        rw (
+    rw (
       ← c.read.ensures.0,
       eq-eqb _ _ c.if-read-ne-BARRIER.false,
       nodes-length _ c.args.chart c.requires,
@@ -63,11 +63,11 @@ returns-then-not-occurs c =
       eq-eqb _ _ c.if-read-ne-BARRIER-2.false,
     ) in
     let outermost : ltb 64 c.wide.result ≡ too_many_in (decode c.args.s.now).nodes outside =
-        ap (ltb 64) (c.wide.ensures.0 ∙ c.count_outermost.ensures) in
+    ap (ltb 64) (c.wide.ensures.0 ∙ c.count_outermost.ensures) in
     let inner : let D = decode c.args.s.now in
     bad_barriers D ≡ any (length D.constructs) (λ p. is_parallel D.constructs p && too_many_in D.nodes p) =
-        rw (left, ← outermost, le-ltb _ _ c.if-wide-gt-BARRIERS.false) in
-    rw inner (sym (none-crowded (decode c.args.s.now) (sym c.occurs.ensures ∙ not-true _ c.if-not-occurs.true)))
+    rw (left, ← outermost, le-ltb _ _ c.if-wide-gt-BARRIERS.false) in
+    rw inner (sym (none-crowded (decode c.args.s.now) (sym c.occurs.ensures ∙ c.if-not-occurs.true)))
 
 pub count_barriers-requires : goal.count_barriers-requires
 unfolding count
@@ -79,7 +79,7 @@ unfolding bad_barriers is_barrier too_many_in
 returns c =
     let left : let D = decode c.args.s.now in
     bad_barriers D ≡ (too_many_in D.nodes outside || any (length D.constructs) (λ p. is_parallel D.constructs p && too_many_in D.nodes p)) =
-        rw (
+    rw (
       ← c.read.ensures.0,
       eq-eqb _ _ c.if-read-ne-BARRIER.false,
       nodes-length _ c.args.chart c.requires,
@@ -87,8 +87,8 @@ returns c =
       eq-eqb _ _ c.if-read-ne-BARRIER-2.false,
     ) in
     let outermost : ltb 64 c.wide.result ≡ too_many_in (decode c.args.s.now).nodes outside =
-        ap (ltb 64) (c.wide.ensures.0 ∙ c.count_outermost.ensures) in
+    ap (ltb 64) (c.wide.ensures.0 ∙ c.count_outermost.ensures) in
     let inner : let D = decode c.args.s.now in
     bad_barriers D ≡ any (length D.constructs) (λ p. is_parallel D.constructs p && too_many_in D.nodes p) =
-        rw (left, ← outermost, le-ltb _ _ c.if-wide-gt-BARRIERS.false) in
+    rw (left, ← outermost, le-ltb _ _ c.if-wide-gt-BARRIERS.false) in
     rw inner c.crowded.ensures

@@ -41,9 +41,9 @@ take_frames-no_end-requires c =
 
 pub returns : goal.returns
 returns c =
-    let ended = (c.take_frames-no_end.ensures.value, c.take_frames-no_end.ensures.written) in
-    let begun = (c.take_frames-no_begin.ensures.value, c.take_frames-no_begin.ensures.written) in
+    let ended = c.take_frames-no_end.ensures in
+    let begun = c.take_frames-no_begin.ensures in
     let N = c.note_nodes-frames.ensures in
     let s = c.args.s.now in
-    let is : c.either.result ≡ bad_frames (decode s) = cc (c.either.ensures, begun.0, ended.0, decides s c.args.chart c.requires.0 c.requires.1 N c.if-frames-c.false) in
-    record { value = is; both_framed = λ h. both-framed s c.args.chart c.requires.0 c.requires.1 N (sym is ∙ h) begun.1 ended.1 }
+    let is : c.either.result ≡ bad_frames (decode s) = cc (c.either.ensures, begun.value, ended.value, decides s c.args.chart c.requires.0 c.requires.1 N c.if-frames-c.false) in
+    record { value = is; both_framed = λ h. both-framed s c.args.chart c.requires.0 c.requires.1 N (sym is ∙ h) begun.written ended.written }

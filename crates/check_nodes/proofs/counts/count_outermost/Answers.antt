@@ -22,7 +22,7 @@ pub overflow_add-found : goal.overflow_add-found
 unfolding barrier_of
 overflow_add-found c =
     let next : c.loop-x.found + c.outermost-found.result ≡ count (c.loop-x.x + 1) (barrier_of (decode c.args.s.now).nodes outside) =
-        let r = c.read.ensures in
+    let r = c.read.ensures in
     cc (c.loop-x.invariant.1, c.outermost-found.ensures, r.0, r.1, count-more c.loop-x.x (barrier_of (decode c.args.s.now).nodes outside)) in
     omega (arith, next, count_most (c.loop-x.x + 1) (barrier_of (decode c.args.s.now).nodes outside), c.requires.nodes-most)
 
@@ -36,7 +36,7 @@ pub loop-x-preserved : goal.loop-x-preserved
 unfolding barrier_of
 loop-x-preserved c =
     let next : c.loop-x.found + c.outermost-found.result ≡ count (c.loop-x.x + 1) (barrier_of (decode c.args.s.now).nodes outside) =
-        let r = c.read.ensures in
+    let r = c.read.ensures in
     cc (c.loop-x.invariant.1, c.outermost-found.ensures, r.0, r.1, count-more c.loop-x.x (barrier_of (decode c.args.s.now).nodes outside)) in
     (omega arith, next)
 

@@ -19,12 +19,12 @@ bounds-found-c c =
 pub returns-then-wide-le-BARRIERS : goal.returns-then-wide-le-BARRIERS
 returns-then-wide-le-BARRIERS c =
     let tested : ltb 64 c.wide.result ≡ too_many_in (decode c.args.s.now).nodes c.args.c =
-        ap (ltb 64) c.wide.ensures.0 ∙ many _ c.args.chart c.requires.0 c.requires.1 c.args.c in
+    ap (ltb 64) c.wide.ensures.0 ∙ many _ c.args.chart c.requires.0 c.requires.1 c.args.c in
     rw (← tested, le-ltb _ _ c.if-wide-le-BARRIERS.true) (sym (and-false (is_parallel (decode c.args.s.now).constructs c.args.c)))
 
 pub returns : goal.returns
 unfolding is_parallel
 returns c =
     let tested : ltb 64 c.wide.result ≡ too_many_in (decode c.args.s.now).nodes c.args.c =
-        ap (ltb 64) c.wide.ensures.0 ∙ many _ c.args.chart c.requires.0 c.requires.1 c.args.c in
+    ap (ltb 64) c.wide.ensures.0 ∙ many _ c.args.chart c.requires.0 c.requires.1 c.args.c in
     simp (← tested, lt-ltb _ _ c.if-wide-le-BARRIERS.false, c.read.ensures.0, and-true)

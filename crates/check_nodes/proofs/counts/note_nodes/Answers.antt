@@ -18,7 +18,7 @@ read-node-requires c = (c.requires.0, omega arith)
 pub overflow_add-frames : goal.overflow_add-frames
 overflow_add-frames c =
     let known : c.wide-kind.result ≤ 3 =
-        omega (arith, c.wide-kind.ensures.0, c.read-node.ensures.0, (in_order _ c.args.chart c.requires.0 c.requires.1 c.loop-x.x (omega arith)).0) in
+    omega (arith, c.wide-kind.ensures.0, c.read-node.ensures.0, (in_order _ c.args.chart c.requires.0 c.requires.1 c.loop-x.x (omega arith)).0) in
     omega (arith, known, c.requires.0.nodes-most)
 
 pub overflow_cast-noted : goal.overflow_cast-noted
@@ -27,19 +27,19 @@ overflow_cast-noted c = omega arith
 pub overflow_mul-noted : goal.overflow_mul-noted
 overflow_mul-noted c =
     let known : c.wide-kind.result ≤ 3 =
-        omega (arith, c.wide-kind.ensures.0, c.read-node.ensures.0, (in_order _ c.args.chart c.requires.0 c.requires.1 c.loop-x.x (omega arith)).0) in
+    omega (arith, c.wide-kind.ensures.0, c.read-node.ensures.0, (in_order _ c.args.chart c.requires.0 c.requires.1 c.loop-x.x (omega arith)).0) in
     omega (arith, known)
 
 pub overflow_add-noted : goal.overflow_add-noted
 overflow_add-noted c =
     let known : c.wide-kind.result ≤ 3 =
-        omega (arith, c.wide-kind.ensures.0, c.read-node.ensures.0, (in_order _ c.args.chart c.requires.0 c.requires.1 c.loop-x.x (omega arith)).0) in
+    omega (arith, c.wide-kind.ensures.0, c.read-node.ensures.0, (in_order _ c.args.chart c.requires.0 c.requires.1 c.loop-x.x (omega arith)).0) in
     omega (arith, known)
 
 pub bounds-noted-kind : goal.bounds-noted-kind
 bounds-noted-kind c =
     let known : c.wide-kind.result ≤ 3 =
-        omega (arith, c.wide-kind.ensures.0, c.read-node.ensures.0, (in_order _ c.args.chart c.requires.0 c.requires.1 c.loop-x.x (omega arith)).0) in
+    omega (arith, c.wide-kind.ensures.0, c.read-node.ensures.0, (in_order _ c.args.chart c.requires.0 c.requires.1 c.loop-x.x (omega arith)).0) in
     omega (arith, known)
 
 pub overflow_add-x : goal.overflow_add-x
@@ -51,7 +51,7 @@ loop-x-smaller c = omega arith
 pub loop-x-preserved : goal.loop-x-preserved
 loop-x-preserved c =
     let known : c.wide-kind.result ≤ 3 =
-        omega (arith, c.wide-kind.ensures.0, c.read-node.ensures.0, (in_order _ c.args.chart c.requires.0 c.requires.1 c.loop-x.x (omega arith)).0) in
+    omega (arith, c.wide-kind.ensures.0, c.read-node.ensures.0, (in_order _ c.args.chart c.requires.0 c.requires.1 c.loop-x.x (omega arith)).0) in
     let r = c.read-node.ensures in
     let x = c.loop-x.x in
     let same : x % 256 ≡ x = omega (arith, c.requires.0.nodes-most) in

@@ -19,25 +19,25 @@ loop-c-init c =
 pub overflow_add-node : goal.overflow_add-node
 overflow_add-node c =
     let low : (c.wide-row.result ≤ 3) × (c.loop-c.c < 48) =
-        (omega (arith, c.wide-row.ensures.0, c.requires.0), omega (arith, c.loop-c-test.true, c.requires.1)) in
+    (omega (arith, c.wide-row.ensures.0, c.requires.0), omega (arith, c.loop-c-test.true, c.requires.1)) in
     let (k, l) = low in omega arith
 
 pub bounds-noted-row : goal.bounds-noted-row
 bounds-noted-row c =
     let low : (c.wide-row.result ≤ 3) × (c.loop-c.c < 48) =
-        (omega (arith, c.wide-row.ensures.0, c.requires.0), omega (arith, c.loop-c-test.true, c.requires.1)) in
+    (omega (arith, c.wide-row.ensures.0, c.requires.0), omega (arith, c.loop-c-test.true, c.requires.1)) in
     let (k, l) = low in omega arith
 
 pub bounds-frames-c : goal.bounds-frames-c
 bounds-frames-c c =
     let low : (c.wide-row.result ≤ 3) × (c.loop-c.c < 48) =
-        (omega (arith, c.wide-row.ensures.0, c.requires.0), omega (arith, c.loop-c-test.true, c.requires.1)) in
+    (omega (arith, c.wide-row.ensures.0, c.requires.0), omega (arith, c.loop-c-test.true, c.requires.1)) in
     let (k, l) = low in omega arith
 
 pub overflow_add-c : goal.overflow_add-c
 overflow_add-c c =
     let low : (c.wide-row.result ≤ 3) × (c.loop-c.c < 48) =
-        (omega (arith, c.wide-row.ensures.0, c.requires.0), omega (arith, c.loop-c-test.true, c.requires.1)) in
+    (omega (arith, c.wide-row.ensures.0, c.requires.0), omega (arith, c.loop-c-test.true, c.requires.1)) in
     let (k, l) = low in omega arith
 
 pub loop-c-smaller : goal.loop-c-smaller
@@ -46,13 +46,13 @@ loop-c-smaller c = omega arith
 pub loop-c-preserved : goal.loop-c-preserved
 loop-c-preserved c =
     let placed : c.wide-row.result * 64 + c.loop-c.c ≡ c.args.kind * 64 + c.loop-c.c =
-        omega (arith, c.wide-row.ensures.0) in
+    omega (arith, c.wide-row.ensures.0) in
     let low : (c.wide-row.result ≤ 3) × (c.loop-c.c < 48) =
-        (omega (arith, c.wide-row.ensures.0, c.requires.0), omega (arith, c.loop-c-test.true, c.requires.1)) in
+    (omega (arith, c.wide-row.ensures.0, c.requires.0), omega (arith, c.loop-c-test.true, c.requires.1)) in
     let (below, long, lacks, written) = c.loop-c.invariant in (
       omega arith,
       length-set c.loop-c.frames c.loop-c.c _ ∙ long,
-      cc (c.either-lacks.ensures, lacks, placed, any_next c.loop-c.c (λ c. eqb (noted_at c.args.kind c.args.noted.now c) not_noted)),
+      cc (c.either-lacks.ensures, lacks, placed, any_next c.loop-c.c (λ p. eqb (noted_at c.args.kind c.args.noted.now p) not_noted)),
       written-more _ (omega (arith, low.1)) (ap (λ (p : ℕ). get_or c.args.noted.now p 0) placed) written,
     )
 

@@ -24,7 +24,7 @@ read-requires c = (c.requires, omega arith)
 pub returns-then-bad_node : goal.returns-then-bad_node
 returns-then-bad_node c =
     let tested : c.bad_node.result ≡ bad c.args.s.now c.loop-x.x =
-        cc (c.bad_node.ensures, c.read.ensures.0, c.read.ensures.1) in
+    cc (c.bad_node.ensures, c.read.ensures.0, c.read.ensures.1) in
     let l = nodes-length _ c.args.chart c.requires in
     let x = c.loop-x.x in
     sym (at-any _ (bad c.args.s.now) x (omega arith) (sym tested ∙ c.if-bad_node.true))
@@ -38,7 +38,7 @@ loop-x-smaller c = omega arith
 pub loop-x-preserved : goal.loop-x-preserved
 loop-x-preserved c =
     let tested : c.bad_node.result ≡ bad c.args.s.now c.loop-x.x =
-        cc (c.bad_node.ensures, c.read.ensures.0, c.read.ensures.1) in
+    cc (c.bad_node.ensures, c.read.ensures.0, c.read.ensures.1) in
     (omega arith, any-more _ _ c.loop-x.invariant.1 (sym tested ∙ c.if-bad_node.false))
 
 pub returns : goal.returns

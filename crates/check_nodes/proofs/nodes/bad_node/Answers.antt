@@ -25,7 +25,7 @@ pub returns-then-chart-c : goal.returns-then-chart-c
 unfolding bad_node
 returns-then-chart-c c =
     let many : length (decode c.args.s.now).constructs ≡ c.args.chart.constructs =
-        constructs-length _ c.args.chart c.requires in
+    constructs-length _ c.args.chart c.requires in
     let l : length (decode c.args.s.now).constructs ≤ c.args.node.number = omega (arith, many, c.wide-c.ensures.0, c.if-chart-c.true) in
     simp (le-ltb _ _ c.if-kind-gt-END.false, ne_eqb _ _ c.if-number.false, le-ltb _ _ l)
 
@@ -33,7 +33,7 @@ pub returns-then-kind-ne-BARRIER : goal.returns-then-kind-ne-BARRIER
 unfolding bad_node
 returns-then-kind-ne-BARRIER c =
     let many : length (decode c.args.s.now).constructs ≡ c.args.chart.constructs =
-        constructs-length _ c.args.chart c.requires in
+    constructs-length _ c.args.chart c.requires in
     let l : c.args.node.number < length (decode c.args.s.now).constructs = omega (arith, many, c.wide-c.ensures.0, c.if-chart-c.false) in
     simp (le-ltb _ _ c.if-kind-gt-END.false, ne_eqb _ _ c.if-number.false, lt-ltb _ _ l, ne_eqb _ _ c.if-kind-ne-BARRIER.true, and-false)
 
@@ -41,6 +41,6 @@ pub returns : goal.returns
 unfolding bad_node is_parallel
 returns c =
     let many : length (decode c.args.s.now).constructs ≡ c.args.chart.constructs =
-        constructs-length _ c.args.chart c.requires in
+    constructs-length _ c.args.chart c.requires in
     let l : c.args.node.number < length (decode c.args.s.now).constructs = omega (arith, many, c.wide-c.ensures.0, c.if-chart-c.false) in
     simp (le-ltb _ _ c.if-kind-gt-END.false, ne_eqb _ _ c.if-number.false, lt-ltb _ _ l, eq-eqb _ _ c.if-kind-ne-BARRIER.false, c.read.ensures.0, c.wide-c.ensures.0, and-false, or-false)

@@ -36,35 +36,35 @@ row s chart L =
 pub returns-then-names_region : goal.returns-then-names_region
 returns-then-names_region c =
     let first : c.names_region.result ≡ names_region (decode c.args.s.now) 0 =
-        cc (c.names_region.ensures, c.read.ensures.0, c.read.ensures.1) in
+    cc (c.names_region.ensures, c.read.ensures.0, c.read.ensures.1) in
     rw (row _ c.args.chart c.requires, sym first ∙ c.if-names_region.true)
 
 pub returns-then-names_region-2 : goal.returns-then-names_region-2
 returns-then-names_region-2 c =
     let first : c.names_region.result ≡ names_region (decode c.args.s.now) 0 =
-        cc (c.names_region.ensures, c.read.ensures.0, c.read.ensures.1) in
+    cc (c.names_region.ensures, c.read.ensures.0, c.read.ensures.1) in
     let last : c.names_region-2.result ≡ names_region (decode c.args.s.now) (c.args.chart.nodes - 1) =
-        cc (c.names_region-2.ensures, c.read-2.ensures.0, c.read-2.ensures.1) in
+    cc (c.names_region-2.ensures, c.read-2.ensures.0, c.read-2.ensures.1) in
     rw (row _ c.args.chart c.requires, sym first ∙ c.if-names_region.false, sym last ∙ c.if-names_region-2.true)
 
 pub returns-then-not-any_doubtful : goal.returns-then-not-any_doubtful
 returns-then-not-any_doubtful c =
     let first : c.names_region.result ≡ names_region (decode c.args.s.now) 0 =
-        cc (c.names_region.ensures, c.read.ensures.0, c.read.ensures.1) in
+    cc (c.names_region.ensures, c.read.ensures.0, c.read.ensures.1) in
     let last : c.names_region-2.result ≡ names_region (decode c.args.s.now) (c.args.chart.nodes - 1) =
-        cc (c.names_region-2.ensures, c.read-2.ensures.0, c.read-2.ensures.1) in
+    cc (c.names_region-2.ensures, c.read-2.ensures.0, c.read-2.ensures.1) in
     let left : let D = decode c.args.s.now in
     bad_nodes D ≡ any (length D.nodes) (alone_at D) =
-        rw (row _ c.args.chart c.requires, sym first ∙ c.if-names_region.false, sym last ∙ c.if-names_region-2.false) in
-    rw left (sym (none-bad (decode c.args.s.now) (sym c.any_doubtful.ensures ∙ not-true _ c.if-not-any_doubtful.true)))
+    rw (row _ c.args.chart c.requires, sym first ∙ c.if-names_region.false, sym last ∙ c.if-names_region-2.false) in
+    rw left (sym (none-bad (decode c.args.s.now) (sym c.any_doubtful.ensures ∙ c.if-not-any_doubtful.true)))
 
 pub returns : goal.returns
 returns c =
     let first : c.names_region.result ≡ names_region (decode c.args.s.now) 0 =
-        cc (c.names_region.ensures, c.read.ensures.0, c.read.ensures.1) in
+    cc (c.names_region.ensures, c.read.ensures.0, c.read.ensures.1) in
     let last : c.names_region-2.result ≡ names_region (decode c.args.s.now) (c.args.chart.nodes - 1) =
-        cc (c.names_region-2.ensures, c.read-2.ensures.0, c.read-2.ensures.1) in
+    cc (c.names_region-2.ensures, c.read-2.ensures.0, c.read-2.ensures.1) in
     let left : let D = decode c.args.s.now in
     bad_nodes D ≡ any (length D.nodes) (alone_at D) =
-        rw (row _ c.args.chart c.requires, sym first ∙ c.if-names_region.false, sym last ∙ c.if-names_region-2.false) in
+    rw (row _ c.args.chart c.requires, sym first ∙ c.if-names_region.false, sym last ∙ c.if-names_region-2.false) in
     rw left c.bad_each.ensures
