@@ -15,7 +15,8 @@ bounds-sources-b c = omega arith
 
 pub expand-tail-requires : goal.expand-tail-requires
 expand-tail-requires c =
-    let ((_, table, _, _), node) = (c.requires.total_bound, c.requires.by_index) in
+    let (_, table, _, _) = c.requires.total_bound in
+    let node = c.requires.by_index in
     (c.loop-b.invariant.1.queued.room, node c.loop-b.b, omega arith, table)
 
 pub overflow_add-b : goal.overflow_add-b

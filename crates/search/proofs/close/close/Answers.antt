@@ -9,12 +9,14 @@ use Rattle.search.proofs.close.close.Goals as goal
 
 pub sweep-new-requires : goal.sweep-new-requires
 sweep-new-requires c =
-    let ((L, long), fits) = (c.requires.lists, c.requires.by_index) in
+    let (L, long) = c.requires.lists in
+    let fits = c.requires.by_index in
     record { a_le_b = (omega arith, L.ups-most, long); by_index = L.key; by_index_2 = L.value }
 
 pub sweep-new-requires-2 : goal.sweep-new-requires-2
 sweep-new-requires-2 c =
-    let ((L, long), fits) = (c.requires.lists, c.requires.by_index) in
+    let (L, long) = c.requires.lists in
+    let fits = c.requires.by_index in
     record { a_le_b = (L.low-most, omega arith, run_long long c.sweep-new.ensures); by_index = L.key; by_index_2 = L.value }
 
 pub steps_of-turn-requires : goal.steps_of-turn-requires
@@ -25,7 +27,8 @@ loop-new-init c =
     let first_two : (let args = c.args in
     Closing bit_or Sub (λ m. m < 18446744073709551616) args.keys.now args.values.now args.ups args.low args.masks.now
     c.sweep-new-2.new.masks c.sweep-new-2.result) =
-        let ((L, long), fits) = (c.requires.lists, c.requires.by_index) in
+    let (L, long) = c.requires.lists in
+    let fits = c.requires.by_index in
     opened masks-kind L long fits c.sweep-new.ensures c.sweep-new-2.ensures in
     rebase first_two
 
@@ -40,7 +43,8 @@ returns-then-left-turn c =
     let first_two : (let args = c.args in
     Closing bit_or Sub (λ m. m < 18446744073709551616) args.keys.now args.values.now args.ups args.low args.masks.now
     c.sweep-new-2.new.masks c.sweep-new-2.result) =
-        let ((L, long), fits) = (c.requires.lists, c.requires.by_index) in
+    let (L, long) = c.requires.lists in
+    let fits = c.requires.by_index in
     opened masks-kind L long fits c.sweep-new.ensures c.sweep-new-2.ensures in
     let h = c.loop-new.invariant.half in
     record { carried = carried_on first_two.half.carried (carried_on h.carried c.drain.ensures.carried); closed = c.drain.ensures.closed }
@@ -76,7 +80,8 @@ returns c =
     let first_two : (let args = c.args in
     Closing bit_or Sub (λ m. m < 18446744073709551616) args.keys.now args.values.now args.ups args.low args.masks.now
     c.sweep-new-2.new.masks c.sweep-new-2.result) =
-        let ((L, long), fits) = (c.requires.lists, c.requires.by_index) in
+    let (L, long) = c.requires.lists in
+    let fits = c.requires.by_index in
     opened masks-kind L long fits c.sweep-new.ensures c.sweep-new-2.ensures in
     let i = c.loop-new.invariant in
     record { carried = carried_on first_two.half.carried i.half.carried; closed = closing-closed i (omega arith) }

@@ -19,23 +19,20 @@ place_of-at-requires c = let i = c.loop-j.invariant in (run-from i.1, omega arit
 pub bounds-keys-at : goal.bounds-keys-at
 bounds-keys-at c =
     let inside : c.place_of-at.result < 1024 =
-        let i = c.loop-j.invariant in
-    let pre = (c.requires.a_le_b, (c.requires.by_index, c.requires.by_index_2)) in
-    omega (arith, c.place_of-at.ensures, pre.0.1, place-below c.args.a c.args.b c.args.back c.loop-j.j (run-from i.1) (omega arith)) in
+    let i = c.loop-j.invariant in
+    omega (arith, c.place_of-at.ensures, c.requires.a_le_b.1, place-below c.args.a c.args.b c.args.back c.loop-j.j (run-from i.1) (omega arith)) in
     inside
 
 pub bounds-values-at : goal.bounds-values-at
 bounds-values-at c =
     let inside : c.place_of-at.result < 1024 =
-        let i = c.loop-j.invariant in
-    let pre = (c.requires.a_le_b, (c.requires.by_index, c.requires.by_index_2)) in
-    omega (arith, c.place_of-at.ensures, pre.0.1, place-below c.args.a c.args.b c.args.back c.loop-j.j (run-from i.1) (omega arith)) in
+    let i = c.loop-j.invariant in
+    omega (arith, c.place_of-at.ensures, c.requires.a_le_b.1, place-below c.args.a c.args.b c.args.back c.loop-j.j (run-from i.1) (omega arith)) in
     inside
 
 pub carry-new-requires : goal.carry-new-requires
 carry-new-requires c =
-    let pre = (c.requires.a_le_b, (c.requires.by_index, c.requires.by_index_2)) in
-    (run_long pre.0.2 c.loop-j.invariant.1, pre.1.0 c.place_of-at.result, pre.1.1 c.place_of-at.result)
+    (run_long c.requires.a_le_b.2 c.loop-j.invariant.1, c.requires.by_index c.place_of-at.result, c.requires.by_index_2 c.place_of-at.result)
 
 pub overflow_add-j : goal.overflow_add-j
 overflow_add-j c = omega arith

@@ -10,13 +10,13 @@ use Rattle.search.proofs.edges.put.Goals as goal
 pub bounds-edges-at : goal.bounds-edges-at
 bounds-edges-at c =
     let inside : c.pick-at.result < 1024 =
-        let pre = c.requires in omega (arith, pre.1, (pick-inside _ _ _ _ _ pre.0 c.pick-at.ensures).1) in
+    let pre = c.requires in omega (arith, pre.1, (pick-inside _ _ _ _ _ pre.0 c.pick-at.ensures).1) in
     inside
 
 pub bounds-edges-at-2 : goal.bounds-edges-at-2
 bounds-edges-at-2 c =
     let inside : c.pick-at.result < 1024 =
-        let pre = c.requires in omega (arith, pre.1, (pick-inside _ _ _ _ _ pre.0 c.pick-at.ensures).1) in
+    let pre = c.requires in omega (arith, pre.1, (pick-inside _ _ _ _ _ pre.0 c.pick-at.ensures).1) in
     inside
 
 pub overflow_add-result : goal.overflow_add-result

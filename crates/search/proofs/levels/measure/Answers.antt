@@ -10,12 +10,14 @@ use Rattle.search.proofs.levels.measure.Goals as goal
 
 pub sweep-new-requires : goal.sweep-new-requires
 sweep-new-requires c =
-    let ((L, long), fits) = (c.requires.lists, c.requires.by_index) in
+    let (L, long) = c.requires.lists in
+    let fits = c.requires.by_index in
     record { a_le_b = (omega arith, L.ups-most, long, fits); by_index = (L.key, L.value) }
 
 pub sweep-new-requires-2 : goal.sweep-new-requires-2
 sweep-new-requires-2 c =
-    let ((L, long), fits) = (c.requires.lists, c.requires.by_index) in
+    let (L, long) = c.requires.lists in
+    let fits = c.requires.by_index in
     let w = run-swept levels-kind _ _ _ _ _ L.key L.value long fits c.sweep-new.ensures in
     record { a_le_b = (L.low-most, omega arith, w.long, w.bound); by_index = (L.key, L.value) }
 
@@ -27,7 +29,8 @@ loop-new-init c =
     let first_two : (let args = c.args in
     Closing nearer Follows (λ d. d ≤ 254) args.keys.now args.values.now args.ups args.low args.levels.now
     c.sweep-new-2.new.levels c.sweep-new-2.result) =
-        let ((L, long), fits) = (c.requires.lists, c.requires.by_index) in
+    let (L, long) = c.requires.lists in
+    let fits = c.requires.by_index in
     opened levels-kind L long fits c.sweep-new.ensures c.sweep-new-2.ensures in
     rebase first_two
 
@@ -36,7 +39,8 @@ returns-then-left-turn c =
     let first_two : (let args = c.args in
     Closing nearer Follows (λ d. d ≤ 254) args.keys.now args.values.now args.ups args.low args.levels.now
     c.sweep-new-2.new.levels c.sweep-new-2.result) =
-        let ((L, long), fits) = (c.requires.lists, c.requires.by_index) in
+    let (L, long) = c.requires.lists in
+    let fits = c.requires.by_index in
     opened levels-kind L long fits c.sweep-new.ensures c.sweep-new-2.ensures in
     record { carried = carried_on first_two.half.carried c.loop-new.invariant.half.carried; closed = λ h. absurd (clash h refl) }
 
@@ -73,7 +77,8 @@ returns c =
     let first_two : (let args = c.args in
     Closing nearer Follows (λ d. d ≤ 254) args.keys.now args.values.now args.ups args.low args.levels.now
     c.sweep-new-2.new.levels c.sweep-new-2.result) =
-        let ((L, long), fits) = (c.requires.lists, c.requires.by_index) in
+    let (L, long) = c.requires.lists in
+    let fits = c.requires.by_index in
     opened levels-kind L long fits c.sweep-new.ensures c.sweep-new-2.ensures in
     let i = c.loop-new.invariant in
     record { carried = carried_on first_two.half.carried i.half.carried; closed = λ _. closing-closed i (omega arith) }

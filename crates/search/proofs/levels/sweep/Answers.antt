@@ -19,13 +19,13 @@ bounds-values-j c = omega arith
 pub overflow_cast-old : goal.overflow_cast-old
 overflow_cast-old c =
     let node : get_or c.args.values.now c.loop-j.j 0 < 192 =
-        c.requires.by_index.1 c.loop-j.j in
+    c.requires.by_index.1 c.loop-j.j in
     omega (arith, node)
 
 pub bounds-levels-values : goal.bounds-levels-values
 bounds-levels-values c =
     let node : get_or c.args.values.now c.loop-j.j 0 < 192 =
-        c.requires.by_index.1 c.loop-j.j in
+    c.requires.by_index.1 c.loop-j.j in
     node
 
 pub bounds-keys-j : goal.bounds-keys-j
@@ -37,10 +37,11 @@ bounds-values-j-in-loop-j c = omega arith
 pub ascend-requires : goal.ascend-requires
 ascend-requires c =
     let swept : Swept (λ a b. b ≤ a) (λ d. d ≤ 254) c.args.levels.now c.loop-j.levels c.loop-j.new =
-        let (sizes, nodes) = (c.requires.a_le_b, c.requires.by_index) in
+    let sizes = c.requires.a_le_b in
+    let nodes = c.requires.by_index in
     run-swept levels-kind _ _ _ _ _ nodes.0 nodes.1 sizes.2 sizes.3 c.loop-j.invariant.1 in
     let node : get_or c.args.values.now c.loop-j.j 0 < 192 =
-        c.requires.by_index.1 c.loop-j.j in
+    c.requires.by_index.1 c.loop-j.j in
     let key = c.requires.by_index.0 c.loop-j.j in
     (swept.long, key, node, swept.bound _)
 

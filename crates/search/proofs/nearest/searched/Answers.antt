@@ -8,12 +8,14 @@ use Rattle.search.proofs.nearest.searched.Goals as goal
 
 pub mark-requires : goal.mark-requires
 mark-requires c =
-    let ((few, _), nodes) = (c.requires.total_bound, c.requires.by_index) in
+    let (few, _) = c.requires.total_bound in
+    let nodes = c.requires.by_index in
     record { total_bound = (omega (arith, few), refl); by_index = nodes }
 
 pub search-requires : goal.search-requires
 search-requires c =
-    let ((few, (_, ready)), nodes) = (c.requires.total_bound, c.requires.by_index) in
+    let (few, (_, ready)) = c.requires.total_bound in
+    let nodes = c.requires.by_index in
     record { total_bound = (few, bounded ready.split ready.begins, c.mark.ensures.levels_len); by_index = nodes }
 
 pub returns : goal.returns

@@ -8,7 +8,8 @@ use Rattle.search.proofs.nearest.swept.Goals as goal
 
 pub measure-settled-requires : goal.measure-settled-requires
 measure-settled-requires c =
-    let ((e, stops, T), (masks, B)) = (c.requires.table, c.requires.by_index) in
+    let (e, stops, T) = c.requires.table in
+    let (masks, B) = c.requires.by_index in
     record { lists = (lists-ahead T.plain T.few, B.long); by_index = begins-fit B }
 
 pub tell-requires : goal.tell-requires

@@ -5,12 +5,14 @@ use Rattle.search.proofs.search.ahead.Goals as goal
 
 pub depart-requires : goal.depart-requires
 depart-requires c =
-    let ((few, blank, ready), sources) = (c.requires.total_bound, c.requires.by_index) in
+    let (few, blank, ready) = c.requires.total_bound in
+    let sources = c.requires.by_index in
     record { total_bound = (few, blank, (_, ready)); by_index = sources }
 
 pub proceed-requires : goal.proceed-requires
 proceed-requires c =
-    let ((few, blank, ready), sources) = (c.requires.total_bound, c.requires.by_index) in
+    let (few, blank, ready) = c.requires.total_bound in
+    let sources = c.requires.by_index in
     let w = sown-ahead ready.split ready.begins c.depart.ensures.sowed in
     record { table = (_, _, ready.split); masks_len = (w.long, sown-fits few w) }
 

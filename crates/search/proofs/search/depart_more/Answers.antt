@@ -13,7 +13,9 @@ returns-then-extent c =
 
 pub sow-requires : goal.sow-requires
 sow-requires c =
-    let ((order, few, ready), (sources, sown)) = (c.requires.barriers_le_total, (c.requires.by_index, c.requires.sowed)) in
+    let (order, few, ready) = c.requires.barriers_le_total in
+    let sources = c.requires.by_index in
+    let sown = c.requires.sowed in
     record { first_le_total = (order, few, bounded ready.split ready.begins); sowed = sown; by_index = sources }
 
 pub returns : goal.returns

@@ -17,13 +17,13 @@ returns-then-extent-ne2-2 c = λ h. absurd (clash h refl)
 pub bounds-places-second : goal.bounds-places-second
 bounds-places-second c =
     let below : c.wide-second.result < 192 =
-        omega (arith, c.wide-second.ensures.0, c.requires 1) in
+    omega (arith, c.wide-second.ensures.0, c.requires 1) in
     omega (arith, below)
 
 pub bounds-places-second-2 : goal.bounds-places-second-2
 bounds-places-second-2 c =
     let below : c.wide-second.result < 192 =
-        omega (arith, c.wide-second.ensures.0, c.requires 1) in
+    omega (arith, c.wide-second.ensures.0, c.requires 1) in
     omega (arith, below)
 
 pub returns : goal.returns

@@ -7,7 +7,8 @@ use Rattle.search.proofs.search.onward.Goals as goal
 
 pub settle-requires : goal.settle-requires
 settle-requires c =
-    let ((few, sources), (e, stops, T, w)) = (c.requires.total_bound, c.requires.by_index) in
+    let (few, sources) = c.requires.total_bound in
+    let (e, stops, T, w) = c.requires.by_index in
     record { by_index = sources; masks_len = w.long }
 
 pub returns-then-lone : goal.returns-then-lone
@@ -17,10 +18,11 @@ returns-then-lone c =
 
 pub proceed-requires : goal.proceed-requires
 proceed-requires c =
-    let ((few, sources), (e, stops, T, w)) = (c.requires.total_bound, c.requires.by_index) in
+    let (few, sources) = c.requires.total_bound in
+    let (e, stops, T, w) = c.requires.by_index in
     record { table = (e, stops, T); masks_len = (w.long, sown-fits few w) }
 
 pub returns : goal.returns
 returns c =
-    let (_, (e, stops, T, w)) = (c.requires.total_bound, c.requires.by_index) in
+    let (e, stops, T, w) = c.requires.by_index in
     record { goes_on = (λ e stops T P S w v. c.proceed.ensures e stops _ _ T w); masks_len = (c.proceed.ensures e stops _ _ T w).long }

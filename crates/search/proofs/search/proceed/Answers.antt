@@ -7,7 +7,8 @@ use Rattle.search.proofs.search.proceed.Goals as goal
 
 pub close-requires : goal.close-requires
 close-requires c =
-    let ((e, stops, T), (long, fits)) = (c.requires.table, c.requires.masks_len) in
+    let (e, stops, T) = c.requires.table in
+    let (long, fits) = c.requires.masks_len in
     record { lists = (lists-ahead T.plain T.few, long); by_index = fits }
 
 pub returns : goal.returns

@@ -19,13 +19,13 @@ bounds-values-j c = omega arith
 pub offset_bounds-masks-y : goal.offset_bounds-masks-y
 offset_bounds-masks-y c =
     let to_below : c.wide-y.result < 192 =
-        omega (arith, c.wide-y.ensures, c.requires.by_index_2 c.loop-j.j) in
+    omega (arith, c.wide-y.ensures, c.requires.by_index_2 c.loop-j.j) in
     omega (arith, to_below)
 
 pub bounds-masks-y : goal.bounds-masks-y
 bounds-masks-y c =
     let to_below : c.wide-y.result < 192 =
-        omega (arith, c.wide-y.ensures, c.requires.by_index_2 c.loop-j.j) in
+    omega (arith, c.wide-y.ensures, c.requires.by_index_2 c.loop-j.j) in
     to_below
 
 pub bounds-keys-j : goal.bounds-keys-j
@@ -34,25 +34,25 @@ bounds-keys-j c = omega arith
 pub offset_bounds-from-wide : goal.offset_bounds-from-wide
 offset_bounds-from-wide c =
     let from-below : c.wide.result < 192 =
-        omega (arith, c.wide.ensures, c.requires.by_index c.loop-j.j) in
+    omega (arith, c.wide.ensures, c.requires.by_index c.loop-j.j) in
     omega (arith, from-below)
 
 pub bounds-from-wide : goal.bounds-from-wide
 bounds-from-wide c =
     let from-below : c.wide.result < 192 =
-        omega (arith, c.wide.ensures, c.requires.by_index c.loop-j.j) in
+    omega (arith, c.wide.ensures, c.requires.by_index c.loop-j.j) in
     from-below
 
 pub offset_bounds-masks-y-in-loop-j : goal.offset_bounds-masks-y-in-loop-j
 offset_bounds-masks-y-in-loop-j c =
     let to_below : c.wide-y.result < 192 =
-        omega (arith, c.wide-y.ensures, c.requires.by_index_2 c.loop-j.j) in
+    omega (arith, c.wide-y.ensures, c.requires.by_index_2 c.loop-j.j) in
     omega (arith, to_below)
 
 pub bounds-masks-y-in-loop-j : goal.bounds-masks-y-in-loop-j
 bounds-masks-y-in-loop-j c =
     let to_below : c.wide-y.result < 192 =
-        omega (arith, c.wide-y.ensures, c.requires.by_index_2 c.loop-j.j) in
+    omega (arith, c.wide-y.ensures, c.requires.by_index_2 c.loop-j.j) in
     to_below
 
 pub overflow_add-j : goal.overflow_add-j

@@ -18,13 +18,13 @@ bounds-sources-b c = omega arith
 pub offset_bounds-own-x : goal.offset_bounds-own-x
 offset_bounds-own-x c =
     let below : c.wide-x.result < 192 =
-        omega (arith, c.wide-x.ensures, c.requires.by_index c.loop-b.b) in
+    omega (arith, c.wide-x.ensures, c.requires.by_index c.loop-b.b) in
     omega (arith, below)
 
 pub bounds-own-x : goal.bounds-own-x
 bounds-own-x c =
     let below : c.wide-x.result < 192 =
-        omega (arith, c.wide-x.ensures, c.requires.by_index c.loop-b.b) in
+    omega (arith, c.wide-x.ensures, c.requires.by_index c.loop-b.b) in
     below
 
 pub bit-requires : goal.bit-requires
@@ -33,13 +33,13 @@ bit-requires c = omega arith
 pub offset_bounds-own-x-in-loop-b : goal.offset_bounds-own-x-in-loop-b
 offset_bounds-own-x-in-loop-b c =
     let below : c.wide-x.result < 192 =
-        omega (arith, c.wide-x.ensures, c.requires.by_index c.loop-b.b) in
+    omega (arith, c.wide-x.ensures, c.requires.by_index c.loop-b.b) in
     omega (arith, below)
 
 pub bounds-own-x-in-loop-b : goal.bounds-own-x-in-loop-b
 bounds-own-x-in-loop-b c =
     let below : c.wide-x.result < 192 =
-        omega (arith, c.wide-x.ensures, c.requires.by_index c.loop-b.b) in
+    omega (arith, c.wide-x.ensures, c.requires.by_index c.loop-b.b) in
     below
 
 pub overflow_add-b : goal.overflow_add-b

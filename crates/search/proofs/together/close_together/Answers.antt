@@ -18,37 +18,37 @@ use Rattle.search.proofs.together.close_together.Goals as goal
 pub steps_of-turn-requires : goal.steps_of-turn-requires
 steps_of-turn-requires c =
     let along : Lists (row c.args.edges.now 2) (row c.args.edges.now 3) c.args.parts.ups c.args.parts.low false =
-        let (e, stops, T) = c.requires.0 in lists-ahead T.plain T.few in
+    let (e, stops, T) = c.requires.0 in lists-ahead T.plain T.few in
     (along.ups-most, along.low-most)
 
 pub sweep-new-requires : goal.sweep-new-requires
 sweep-new-requires c =
     let along : Lists (row c.args.edges.now 2) (row c.args.edges.now 3) c.args.parts.ups c.args.parts.low false =
-        let (e, stops, T) = c.requires.0 in lists-ahead T.plain T.few in
+    let (e, stops, T) = c.requires.0 in lists-ahead T.plain T.few in
     record { a_le_b = (omega arith, along.ups-most, c.requires.1); by_index = (along.key, along.value) }
 
 pub sweep-new-requires-2 : goal.sweep-new-requires-2
 sweep-new-requires-2 c =
     let along : Lists (row c.args.edges.now 2) (row c.args.edges.now 3) c.args.parts.ups c.args.parts.low false =
-        let (e, stops, T) = c.requires.0 in lists-ahead T.plain T.few in
+    let (e, stops, T) = c.requires.0 in lists-ahead T.plain T.few in
     record { a_le_b = (along.low-most, omega arith, together-lent along.key along.value c.requires.1 c.sweep-new.ensures); by_index = (along.key, along.value) }
 
 pub loop-new-init : goal.loop-new-init
 loop-new-init c =
     let along : Lists (row c.args.edges.now 2) (row c.args.edges.now 3) c.args.parts.ups c.args.parts.low false =
-        let (e, stops, T) = c.requires.0 in lists-ahead T.plain T.few in
+    let (e, stops, T) = c.requires.0 in lists-ahead T.plain T.few in
     let against : Lists (row c.args.edges.now 3) (row c.args.edges.now 2) c.args.parts.ups c.args.parts.low true =
-        let (e, stops, T) = c.requires.0 in lists_back T.plain T.few in
+    let (e, stops, T) = c.requires.0 in lists_back T.plain T.few in
     let first_two : (let args = c.args in
     Nearing (row args.edges.now 2) (row args.edges.now 3) args.parts.ups args.parts.low args.starts.now args.levels.now args.ends.now
     c.sweep-new-2.new.starts c.sweep-new-2.new.levels c.sweep-new-2.new.ends c.sweep-new-2.result) =
-        all-opened along against c.requires.1 c.sweep-new.ensures c.sweep-new-2.ensures in
+    all-opened along against c.requires.1 c.sweep-new.ensures c.sweep-new-2.ensures in
     all-rebased first_two
 
 pub drain-requires : goal.drain-requires
 drain-requires c =
     let along : Lists (row c.args.edges.now 2) (row c.args.edges.now 3) c.args.parts.ups c.args.parts.low false =
-        let (e, stops, T) = c.requires.0 in lists-ahead T.plain T.few in
+    let (e, stops, T) = c.requires.0 in lists-ahead T.plain T.few in
     let L = along in
     let i = nearing-lent c.loop-new.invariant in
     record { ups_le_low = (L.apart, L.low-most, i.starts); by_index = (L.key, L.value); by_index_2 = i.starts_fit }
@@ -56,7 +56,7 @@ drain-requires c =
 pub drain-requires-then-left-turn : goal.drain-requires-then-left-turn
 drain-requires-then-left-turn c =
     let along : Lists (row c.args.edges.now 2) (row c.args.edges.now 3) c.args.parts.ups c.args.parts.low false =
-        let (e, stops, T) = c.requires.0 in lists-ahead T.plain T.few in
+    let (e, stops, T) = c.requires.0 in lists-ahead T.plain T.few in
     let L = along in
     let i = nearing-lent c.loop-new.invariant in
     record { ups_le_low = (L.apart, L.low-most, i.ends); by_index = (L.value, L.key); by_index_2 = i.ends-fit }
@@ -64,32 +64,30 @@ drain-requires-then-left-turn c =
 pub returns-then-left-turn : goal.returns-then-left-turn
 returns-then-left-turn c =
     let along : Lists (row c.args.edges.now 2) (row c.args.edges.now 3) c.args.parts.ups c.args.parts.low false =
-        let (e, stops, T) = c.requires.0 in lists-ahead T.plain T.few in
+    let (e, stops, T) = c.requires.0 in lists-ahead T.plain T.few in
     let against : Lists (row c.args.edges.now 3) (row c.args.edges.now 2) c.args.parts.ups c.args.parts.low true =
-        let (e, stops, T) = c.requires.0 in lists_back T.plain T.few in
+    let (e, stops, T) = c.requires.0 in lists_back T.plain T.few in
     let first_two : (let args = c.args in
     Nearing (row args.edges.now 2) (row args.edges.now 3) args.parts.ups args.parts.low args.starts.now args.levels.now args.ends.now
     c.sweep-new-2.new.starts c.sweep-new-2.new.levels c.sweep-new-2.new.ends c.sweep-new-2.result) =
-        all-opened along against c.requires.1 c.sweep-new.ensures c.sweep-new-2.ensures in
+    all-opened along against c.requires.1 c.sweep-new.ensures c.sweep-new-2.ensures in
     let o = first_two in
     let i = c.loop-new.invariant in
-    let d = (c.drain.ensures.carried, c.drain.ensures.closed) in
-    let e = (c.drain-then-left-turn.ensures.carried, c.drain-then-left-turn.ensures.closed) in
-    let levels = carried_on o.levels.is.half.carried i.levels.is.half.carried in record { shut = (carried_on o.starts.is.half.carried (carried_on i.starts.is.half.carried d.0), d.1); shut_2 = (carried_on o.ends.is.half.carried (carried_on i.ends.is.half.carried e.0), e.1); carried = levels; closed = λ h. absurd (clash h refl) }
+    let levels = carried_on o.levels.is.half.carried i.levels.is.half.carried in record { shut = (carried_on o.starts.is.half.carried (carried_on i.starts.is.half.carried c.drain.ensures.carried), c.drain.ensures.closed); shut_2 = (carried_on o.ends.is.half.carried (carried_on i.ends.is.half.carried c.drain-then-left-turn.ensures.carried), c.drain-then-left-turn.ensures.closed); carried = levels; closed = λ h. absurd (clash h refl) }
 
 pub sweep-new-requires-in-loop-new : goal.sweep-new-requires-in-loop-new
 sweep-new-requires-in-loop-new c =
     let along : Lists (row c.args.edges.now 2) (row c.args.edges.now 3) c.args.parts.ups c.args.parts.low false =
-        let (e, stops, T) = c.requires.0 in lists-ahead T.plain T.few in
+    let (e, stops, T) = c.requires.0 in lists-ahead T.plain T.few in
     let L = along in
     record { a_le_b = (omega arith, L.ups-most, nearing-lent c.loop-new.invariant); by_index = (L.key, L.value) }
 
 pub sweep-new-requires-then-new-ne0 : goal.sweep-new-requires-then-new-ne0
 sweep-new-requires-then-new-ne0 c =
     let along : Lists (row c.args.edges.now 2) (row c.args.edges.now 3) c.args.parts.ups c.args.parts.low false =
-        let (e, stops, T) = c.requires.0 in lists-ahead T.plain T.few in
+    let (e, stops, T) = c.requires.0 in lists-ahead T.plain T.few in
     let L = along in
-    ((L.low-most, omega arith, together-lent L.key L.value (nearing-lent c.loop-new.invariant) c.sweep-new-in let p = -loop-new.ensures), (L.key, L.value)) in record { a_le_b = p.0; by_index = p.1 }
+    record { a_le_b = (L.low-most, omega arith, together-lent L.key L.value (nearing-lent c.loop-new.invariant) c.sweep-new-in-loop-new.ensures); by_index = (L.key, L.value) }
 
 pub loop-new-smaller-then-new-ne0 : goal.loop-new-smaller-then-new-ne0
 loop-new-smaller-then-new-ne0 c = omega arith
@@ -97,9 +95,9 @@ loop-new-smaller-then-new-ne0 c = omega arith
 pub loop-new-preserved-then-new-ne0 : goal.loop-new-preserved-then-new-ne0
 loop-new-preserved-then-new-ne0 c =
     let along : Lists (row c.args.edges.now 2) (row c.args.edges.now 3) c.args.parts.ups c.args.parts.low false =
-        let (e, stops, T) = c.requires.0 in lists-ahead T.plain T.few in
+    let (e, stops, T) = c.requires.0 in lists-ahead T.plain T.few in
     let against : Lists (row c.args.edges.now 3) (row c.args.edges.now 2) c.args.parts.ups c.args.parts.low true =
-        let (e, stops, T) = c.requires.0 in lists_back T.plain T.few in
+    let (e, stops, T) = c.requires.0 in lists_back T.plain T.few in
     all-again along against c.loop-new.invariant c.sweep-new-in-loop-new.ensures c.sweep-new-then-new-ne0.ensures
 
 pub loop-new-smaller : goal.loop-new-smaller
@@ -108,21 +106,21 @@ loop-new-smaller c = omega arith
 pub loop-new-preserved : goal.loop-new-preserved
 loop-new-preserved c =
     let along : Lists (row c.args.edges.now 2) (row c.args.edges.now 3) c.args.parts.ups c.args.parts.low false =
-        let (e, stops, T) = c.requires.0 in lists-ahead T.plain T.few in
+    let (e, stops, T) = c.requires.0 in lists-ahead T.plain T.few in
     let against : Lists (row c.args.edges.now 3) (row c.args.edges.now 2) c.args.parts.ups c.args.parts.low true =
-        let (e, stops, T) = c.requires.0 in lists_back T.plain T.few in
+    let (e, stops, T) = c.requires.0 in lists_back T.plain T.few in
     all-still along against (omega arith) c.loop-new.invariant c.sweep-new-in-loop-new.ensures
 
 pub returns : goal.returns
 returns c =
     let along : Lists (row c.args.edges.now 2) (row c.args.edges.now 3) c.args.parts.ups c.args.parts.low false =
-        let (e, stops, T) = c.requires.0 in lists-ahead T.plain T.few in
+    let (e, stops, T) = c.requires.0 in lists-ahead T.plain T.few in
     let against : Lists (row c.args.edges.now 3) (row c.args.edges.now 2) c.args.parts.ups c.args.parts.low true =
-        let (e, stops, T) = c.requires.0 in lists_back T.plain T.few in
+    let (e, stops, T) = c.requires.0 in lists_back T.plain T.few in
     let first_two : (let args = c.args in
     Nearing (row args.edges.now 2) (row args.edges.now 3) args.parts.ups args.parts.low args.starts.now args.levels.now args.ends.now
     c.sweep-new-2.new.starts c.sweep-new-2.new.levels c.sweep-new-2.new.ends c.sweep-new-2.result) =
-        all-opened along against c.requires.1 c.sweep-new.ensures c.sweep-new-2.ensures in
+    all-opened along against c.requires.1 c.sweep-new.ensures c.sweep-new-2.ensures in
     let o = first_two in
     let i = c.loop-new.invariant in
     let e : c.loop-new.new ≡ 0 = omega arith in

@@ -23,27 +23,27 @@ bounds-values-j c = omega (arith, c.requires.a_le_b.1)
 pub carry-new-requires : goal.carry-new-requires
 carry-new-requires c =
     let lent : Lent c.loop-j.starts c.loop-j.levels c.loop-j.ends =
-        together-lent c.requires.by_index.0 c.requires.by_index.1 c.requires.a_le_b.2 c.loop-j.invariant.1 in
+    together-lent c.requires.by_index.0 c.requires.by_index.1 c.requires.a_le_b.2 c.loop-j.invariant.1 in
     (lent.starts, c.requires.by_index.0 c.loop-j.j, c.requires.by_index.1 c.loop-j.j)
 
 pub overflow_cast-old : goal.overflow_cast-old
 overflow_cast-old c =
     let node : get_or (row c.args.edges.now 3) c.loop-j.j 0 < 192 =
-        c.requires.by_index.1 c.loop-j.j in
+    c.requires.by_index.1 c.loop-j.j in
     omega (arith, node)
 
 pub bounds-levels-y : goal.bounds-levels-y
 bounds-levels-y c =
     let node : get_or (row c.args.edges.now 3) c.loop-j.j 0 < 192 =
-        c.requires.by_index.1 c.loop-j.j in
+    c.requires.by_index.1 c.loop-j.j in
     node
 
 pub ascend-requires : goal.ascend-requires
 ascend-requires c =
     let lent : Lent c.loop-j.starts c.loop-j.levels c.loop-j.ends =
-        together-lent c.requires.by_index.0 c.requires.by_index.1 c.requires.a_le_b.2 c.loop-j.invariant.1 in
+    together-lent c.requires.by_index.0 c.requires.by_index.1 c.requires.a_le_b.2 c.loop-j.invariant.1 in
     let node : get_or (row c.args.edges.now 3) c.loop-j.j 0 < 192 =
-        c.requires.by_index.1 c.loop-j.j in
+    c.requires.by_index.1 c.loop-j.j in
     (lent.levels, c.requires.by_index.0 c.loop-j.j, node, lent.levels-fit _)
 
 pub place_of-at-requires : goal.place_of-at-requires
@@ -53,21 +53,21 @@ place_of-at-requires c =
 pub bounds-values-at : goal.bounds-values-at
 bounds-values-at c =
     let inside : c.place_of-at.result < 1024 =
-        let args = c.args in
+    let args = c.args in
     omega (arith, c.place_of-at.ensures, c.requires.a_le_b.1, place-below args.a args.b true c.loop-j.j (from c.loop-j.invariant.1) (omega arith)) in
     inside
 
 pub bounds-keys-at : goal.bounds-keys-at
 bounds-keys-at c =
     let inside : c.place_of-at.result < 1024 =
-        let args = c.args in
+    let args = c.args in
     omega (arith, c.place_of-at.ensures, c.requires.a_le_b.1, place-below args.a args.b true c.loop-j.j (from c.loop-j.invariant.1) (omega arith)) in
     inside
 
 pub carry-new-requires-in-loop-j : goal.carry-new-requires-in-loop-j
 carry-new-requires-in-loop-j c =
     let lent : Lent c.loop-j.starts c.loop-j.levels c.loop-j.ends =
-        together-lent c.requires.by_index.0 c.requires.by_index.1 c.requires.a_le_b.2 c.loop-j.invariant.1 in
+    together-lent c.requires.by_index.0 c.requires.by_index.1 c.requires.a_le_b.2 c.loop-j.invariant.1 in
     (lent.ends, c.requires.by_index.1 c.place_of-at.result, c.requires.by_index.0 c.place_of-at.result)
 
 pub overflow_add-j : goal.overflow_add-j
@@ -79,7 +79,7 @@ loop-j-smaller c = omega arith
 pub loop-j-preserved : goal.loop-j-preserved
 loop-j-preserved c =
     let below : c.loop-j.j < c.args.b =
-        omega arith in
+    omega arith in
     rw c.change.ensures (
       omega (arith, below),
       turned c.place_of-at.result c.place_of-at.ensures c.loop-j.invariant.1 c.carry-new.ensures (risen-step c.ascend.ensures) c.carry-new-in-loop-j.ensures,

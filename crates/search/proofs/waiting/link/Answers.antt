@@ -16,13 +16,13 @@ bounds-keys-j c = omega arith
 pub offset_bounds-last-x : goal.offset_bounds-last-x
 offset_bounds-last-x c =
     let below : c.wide-x.result < 192 =
-        omega (arith, c.wide-x.ensures, c.requires.a_le_b.2 c.loop-j.j) in
+    omega (arith, c.wide-x.ensures, c.requires.a_le_b.2 c.loop-j.j) in
     omega (arith, below)
 
 pub bounds-last-x : goal.bounds-last-x
 bounds-last-x c =
     let below : c.wide-x.result < 192 =
-        omega (arith, c.wide-x.ensures, c.requires.a_le_b.2 c.loop-j.j) in
+    omega (arith, c.wide-x.ensures, c.requires.a_le_b.2 c.loop-j.j) in
     below
 
 pub offset_bounds-before-j : goal.offset_bounds-before-j
@@ -40,13 +40,13 @@ overflow_cast-last c = omega arith
 pub offset_bounds-last-x-in-loop-j : goal.offset_bounds-last-x-in-loop-j
 offset_bounds-last-x-in-loop-j c =
     let below : c.wide-x.result < 192 =
-        omega (arith, c.wide-x.ensures, c.requires.a_le_b.2 c.loop-j.j) in
+    omega (arith, c.wide-x.ensures, c.requires.a_le_b.2 c.loop-j.j) in
     omega (arith, below)
 
 pub bounds-last-x-in-loop-j : goal.bounds-last-x-in-loop-j
 bounds-last-x-in-loop-j c =
     let below : c.wide-x.result < 192 =
-        omega (arith, c.wide-x.ensures, c.requires.a_le_b.2 c.loop-j.j) in
+    omega (arith, c.wide-x.ensures, c.requires.a_le_b.2 c.loop-j.j) in
     below
 
 pub overflow_add-j : goal.overflow_add-j

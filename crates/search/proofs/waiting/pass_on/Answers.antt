@@ -30,21 +30,20 @@ bounds-before-at c = omega arith
 pub overflow_cast-j : goal.overflow_cast-j
 overflow_cast-j c =
     let back : (get_or c.args.before.now (c.loop-j.j - 1) 0 ≤ c.loop-j.j - 1) =
-        c.requires.by_index.1 (c.loop-j.j - 1) in
+    c.requires.by_index.1 (c.loop-j.j - 1) in
     omega (arith, back)
 
 pub loop-j-smaller : goal.loop-j-smaller
 loop-j-smaller c =
     let back : (get_or c.args.before.now (c.loop-j.j - 1) 0 ≤ c.loop-j.j - 1) =
-        c.requires.by_index.1 (c.loop-j.j - 1) in
+    c.requires.by_index.1 (c.loop-j.j - 1) in
     omega (arith, back)
 
 pub loop-j-preserved : goal.loop-j-preserved
 loop-j-preserved c =
     let back : (get_or c.args.before.now (c.loop-j.j - 1) 0 ≤ c.loop-j.j - 1) =
-        c.requires.by_index.1 (c.loop-j.j - 1) in
-    let v = (c.visit-waiting.ensures.visited, c.visit-waiting.ensures.upper_bound) in
-    (omega (arith, back), v.1, more {j = c.loop-j.j} (omega arith) c.loop-j.invariant.2 v.0 v.1)
+    c.requires.by_index.1 (c.loop-j.j - 1) in
+    (omega (arith, back), c.visit-waiting.ensures.upper_bound, more {j = c.loop-j.j} (omega arith) c.loop-j.invariant.2 c.visit-waiting.ensures.visited c.visit-waiting.ensures.upper_bound)
 
 pub returns : goal.returns
 returns c =

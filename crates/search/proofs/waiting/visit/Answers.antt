@@ -19,26 +19,29 @@ returns-then-held-at-ne0 c =
 pub overflow_add-ring : goal.overflow_add-ring
 overflow_add-ring c =
     let free : (get_or c.args.held.now c.args.y 0 ≡ 0) =
-        let t = rw c.wide-at.ensures.0 at c.if-held-at-ne0.false in omega arith in
+    let t = rw c.wide-at.ensures.0 at c.if-held-at-ne0.false in omega arith in
     let counted : (let held = c.args.held.now in (filled (set held c.args.y 1) ≡ suc (filled held)) × (filled held < 192)) =
-        let lt = filled-lt c.args.held.now c.args.y (omega arith) free in
+    let lt = filled-lt c.args.held.now c.args.y (omega arith) free in
     (filled-set _ _ _ (omega arith) free (omega arith), omega arith) in
     omega (arith, counted)
 
 pub overflow_add-result : goal.overflow_add-result
 overflow_add-result c =
     let free : (get_or c.args.held.now c.args.y 0 ≡ 0) =
-        let t = rw c.wide-at.ensures.0 at c.if-held-at-ne0.false in omega arith in
+    let t = rw c.wide-at.ensures.0 at c.if-held-at-ne0.false in omega arith in
     let counted : (let held = c.args.held.now in (filled (set held c.args.y 1) ≡ suc (filled held)) × (filled held < 192)) =
-        let lt = filled-lt c.args.held.now c.args.y (omega arith) free in
+    let lt = filled-lt c.args.held.now c.args.y (omega arith) free in
     (filled-set _ _ _ (omega arith) free (omega arith), omega arith) in
     omega (arith, counted)
 
 pub returns : goal.returns
 returns c =
     let free : (get_or c.args.held.now c.args.y 0 ≡ 0) =
-        let t = rw c.wide-at.ensures.0 at c.if-held-at-ne0.false in omega arith in
+    let t = rw c.wide-at.ensures.0 at c.if-held-at-ne0.false in omega arith in
     let counted : (let held = c.args.held.now in (filled (set held c.args.y 1) ≡ suc (filled held)) × (filled held < 192)) =
-        let lt = filled-lt c.args.held.now c.args.y (omega arith) free in
+    let lt = filled-lt c.args.held.now c.args.y (omega arith) free in
     (filled-set _ _ _ (omega arith) free (omega arith), omega arith) in
-    rw c.wide-at.ensures.0 (fresh (rw c.wide-at.ensures.0 at c.if-all-old.false) free, let k = counted in omega arith)
+    record {
+      visited = rw c.wide-at.ensures.0 (fresh (rw c.wide-at.ensures.0 at c.if-all-old.false) free);
+      upper_bound = rw c.wide-at.ensures.0 (let k = counted in omega arith);
+    }
