@@ -72,7 +72,7 @@ kinds-more cs c {above} n most K = go (truth (is_parallel cs c))
     go (inr s) =
         let few : (construct_at cs c).kind < 8 = omega (arith, eqb-false (construct_at cs c).kind parallel_byte s) in
         rw (s, mod-eq_of_lt few)
-        (mask-carry (λ b l h. elim h [ inl (k, (a, e)) ↦ (k, (on n s a, e)) | inr q ↦ (c, (at n s, sym q)) ])
+        (mask-carry {P = λ b. ((k : ℕ) × (NearIn cs (parent_of cs c) k × ((construct_at cs k).kind ≡ b))) ⊎ (b ≡ (construct_at cs c).kind)} (λ b l h. elim h [ inl (k, (a, e)) ↦ (k, (on n s a, e)) | inr q ↦ (c, (at n s, sym q)) ])
         (λ b l (k, (a, e)). elim (near_step cs a) [ inl q ↦ inr (subst (λ (k : ℕ). b ≡ (construct_at cs k).kind) (sym q) (sym e)) | inr d ↦ inl (k, (d, e)) ])
         (mask-either K (mask_one few)))
 

@@ -40,7 +40,7 @@ loop-k-preserved c =
     let flagged : let a = c.args in
     let k = c.loop-k.k in
     k < 8 → not (get_or (get_or a.table.now a.row []) (k - 1) false) ≡ barred_by (a.row + 1) k =
-        λ h. let a = c.args in
+    λ h. let a = c.args in
     let k = c.loop-k.k in
     let q : k - 1 + 1 ≡ k = omega (arith, c.loop-k.invariant.0) in
     rw (lt-ltb 0 k (omega (arith, c.loop-k.invariant.0))) (ap not (c.requires.0.entry a.row (k - 1) c.requires.1 (omega (arith, h)) ∙ ap (λ (n : ℕ). may_enclose (kind_of (a.row + 1)) (kind_of n)) q)) in

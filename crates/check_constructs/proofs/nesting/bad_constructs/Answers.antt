@@ -36,13 +36,13 @@ pub returns-then-not-occurs : goal.returns-then-not-occurs
 returns-then-not-occurs c =
     let passed : let D = decode c.args.s.now in
     (any (length D.constructs) (bad_alone D.constructs) || any (length D.constructs) (misnested D.constructs)) ≡ false =
-        sym c.bad_nesting.ensures ∙ c.if-bad_nesting.false in
+    sym c.bad_nesting.ensures ∙ c.if-bad_nesting.false in
     let s = c.args.s.now in
-    rw (joined _, passed) (sym (no_stray (decode s) (sym c.occurs.ensures ∙ not-true _ c.if-not-occurs.true)))
+    rw (joined _, passed) (sym (no_stray (decode s) (sym c.occurs.ensures ∙ c.if-not-occurs.true)))
 
 pub returns : goal.returns
 returns c =
     let passed : let D = decode c.args.s.now in
     (any (length D.constructs) (bad_alone D.constructs) || any (length D.constructs) (misnested D.constructs)) ≡ false =
-        sym c.bad_nesting.ensures ∙ c.if-bad_nesting.false in
+    sym c.bad_nesting.ensures ∙ c.if-bad_nesting.false in
     rw (joined _, passed) c.stray_nodes.ensures

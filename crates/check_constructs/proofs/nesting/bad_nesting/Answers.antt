@@ -45,7 +45,7 @@ bad_at-requires c =
 pub returns-then-bad_at : goal.returns-then-bad_at
 returns-then-bad_at c =
     let answered : c.bad_at.result ≡ bad c.args.s.now c.loop-c.c =
-        c.bad_at.ensures.value in
+    c.bad_at.ensures.value in
     let s = c.args.s.now in
     sym (sym (row s) ∙ at-any _ (bad s) c.loop-c.c (omega (arith, constructs-length _ c.args.chart c.requires.0)) (sym answered ∙ c.if-bad_at.true))
 
@@ -58,7 +58,7 @@ loop-c-smaller c = omega arith
 pub loop-c-preserved : goal.loop-c-preserved
 loop-c-preserved c =
     let answered : c.bad_at.result ≡ bad c.args.s.now c.loop-c.c =
-        c.bad_at.ensures.value in
+    c.bad_at.ensures.value in
     let noted = c.bad_at.ensures.fact c.if-bad_at.false in
     (omega arith, any-more c.loop-c.c _ c.loop-c.invariant.1 (sym answered ∙ c.if-bad_at.false), noted.0, noted.1)
 

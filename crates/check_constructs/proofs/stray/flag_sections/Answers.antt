@@ -26,12 +26,11 @@ pub loop-c-smaller : goal.loop-c-smaller
 loop-c-smaller c = omega arith
 
 pub loop-c-preserved : goal.loop-c-preserved
-loop-c-preserved c =
-    (
-      omega arith,
-      sections-more (omega (arith, c.requires.0.constructs-most)) c.loop-c.invariant.1
-          (as-flag (eqb c.read.result.kind sections_byte) ∙ ap (λ (kind : ℕ). cond (eqb kind sections_byte) 1 0) c.read.ensures.0),
-    )
+loop-c-preserved c = (
+  omega arith,
+  sections-more (omega (arith, c.requires.0.constructs-most)) c.loop-c.invariant.1
+      (as-flag (eqb c.read.result.kind sections_byte) ∙ ap (λ (kind : ℕ). cond (eqb kind sections_byte) 1 0) c.read.ensures.0),
+)
 
 pub returns : goal.returns
 returns c =

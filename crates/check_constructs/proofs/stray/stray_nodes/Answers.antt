@@ -33,12 +33,11 @@ pub loop-x-smaller : goal.loop-x-smaller
 loop-x-smaller c = omega arith
 
 pub loop-x-preserved : goal.loop-x-preserved
-loop-x-preserved c =
-    (
-      omega arith,
-      stray-more (decode c.args.s.now) c.loop-x.x (constructs-length _ c.args.chart c.requires) c.flag_sections.ensures
-          (as-flag (ltb c.read-node.result.kind begin_node) ∙ ap (λ (kind : ℕ). cond (ltb kind begin_node) 1 0) c.read-node.ensures.0) (c.wide.ensures.0 ∙ c.read-node.ensures.1) c.loop-x.invariant.1,
-    )
+loop-x-preserved c = (
+  omega arith,
+  stray-more (decode c.args.s.now) c.loop-x.x (constructs-length _ c.args.chart c.requires) c.flag_sections.ensures
+      (as-flag (ltb c.read-node.result.kind begin_node) ∙ ap (λ (kind : ℕ). cond (ltb kind begin_node) 1 0) c.read-node.ensures.0) (c.wide.ensures.0 ∙ c.read-node.ensures.1) c.loop-x.invariant.1,
+)
 
 pub returns : goal.returns
 returns c =
