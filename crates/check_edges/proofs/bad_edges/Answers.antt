@@ -23,14 +23,14 @@ unfolding bad_edges
 returns-then-not-occurs c =
     let passed : let D = decode c.args.s.now in
     any (length D.edges) (bad_edge_at D) ≡ false =
-        sym c.bad_scopes.ensures ∙ c.if-bad_scopes.false in
+    sym c.bad_scopes.ensures ∙ c.if-bad_scopes.false in
     let s = c.args.s.now in
-    rw passed (sym (no_joins (decode s) (sym c.occurs.ensures ∙ not-true _ c.if-not-occurs.true)))
+    rw passed (sym (no_joins (decode s) (sym c.occurs.ensures ∙ c.if-not-occurs.true)))
 
 pub returns : goal.returns
 unfolding bad_edges
 returns c =
     let passed : let D = decode c.args.s.now in
     any (length D.edges) (bad_edge_at D) ≡ false =
-        sym c.bad_scopes.ensures ∙ c.if-bad_scopes.false in
+    sym c.bad_scopes.ensures ∙ c.if-bad_scopes.false in
     rw passed c.joins_sections.ensures
