@@ -23,21 +23,27 @@ bad_frames-requires c =
 pub returns-then-bad_frames : goal.returns-then-bad_frames
 unfolding checked_by first_of table_rows
 returns-then-bad_frames c =
-    record { value = rw (
+    record {
+      value = rw (
         sym c.bad_nodes.ensures ∙ c.if-bad_nodes.false,
         sym c.bad_constructs.ensures ∙ c.if-bad_constructs.false,
         sym c.bad_frames.ensures.value ∙ c.if-bad_frames.true,
-      ); both_framed = λ counts q. absurd (bad (cc)) }
+      );
+      both_framed = λ counts q. absurd (bad (cc));
+    }
 
 pub returns-then-bad_barriers : goal.returns-then-bad_barriers
 unfolding checked_by first_of table_rows
 returns-then-bad_barriers c =
-    record { value = rw (
+    record {
+      value = rw (
         sym c.bad_nodes.ensures ∙ c.if-bad_nodes.false,
         sym c.bad_constructs.ensures ∙ c.if-bad_constructs.false,
         sym c.bad_frames.ensures.value ∙ c.if-bad_frames.false,
         sym c.bad_barriers.ensures ∙ c.if-bad_barriers.true,
-      ); both_framed = λ counts q. absurd (bad (cc)) }
+      );
+      both_framed = λ counts q. absurd (bad (cc));
+    }
 
 pub bad_edges-requires : goal.bad_edges-requires
 bad_edges-requires c =
@@ -47,21 +53,27 @@ bad_edges-requires c =
 pub returns-then-bad_edges : goal.returns-then-bad_edges
 unfolding checked_by first_of table_rows
 returns-then-bad_edges c =
-    record { value = rw (
+    record {
+      value = rw (
         sym c.bad_nodes.ensures ∙ c.if-bad_nodes.false,
         sym c.bad_constructs.ensures ∙ c.if-bad_constructs.false,
         sym c.bad_frames.ensures.value ∙ c.if-bad_frames.false,
         sym c.bad_barriers.ensures ∙ c.if-bad_barriers.false,
         sym c.bad_edges.ensures ∙ c.if-bad_edges.true,
-      ); both_framed = λ counts q. absurd (bad (cc)) }
+      );
+      both_framed = λ counts q. absurd (bad (cc));
+    }
 
 pub returns : goal.returns
 unfolding checked_by first_of table_rows
 returns c =
-    record { value = rw (
+    record {
+      value = rw (
         sym c.bad_nodes.ensures ∙ c.if-bad_nodes.false,
         sym c.bad_constructs.ensures ∙ c.if-bad_constructs.false,
         sym c.bad_frames.ensures.value ∙ c.if-bad_frames.false,
         sym c.bad_barriers.ensures ∙ c.if-bad_barriers.false,
         sym c.bad_edges.ensures ∙ c.if-bad_edges.false,
-      ); both_framed = λ counts q. c.bad_frames.ensures.both_framed c.if-bad_frames.false }
+      );
+      both_framed = λ counts q. c.bad_frames.ensures.both_framed c.if-bad_frames.false;
+    }
