@@ -21,7 +21,7 @@ overflow_add-out c = omega arith
 pub bounds-out-at : goal.bounds-out-at
 bounds-out-at c =
     let long : length c.loop-k.out ≡ length c.args.out.now =
-        ap length c.loop-k.invariant.1 ∙ length-paste c.args.out.now c.args.at c.args.part.now c.loop-k.k (omega (arith, c.requires, c.loop-k.invariant.0)) c.loop-k.invariant.0 in
+    ap length c.loop-k.invariant.1 ∙ length-paste c.args.out.now c.args.at c.args.part.now c.loop-k.k (omega (arith, c.requires, c.loop-k.invariant.0)) c.loop-k.invariant.0 in
     omega (arith, long, c.requires)
 
 pub overflow_add-k : goal.overflow_add-k
@@ -44,7 +44,7 @@ loop-k-preserved c =
 pub shape_of-out : goal.shape_of-out
 shape_of-out c =
     let long : length c.loop-k.out ≡ length c.args.out.now =
-        ap length c.loop-k.invariant.1 ∙ length-paste c.args.out.now c.args.at c.args.part.now c.loop-k.k (omega (arith, c.requires, c.loop-k.invariant.0)) c.loop-k.invariant.0 in
+    ap length c.loop-k.invariant.1 ∙ length-paste c.args.out.now c.args.at c.args.part.now c.loop-k.k (omega (arith, c.requires, c.loop-k.invariant.0)) c.loop-k.invariant.0 in
     long
 
 pub returns : goal.returns
@@ -54,6 +54,9 @@ returns c =
     let at = c.args.at in
     let n = length part in
     let past : c.loop-k.k ≡ n = omega (arith, c.loop-k.invariant.0) in
-    let all = rw past at c.loop-k.invariant.1 in record { out_after = ap (λ (m : List ℕ). take (at + n) m) all
+    let all = rw past at c.loop-k.invariant.1 in record {
+      out_after = ap (λ (m : List ℕ). take (at + n) m) all
           ∙ take-paste out at part n (omega (arith, c.requires)) (omega arith)
-          ∙ ap (λ (m : List ℕ). take at out ++ m) (take_all n part (omega arith)); out_unchanged = ap (λ (m : List ℕ). drop (at + n) m) all ∙ drop-paste out at part n (omega (arith, c.requires)) (omega arith) }
+          ∙ ap (λ (m : List ℕ). take at out ++ m) (take_all n part (omega arith));
+      out_unchanged = ap (λ (m : List ℕ). drop (at + n) m) all ∙ drop-paste out at part n (omega (arith, c.requires)) (omega arith);
+    }
