@@ -2,6 +2,7 @@
 ghost use Rattle.std.specs.Prelude.{◌≡◌, nat_abs};
 
 use chart::cursor::wide;
+use std::io;
 
 // A number without its sign. The least one has no opposite, so that its sign goes from the number after it.
 fn magnitude(n: i64) -> u64
@@ -14,26 +15,26 @@ fn magnitude(n: i64) -> u64
     n as u64
 }
 
-fn print_signed(n: i64) {
+fn print_signed(rt: &impl Print, n: i64) -> io::Result<()> {
     if n < 0 {
-        io::write_all(1, b"-");
+        rt.write_all(b"-")?;
     }
-    io::print_decimal(1, magnitude(n));
+    rt.print(magnitude(n))
 }
 
-pub fn number(word: &[u8], n: i64) {
-    io::write_all(1, word);
-    print_signed(n);
-    io::write_all(1, b"\n");
+pub fn number(rt: &impl Print, word: &[u8], n: i64) -> io::Result<()> {
+    rt.write_all(word)?;
+    print_signed(rt, n)?;
+    rt.write_all(b"\n")
 }
 
-pub fn bytes(word: &[u8], part: &[u8]) {
-    io::write_all(1, word);
+pub fn bytes(rt: &impl Print, word: &[u8], part: &[u8]) -> io::Result<()> {
+    rt.write_all(word)?;
     let mut i = 0;
     while i < part.len() {
-        io::write_all(1, b" ");
-        io::print_decimal(1, wide(part[i]) as u64);
+        rt.write_all(b" ")?;
+        rt.print(wide(part[i]) as u64)?;
         i += 1;
     }
-    io::write_all(1, b"\n");
+    rt.write_all(b"\n")
 }

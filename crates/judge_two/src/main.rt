@@ -7,7 +7,8 @@ mod lines;
 use call_judge::two::judge_two;
 use chart::cursor::wide;
 use chart::format::Chart;
-use program_io::input::{Part, list_at, too_long, too_short};
+use program_io::input::{Part, list_at, read_full, too_long, too_short};
+use std::io;
 
 // Bytes in front of the lists: the region.
 const FRONT: usize = 1;
@@ -15,44 +16,52 @@ const FRONT: usize = 1;
 // The longest input: both lists and the chart as long as they can be.
 const MOST: usize = FRONT + 2 * (Part::LENGTH + Part::MOST) + Chart::MOST_BYTES;
 
-fn print_judged<'a>(s: &[u8], region: usize, x: &'a [u8], y: &'a [u8]) {
+fn print_judged<'a>(
+    rt: &impl Print,
+    s: &[u8],
+    region: usize,
+    x: &'a [u8],
+    y: &'a [u8],
+) -> io::Result<()> {
     let mut first = 0i64;
     let mut second = 0i64;
     let part = judge_two(s, region, x, y, &mut first, &mut second);
-    lines::number(b"first ", first);
-    lines::number(b"second ", second);
-    lines::bytes(b"part", part);
+    lines::number(rt, b"first ", first)?;
+    lines::number(rt, b"second ", second)?;
+    lines::bytes(rt, b"part", part)
 }
 
-fn print(input: &[u8]) {
+fn print(rt: &impl Print, input: &[u8]) -> io::Result<()> {
     if input.len() < FRONT {
-        too_short();
-        return;
+        return too_short(rt);
     }
     let first = list_at(input, FRONT);
     if !first.whole {
-        too_short();
-        return;
+        return too_short(rt);
     }
     let start = first.start;
     let end = first.end;
     let second = list_at(input, end);
     if !second.whole {
-        too_short();
-        return;
+        return too_short(rt);
     }
     let from = second.start;
     let to = second.end;
     let region = wide(input[0]);
-    print_judged(&input[to..], region, &input[start..end], &input[from..to]);
+    print_judged(
+        rt,
+        &input[to..],
+        region,
+        &input[start..end],
+        &input[from..to],
+    )
 }
 
-fn main() {
+fn main(rt: HostRuntime) -> io::Result<()> {
     let mut buffer = [0u8; MOST + 1];
-    let n = io::read_full(0, &mut buffer);
+    let n = read_full(&rt, &mut buffer)?;
     if MOST < n {
-        too_long();
-        return;
+        return too_long(&rt);
     }
-    print(&buffer[..n]);
+    print(&rt, &buffer[..n])
 }

@@ -3,6 +3,7 @@ use crate::report::report_before;
 use crate::spelling::{put, put_field};
 use crate::trailer::{Ends, put_trailer};
 use chart::format::{Chart, Construct, Node};
+use std::io;
 
 // What is written again and again: a plain node, a barrier, one of the region of parallel 0, the begin and the end of construct k, a critical, a
 // masked of edition 2 for thread k, the edge from k to k + 1, edge k of all those from the first 32 nodes to nodes 1 to 32, or edge k of the longest chart.
@@ -82,15 +83,23 @@ fn put_nodes(out: &mut [u8], pattern: Pattern, times: u16) -> usize {
 }
 
 // Writes the trailer of a chart, and a line for it.
-fn finish(name: &[u8], buffer: &mut [u8], ends: Ends) {
+fn finish(rt: &impl Print, name: &[u8], buffer: &mut [u8], ends: Ends) -> io::Result<()> {
     let end = put_trailer(buffer, ends);
-    io::write_all(1, name);
-    report_before(buffer, end);
+    rt.write_all(name)?;
+    report_before(rt, buffer, end)
 }
 
 // A line for the chart with these nodes between Start and Finish, these edges and so many criticals.
-fn generate(name: &[u8], nodes: Pattern, n: u16, edges: Pattern, e: u16, c: u16) {
-    let mut buffer = io::buffer();
+fn generate(
+    rt: &impl Print,
+    name: &[u8],
+    nodes: Pattern,
+    n: u16,
+    edges: Pattern,
+    e: u16,
+    c: u16,
+) -> io::Result<()> {
+    let mut buffer = [0u8; 4096];
     let nodes_end = put_nodes(&mut buffer, nodes, n);
     let edges_end = repeat(&mut buffer, nodes_end, edges, e);
     let constructs_end = repeat(&mut buffer, edges_end, Pattern::Critical, c);
@@ -100,12 +109,12 @@ fn generate(name: &[u8], nodes: Pattern, n: u16, edges: Pattern, e: u16, c: u16)
         edges: edges_end,
         constructs: constructs_end,
     };
-    finish(name, &mut buffer, ends);
+    finish(rt, name, &mut buffer, ends)
 }
 
 // A line for a chart with so many barriers between the begin and the end of parallel 0, and so many edges in a row.
-fn generate_region(name: &[u8], barriers: u16, e: u16) {
-    let mut buffer = io::buffer();
+fn generate_region(rt: &impl Print, name: &[u8], barriers: u16, e: u16) -> io::Result<()> {
+    let mut buffer = [0u8; 4096];
     let start_end = repeat(&mut buffer, 0, Pattern::Barrier, 1);
     let begin_end = put_record(&mut buffer, start_end, Node::BEGIN, 0);
     let barriers_end = repeat(&mut buffer, begin_end, Pattern::Inner, barriers);
@@ -118,12 +127,12 @@ fn generate_region(name: &[u8], barriers: u16, e: u16) {
         edges: edges_end,
         constructs: put_record(&mut buffer, edges_end, Construct::PARALLEL, Construct::NONE),
     };
-    finish(name, &mut buffer, ends);
+    finish(rt, name, &mut buffer, ends)
 }
 
 // A line for a chart of edition 2 at all limits: 94 plain nodes and 48 masked constructs, each with its begin and its end.
-fn generate_longest(name: &[u8]) {
-    let mut buffer = io::buffer();
+fn generate_longest(rt: &impl Print, name: &[u8]) -> io::Result<()> {
+    let mut buffer = [0u8; 4096];
     let start_end = repeat(&mut buffer, 0, Pattern::Barrier, 1);
     let plain_end = repeat(&mut buffer, start_end, Pattern::Plain, 94);
     let pairs_end = repeat(&mut buffer, plain_end, Pattern::BeginEnd, 48);
@@ -136,33 +145,67 @@ fn generate_longest(name: &[u8]) {
         edges: edges_end,
         constructs: constructs_end,
     };
-    finish(name, &mut buffer, ends);
+    finish(rt, name, &mut buffer, ends)
 }
 
-pub fn limits() {
-    generate(b"nodes-192", Pattern::Plain, 190, Pattern::Step, 191, 0);
-    generate(b"nodes-193", Pattern::Plain, 191, Pattern::Step, 192, 0);
-    generate(b"edges-1024", Pattern::Plain, 31, Pattern::Grid, 1024, 0);
-    generate(b"edges-1025", Pattern::Plain, 31, Pattern::Grid, 1025, 0);
+pub fn limits(rt: &impl Print) -> io::Result<()> {
+    generate(rt, b"nodes-192", Pattern::Plain, 190, Pattern::Step, 191, 0)?;
+    generate(rt, b"nodes-193", Pattern::Plain, 191, Pattern::Step, 192, 0)?;
     generate(
+        rt,
+        b"edges-1024",
+        Pattern::Plain,
+        31,
+        Pattern::Grid,
+        1024,
+        0,
+    )?;
+    generate(
+        rt,
+        b"edges-1025",
+        Pattern::Plain,
+        31,
+        Pattern::Grid,
+        1025,
+        0,
+    )?;
+    generate(
+        rt,
         b"constructs-48",
         Pattern::BeginEnd,
         48,
         Pattern::Step,
         97,
         48,
-    );
+    )?;
     generate(
+        rt,
         b"constructs-49",
         Pattern::BeginEnd,
         49,
         Pattern::Step,
         99,
         49,
-    );
-    generate(b"barriers-64", Pattern::Barrier, 62, Pattern::Step, 63, 0);
-    generate(b"barriers-65", Pattern::Barrier, 63, Pattern::Step, 64, 0);
-    generate_region(b"region-barriers-64", 62, 65);
-    generate_region(b"region-barriers-65", 63, 66);
-    generate_longest(b"bytes-3120");
+    )?;
+    generate(
+        rt,
+        b"barriers-64",
+        Pattern::Barrier,
+        62,
+        Pattern::Step,
+        63,
+        0,
+    )?;
+    generate(
+        rt,
+        b"barriers-65",
+        Pattern::Barrier,
+        63,
+        Pattern::Step,
+        64,
+        0,
+    )?;
+    generate_region(rt, b"region-barriers-64", 62, 65)?;
+    generate_region(rt, b"region-barriers-65", 63, 66)?;
+    generate_longest(rt, b"bytes-3120")
 }

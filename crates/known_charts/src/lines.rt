@@ -7,6 +7,7 @@ use crate::spelling::{put, value};
 use crate::trailer::{Ends, put_trailer};
 use chart::cursor::wide;
 use chart::format::{Chart, Construct};
+use std::io;
 use theory_answers::Size;
 
 // How far a line has been read: the part, the place for its next byte, where the nodes and the edges end, and the first half of a byte of
@@ -91,12 +92,12 @@ impl Line {
     }
 
     // The line at an @ or a *, which stand before a region and a size in a line of pairs.
-    fn asked(mut self, out: &mut [u8], letter: u8, part: u8) -> Line {
+    fn asked(mut self, rt: &impl Print, out: &mut [u8], letter: u8, part: u8) -> io::Result<Line> {
         if self.part == Line::PAIRS {
             self.part = part;
-            return self;
+            return Ok(self);
         }
-        self.letter(out, letter)
+        self.letter(rt, out, letter)
     }
 
     // The line after the letter of a region.
@@ -132,54 +133,55 @@ impl Line {
         self.byte(out, self.half % 16 * 16 + digit % 16)
     }
 
-    fn node(mut self, out: &mut [u8], node: u8) -> Line {
+    fn node(mut self, rt: &impl Print, out: &mut [u8], node: u8) -> io::Result<Line> {
         if self.half == Line::WHOLE {
             self.half = node;
-            return self;
+            return Ok(self);
         }
         report_pair_before(
+            rt,
             out,
             self.above,
             self.region,
             size_of(self.size),
             self.half,
             node,
-        );
+        )?;
         self.half = Line::WHOLE;
-        self
+        Ok(self)
     }
 
-    fn letter(self, out: &mut [u8], letter: u8) -> Line {
+    fn letter(self, rt: &impl Print, out: &mut [u8], letter: u8) -> io::Result<Line> {
         if self.part == Line::COMMENT {
-            return self;
+            return Ok(self);
         }
         if self.part == Line::PAIRS {
-            return self.node(out, value(letter));
+            return self.node(rt, out, value(letter));
         }
         if self.part == Line::REGION {
-            return self.within(value(letter));
+            return Ok(self.within(value(letter)));
         }
         if self.part >= Line::SIZE {
-            return self.sized(value(letter));
+            return Ok(self.sized(value(letter)));
         }
         if self.part == Line::NAME {
-            io::write_all(1, &[letter]);
-            return self;
+            rt.write_all(&[letter])?;
+            return Ok(self);
         }
         if self.part == Line::TRAILER {
-            return self.digit(out, value(letter));
+            return Ok(self.digit(out, value(letter)));
         }
-        self.byte(out, value(letter))
+        Ok(self.byte(out, value(letter)))
     }
 
     // The length of the chart that ends with this line, or of the one above it.
-    fn end(self, out: &mut [u8]) -> usize {
+    fn end(self, rt: &impl Print, out: &mut [u8]) -> io::Result<usize> {
         if self.part == Line::TRAILER {
-            report_before(out, self.at);
-            return self.at;
+            report_before(rt, out, self.at)?;
+            return Ok(self.at);
         }
         if self.part != Line::CONSTRUCTS {
-            return self.above;
+            return Ok(self.above);
         }
         let ends = Ends {
             edition: self.edition,
@@ -188,31 +190,32 @@ impl Line {
             constructs: self.at,
         };
         let length = put_trailer(out, ends);
-        report_before(out, length);
-        length
+        report_before(rt, out, length)?;
+        Ok(length)
     }
 
-    fn read(self, out: &mut [u8], letter: u8) -> Line {
+    fn read(self, rt: &impl Print, out: &mut [u8], letter: u8) -> io::Result<Line> {
         match letter {
-            b'\n' => Line::new(Line::NAME, self.end(out)),
-            b'#' => Line::new(Line::COMMENT, self.above),
-            b'?' => Line::new(Line::PAIRS, self.above),
-            b'/' => self.next(),
-            b'|' => self.filtered(),
-            b'@' => self.asked(out, letter, Line::REGION),
-            b'*' => self.asked(out, letter, Line::SIZE),
-            b' ' => self,
-            _ => self.letter(out, letter),
+            b'\n' => Ok(Line::new(Line::NAME, self.end(rt, out)?)),
+            b'#' => Ok(Line::new(Line::COMMENT, self.above)),
+            b'?' => Ok(Line::new(Line::PAIRS, self.above)),
+            b'/' => Ok(self.next()),
+            b'|' => Ok(self.filtered()),
+            b'@' => self.asked(rt, out, letter, Line::REGION),
+            b'*' => self.asked(rt, out, letter, Line::SIZE),
+            b' ' => Ok(self),
+            _ => self.letter(rt, out, letter),
         }
     }
 }
 
 // Writes a line for each chart of a text.
-pub fn read_lines(out: &mut [u8], text: &[u8]) {
+pub fn read_lines(rt: &impl Print, out: &mut [u8], text: &[u8]) -> io::Result<()> {
     let mut line = Line::new(Line::NAME, 0);
     let mut i = 0;
     while i < text.len() {
-        line = line.read(out, text[i]);
+        line = line.read(rt, out, text[i])?;
         i += 1;
     }
+    Ok(())
 }

@@ -8,10 +8,13 @@ mod report;
 mod spelling;
 mod trailer;
 
-fn main() {
-    let mut text = io::large_buffer();
-    let n = io::read_full(0, &mut text);
-    let mut buffer = io::buffer();
-    lines::read_lines(&mut buffer, &text[..n]);
-    limits::limits();
+use program_io::input::read_full;
+use std::io;
+
+fn main(rt: HostRuntime) -> io::Result<()> {
+    let mut text = [0u8; 65536];
+    let n = read_full(&rt, &mut text)?;
+    let mut buffer = [0u8; 4096];
+    lines::read_lines(&rt, &mut buffer, &text[..n])?;
+    limits::limits(&rt)
 }

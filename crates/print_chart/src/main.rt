@@ -1,6 +1,8 @@
 // The printing program of 01, run on its chart K.
 #![tactic(auto)]
 
-fn main() {
-    program_io::printing::run();
+use std::io;
+
+fn main(rt: HostRuntime) -> io::Result<()> {
+    program_io::printing::run(&rt)
 }

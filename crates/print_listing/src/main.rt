@@ -4,25 +4,25 @@
 use call_listing::drawing::listing;
 use chart::format::Chart;
 use output::Written;
-use program_io::input::too_long;
+use program_io::input::{read_full, too_long};
 use program_io::printing::{print, print_refusal};
+use std::io;
 
 const MOST: usize = 65535;
 
-fn show(text: &[u8]) {
+fn show(rt: &impl Print, text: &[u8]) -> io::Result<()> {
     let mut chart = [0u8; Chart::MOST_BYTES];
     match listing(text, &mut chart) {
-        Written::Refused(refusal) => print_refusal(refusal),
-        Written::Bytes(size) => print(&chart[..size]),
+        Written::Refused(refusal) => print_refusal(rt, refusal),
+        Written::Bytes(size) => print(rt, &chart[..size]),
     }
 }
 
-fn main() {
+fn main(rt: HostRuntime) -> io::Result<()> {
     let mut buffer = [0u8; MOST + 1];
-    let n = io::read_full(0, &mut buffer);
+    let n = read_full(&rt, &mut buffer)?;
     if n > MOST {
-        too_long();
-        return;
+        return too_long(&rt);
     }
-    show(&buffer[..n]);
+    show(&rt, &buffer[..n])
 }

@@ -8,8 +8,9 @@ mod threads;
 use call_replay::run::run;
 use chart::cursor::wide;
 use chart::format::Chart;
-use program_io::input::{Part, list_at, too_long, too_short};
+use program_io::input::{Part, list_at, read_full, too_long, too_short};
 use program_io::lines::SHEET;
+use std::io;
 use theory_traces::Replayed;
 
 // Bytes in front of the trace: the region, and the size of the team.
@@ -18,41 +19,44 @@ const FRONT: usize = 2;
 // The longest input: trace and chart as long as they can be.
 const MOST: usize = FRONT + Part::LENGTH + Part::MOST + Chart::MOST_BYTES;
 
-fn print_replayed(s: &[u8], region: usize, trace: &[u8], m: usize) {
+fn print_replayed(
+    rt: &impl Print,
+    s: &[u8],
+    region: usize,
+    trace: &[u8],
+    m: usize,
+) -> io::Result<()> {
     let mut out = [0u8; SHEET];
     let team = run(s, region, trace, m, &mut out);
     let said = team.answer;
-    lines::outcome(said);
+    lines::outcome(rt, said)?;
     if let Replayed::Refused(_) = said {
-        return;
+        return Ok(());
     }
-    threads::all(team);
-    lines::met(&out, lines::nodes_of(s));
+    threads::all(rt, team)?;
+    lines::met(rt, &out, lines::nodes_of(s))
 }
 
-fn print(input: &[u8]) {
+fn print(rt: &impl Print, input: &[u8]) -> io::Result<()> {
     if input.len() < FRONT {
-        too_short();
-        return;
+        return too_short(rt);
     }
     let trace = list_at(input, FRONT);
     if !trace.whole {
-        too_short();
-        return;
+        return too_short(rt);
     }
     let start = trace.start;
     let end = trace.end;
     let region = wide(input[0]);
     let m = wide(input[1]);
-    print_replayed(&input[end..], region, &input[start..end], m);
+    print_replayed(rt, &input[end..], region, &input[start..end], m)
 }
 
-fn main() {
+fn main(rt: HostRuntime) -> io::Result<()> {
     let mut buffer = [0u8; MOST + 1];
-    let n = io::read_full(0, &mut buffer);
+    let n = read_full(&rt, &mut buffer)?;
     if MOST < n {
-        too_long();
-        return;
+        return too_long(&rt);
     }
-    print(&buffer[..n]);
+    print(&rt, &buffer[..n])
 }

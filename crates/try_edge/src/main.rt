@@ -4,9 +4,10 @@
 
 use call_edges::ask::ask;
 use chart::cursor::{Cursor, wide};
-use program_io::input::{Part, too_long, too_short};
+use program_io::input::{Part, read_full, too_long, too_short};
 use program_io::lines::{end_line, number};
 use program_io::printing::print_refusal;
+use std::io;
 use theory_edits::{Asked, Receipt};
 
 // Bytes of the edge, and in front of the buffer; the longest input.
@@ -16,31 +17,29 @@ const FRONT: usize = EDGE + Part::LENGTH;
 
 const MOST: usize = FRONT + Part::MOST;
 
-fn print_receipt(receipt: Receipt) {
-    number(b"length ", receipt.length as u64);
-    number(b" place ", receipt.place as u64);
-    end_line();
+fn print_receipt(rt: &impl Print, receipt: Receipt) -> io::Result<()> {
+    number(rt, b"length ", receipt.length as u64)?;
+    number(rt, b" place ", receipt.place as u64)?;
+    end_line(rt)
 }
 
-fn print(input: &[u8]) {
+fn print(rt: &impl Print, input: &[u8]) -> io::Result<()> {
     if input.len() < FRONT {
-        too_short();
-        return;
+        return too_short(rt);
     }
     let cursor = Cursor { at: EDGE };
     let len = cursor.field(input, 0);
     match ask(&input[FRONT..], len, wide(input[0]), wide(input[1])) {
-        Asked::Admitted(receipt) => print_receipt(receipt),
-        Asked::Refused(refusal) => print_refusal(refusal),
+        Asked::Admitted(receipt) => print_receipt(rt, receipt),
+        Asked::Refused(refusal) => print_refusal(rt, refusal),
     }
 }
 
-fn main() {
+fn main(rt: HostRuntime) -> io::Result<()> {
     let mut buffer = [0u8; MOST + 1];
-    let n = io::read_full(0, &mut buffer);
+    let n = read_full(&rt, &mut buffer)?;
     if MOST < n {
-        too_long();
-        return;
+        return too_long(&rt);
     }
-    print(&buffer[..n]);
+    print(&rt, &buffer[..n])
 }
