@@ -29,7 +29,8 @@ loop-i-smaller c = omega arith
 pub loop-i-preserved : goal.loop-i-preserved
 loop-i-preserved c =
     let (A, b, q) = c.requires in
-    let (P, (x, y)) = (c.place-parts.ensures.split, c.place-parts.ensures.edges_after) in
+    let P = c.place-parts.ensures.split in
+    let (x, y) = c.place-parts.ensures.edges_after in
     let fits = A.laid.edges_most in
     let edges = edges-length _ c.args.chart A.laid in (
       omega arith,

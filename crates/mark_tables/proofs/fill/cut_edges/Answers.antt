@@ -26,7 +26,7 @@ bounds-flags-wide c =
     let room : (let l = c.loop-i in
     Next l.table l.loaded.edges c.args.stops.now l.loaded.parts
     c.read-edge.result.from c.read-edge.result.to) =
-        tabling-room _ c.args.chart c.requires.0 (omega arith) c.read-edge.ensures.0 c.read-edge.ensures.1 c.loop-i.invariant.1 in
+    tabling-room _ c.args.chart c.requires.0 (omega arith) c.read-edge.ensures.0 c.read-edge.ensures.1 c.loop-i.invariant.1 in
     omega (arith, c.wide.ensures.0, room.from)
 
 pub keep-loaded-requires : goal.keep-loaded-requires
@@ -34,7 +34,7 @@ keep-loaded-requires c =
     let room : (let l = c.loop-i in
     Next l.table l.loaded.edges c.args.stops.now l.loaded.parts
     c.read-edge.result.from c.read-edge.result.to) =
-        tabling-room _ c.args.chart c.requires.0 (omega arith) c.read-edge.ensures.0 c.read-edge.ensures.1 c.loop-i.invariant.1 in
+    tabling-room _ c.args.chart c.requires.0 (omega arith) c.read-edge.ensures.0 c.read-edge.ensures.1 c.loop-i.invariant.1 in
     room
 
 pub overflow_add-i : goal.overflow_add-i
@@ -48,9 +48,10 @@ loop-i-preserved c =
     let room : (let l = c.loop-i in
     Next l.table l.loaded.edges c.args.stops.now l.loaded.parts
     c.read-edge.result.from c.read-edge.result.to) =
-        tabling-room _ c.args.chart c.requires.0 (omega arith) c.read-edge.ensures.0 c.read-edge.ensures.1 c.loop-i.invariant.1 in
+    tabling-room _ c.args.chart c.requires.0 (omega arith) c.read-edge.ensures.0 c.read-edge.ensures.1 c.loop-i.invariant.1 in
     let A = c.requires.0 in
-    let (P, S) = (c.keep-loaded.ensures.split, c.keep-loaded.ensures.stored_in) in
+    let P = c.keep-loaded.ensures.split in
+    let S = c.keep-loaded.ensures.stored_in in
     let edges = edges-length _ c.args.chart A.laid in (
       omega arith,
       tabling-more _ _ c.loop-i.i (tables _ c.args.chart A) (omega arith) room.within (leaving-flag _ _ c.loop-i.i c.leaving.ensures c.wide.ensures.0 c.read-edge.ensures.0)

@@ -7,10 +7,8 @@ use Rattle.mark_tables.proofs.fill.keep.Goals as goal
 pub returns-then-flag-eq0 : goal.returns-then-flag-eq0
 returns-then-flag-eq0 c = record { split = (c.requires.split, c.requires.sized); stored_in = left c.if-flag-eq0.true }
 
-add-t10 : tie.Need-overflow-add-t10
-add-t10 c = search rules
-
 pub returns : goal.returns
 returns c =
-    let (P, (a, b)) = (c.place-parts.ensures.split, c.place-parts.ensures.edges_after) in
+    let P = c.place-parts.ensures.split in
+    let (a, b) = c.place-parts.ensures.edges_after in
     record { split = P; stored_in = rw (a, b) (kept c.if-flag-eq0.false) }

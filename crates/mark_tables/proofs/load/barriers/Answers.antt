@@ -9,6 +9,7 @@ use Rattle.lists.specs.Range.{none_passes}
 use Rattle.mark_tables.specs.Tables.{stop_from, Listing}
 use Rattle.mark_tables.proofs.Loading.{listing_none, listing-skip, stops-few, listing-all}
 use Rattle.mark_tables.proofs.load.barriers.Goals as goal
+use Rattle.mark_tables.proofs.load.barriers.Goals.{then-any_stop, else-any_stop}
 
 pub loop-x-init : goal.loop-x-init
 loop-x-init c = (omega arith, omega arith, listing_none _)
@@ -27,17 +28,16 @@ pub loop-x-smaller : goal.loop-x-smaller
 loop-x-smaller c = omega arith
 
 pub loop-x-preserved : goal.loop-x-preserved
-loop-x-preserved c =
-    (
-      omega arith,
-      omega arith,
-      elim c.if-any_stop.branch [
-        | inl (t, g, m, q, r) ↦ rw (q, r) m.ensures
-        | inr (t, q, r) ↦
-            let none = none_passes 8 (stop_from c.args.stops.now c.loop-x.x) (sym c.any_stop.ensures ∙ t.left) in
-            rw (q, r) (listing-skip 8 none c.loop-x.invariant.2)
-      ],
-    )
+loop-x-preserved c = (
+  omega arith,
+  omega arith,
+  elim c.if-any_stop.branch [
+    | then-any_stop w ↦ rw (w.nodes-is, w.total-is) w.list_eight-total.ensures
+    | else-any_stop w ↦
+        let none = none_passes 8 (stop_from c.args.stops.now c.loop-x.x) (sym c.any_stop.ensures ∙ w.if-any_stop.false) in
+        rw (w.nodes-is, w.total-is) (listing-skip 8 none c.loop-x.invariant.2)
+  ],
+)
 
 pub returns : goal.returns
 returns c =

@@ -11,5 +11,6 @@ bad_frames-requires c = let A = c.requires in (A.laid, fit-nodes _ (tables _ _ A
 pub returns : goal.returns
 returns c =
     let A = c.requires in
-    let (is, framed) = (c.bad_frames.ensures.value, c.bad_frames.ensures.both_framed) in
+    let is = c.bad_frames.ensures.value in
+    let framed = c.bad_frames.ensures.both_framed in
     framed (is ∙ fit-frames _ (tables _ _ A).frames)

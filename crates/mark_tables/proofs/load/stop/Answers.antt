@@ -11,11 +11,11 @@ returns-then-node-eq-PLAIN c = rw (lt-leb 1 c.args.node.kind (omega (arith, c.if
 pub returns-then-node-region : goal.returns-then-node-region
 returns-then-node-region c =
     let marked : 1 ≤ c.args.node.kind =
-        omega (arith, c.if-node-eq-PLAIN.false) in
+    omega (arith, c.if-node-eq-PLAIN.false) in
     rw (le-leb 1 _ marked, eq-eqb _ _ c.if-node-region.true)
 
 pub returns : goal.returns
 returns c =
     let marked : 1 ≤ c.args.node.kind =
-        omega (arith, c.if-node-eq-PLAIN.false) in
+    omega (arith, c.if-node-eq-PLAIN.false) in
     rw (le-leb 1 _ marked, ne_eqb _ _ c.if-node-region.false)

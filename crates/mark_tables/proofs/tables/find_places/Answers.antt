@@ -6,7 +6,8 @@ use Rattle.mark_tables.proofs.tables.find_places.Goals as goal
 
 pub places_rising-requires : goal.places_rising-requires
 places_rising-requires c =
-    let ((few, order, six, node), blank) = (c.requires.e_bound, c.requires.places_value) in
+    let (few, order, six, node) = c.requires.e_bound in
+    let blank = c.requires.places_value in
     record { e_bound = (few, order, blank); by_index = node }
 
 pub returns : goal.returns
