@@ -1,2 +1,3 @@
 pub mod Negation
 pub mod Outputs
+pub mod OutputCorrectLaws

@@ -25,7 +25,7 @@ use Rattle.theory_answers.specs.Size.{size_rows}
 use Rattle.theory_answers.specs.Sheet.{entry, sheet, sheet-length, sheet-at}
 use Rattle.theory_answers.specs.declared.Size.{Size}
 use Rattle.output.specs.Output.{number_of as output_number_of}
-use Rattle.output.specs.OutputCorrectLaws.{output-correct, output-only}
+use Rattle.output.proofs.OutputCorrectLaws.{output-correct, output-only}
 use Rattle.theory_calls.specs.Pair.{pair_rows_for, answered, pair_answered_for, number_of}
 use Rattle.theory_calls.specs.Sheet.{sheet_result, sheet_written_for, sheet_left_for}
 use Rattle.theory_calls.specs.AnswersCorrect.{PairCorrectFor, SheetBytes, SheetCorrectFor}

@@ -21,7 +21,7 @@ use Rattle.theory_paths.specs.Phases.{forward, nearest}
 use Rattle.theory_paths.specs.NearestLaws.{nearest-path, nearest-least, nearest-most, nearest-some}
 use Rattle.theory_answers.specs.Numbers.{Asked, asked, asked-node, node-asked}
 use Rattle.output.specs.Output.{number_of}
-use Rattle.output.specs.OutputCorrectLaws.{output-correct, output-only}
+use Rattle.output.proofs.OutputCorrectLaws.{output-correct, output-only}
 use Rattle.theory_calls.specs.Distances.{distance_byte, distances_result, distances_written, distances_left}
 use Rattle.theory_calls.specs.DistancesCorrect.{Behind, DistanceBytes, DistancesCorrect}
 

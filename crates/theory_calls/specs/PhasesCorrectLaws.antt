@@ -22,7 +22,7 @@ use Rattle.theory_paths.specs.AdmissionLaws.{admitted-well-formed}
 use Rattle.theory_paths.specs.Phases.{Direction, forward, backward, Boundary, barriers, barrier_at, marks}
 use Rattle.theory_paths.specs.PhasesLaws.{Marked, barrier-of, number-barrier, bit-means, boundary-kept}
 use Rattle.output.specs.Output.{number_of}
-use Rattle.output.specs.OutputCorrectLaws.{output-correct, output-only}
+use Rattle.output.proofs.OutputCorrectLaws.{output-correct, output-only}
 use Rattle.theory_calls.specs.Bytes.{byte_of}
 use Rattle.theory_calls.specs.Phases.{phase_byte, phases_result, phases_written, phases_left}
 use Rattle.theory_calls.specs.PhasesCorrect.{BarriersBelow, start, more, same, Numbered, place, BitSet, PhaseBits, PhasesCorrect}

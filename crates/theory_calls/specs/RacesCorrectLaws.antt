@@ -16,7 +16,7 @@ use Rattle.theory_paths.specs.Admission.{region_rows}
 use Rattle.theory_paths.specs.AdmissionLaws.{admitted-well-formed, admitted-connected}
 use Rattle.theory_answers.specs.Numbers.{good-open}
 use Rattle.output.specs.Output.{number_of}
-use Rattle.output.specs.OutputCorrectLaws.{output-correct, output-only}
+use Rattle.output.proofs.OutputCorrectLaws.{output-correct, output-only}
 use Rattle.theory_calls.specs.Access.{total, access_at, bad_accesses, accesses_row}
 use Rattle.theory_calls.specs.Races.{race, races as all_races, list_rows, races_written, races_left}
 use Rattle.theory_calls.specs.Race.{Race}

@@ -12,7 +12,7 @@ use Rattle.chart.specs.Reading.{region_of}
 use Rattle.theory_paths.specs.Admission.{region_rows}
 use Rattle.output.specs.Output.{number_of}
 use Rattle.output.proofs.Outputs.{had-room}
-use Rattle.output.specs.OutputCorrectLaws.{carried}
+use Rattle.output.proofs.OutputCorrectLaws.{carried}
 use Rattle.theory_calls.specs.Distances.{distances_result}
 use Rattle.theory_calls.specs.DistancesCorrect.{DistancesCorrect}
 use Rattle.theory_calls.specs.DistancesCorrectLaws.{distances-correct}

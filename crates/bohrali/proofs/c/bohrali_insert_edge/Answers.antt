@@ -6,7 +6,7 @@ use borrow.Author.Rules.{rules}
 use mir.Syntax.{w64}
 use mir.Val.{to_z, of_z}
 use Rattle.output.specs.Output.{number_of}
-use Rattle.output.specs.OutputCorrectLaws.{carried}
+use Rattle.output.proofs.OutputCorrectLaws.{carried}
 use Rattle.theory_edits.specs.EditLaws.{insert-returns, room}
 use Rattle.theory_edits.specs.declared.Receipt.{Receipt}
 use Rattle.theory_edits.specs.InsertCorrect.{InsertCorrect}

@@ -6,7 +6,7 @@ use mir.Syntax.{w64}
 use mir.Val.{to_z, of_z}
 use Rattle.theory_calls.specs.Correct.{Correct}
 use Rattle.theory_calls.specs.CorrectLaws.{correct-any}
-use Rattle.output.specs.OutputCorrectLaws.{told}
+use Rattle.output.proofs.OutputCorrectLaws.{told}
 use Rattle.bohrali.proofs.c.bohrali_judge.Goals as goal
 
 pub returns : goal.returns

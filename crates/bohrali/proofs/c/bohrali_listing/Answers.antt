@@ -9,7 +9,7 @@ use mir.Syntax.{w64}
 use mir.Val.{to_z, of_z}
 use Rattle.output.specs.Output.{number_of}
 use Rattle.output.proofs.Outputs.{had-room}
-use Rattle.output.specs.OutputCorrectLaws.{carried}
+use Rattle.output.proofs.OutputCorrectLaws.{carried}
 use Rattle.theory_listing.specs.Grammar.{listed}
 use Rattle.theory_listing.specs.Call.{block_rows, listing_bytes, listing_rows, listing_written}
 use Rattle.theory_listing.specs.ListingCorrect.{ListingCorrect}

@@ -6,7 +6,7 @@ use mir.Syntax.{w64}
 use mir.Val.{to_z, of_z}
 use Rattle.theory_calls.specs.AnswersCorrect.{PairCorrectIn}
 use Rattle.theory_calls.specs.AnswersCorrectLaws.{pair-correct}
-use Rattle.output.specs.OutputCorrectLaws.{told}
+use Rattle.output.proofs.OutputCorrectLaws.{told}
 use Rattle.bohrali.proofs.c.bohrali_pair_sized.Goals as goal
 
 pub returns : goal.returns

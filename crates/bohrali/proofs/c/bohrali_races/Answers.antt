@@ -14,7 +14,7 @@ use Rattle.chart.specs.Format.{decode}
 use Rattle.chart.specs.Reading.{region_of}
 use Rattle.output.specs.Output.{number_of}
 use Rattle.output.proofs.Outputs.{had-room}
-use Rattle.output.specs.OutputCorrectLaws.{carried}
+use Rattle.output.proofs.OutputCorrectLaws.{carried}
 use Rattle.bohrali.proofs.c.bohrali_races.Goals as goal
 
 -- a result that was written had room, and so fits

@@ -6,7 +6,7 @@ use mir.Syntax.{w64}
 use mir.Val.{to_z, of_z}
 use Rattle.theory_calls.specs.AnswersCorrect.{SheetCorrect}
 use Rattle.theory_calls.specs.AnswersCorrectLaws.{sheet-correct}
-use Rattle.output.specs.OutputCorrectLaws.{carried}
+use Rattle.output.proofs.OutputCorrectLaws.{carried}
 use Rattle.bohrali.proofs.c.bohrali_sheet.Goals as goal
 
 pub returns : goal.returns
