@@ -12,17 +12,20 @@ use Rattle.mark.proofs.boundaries.conclude.Goals as goal
 -- where the function was called
 pub reach_stops-requires : goal.reach_stops-requires
 reach_stops-requires c =
-    let ((few, some, nodes, long, table), below) = (c.requires.barriers_bound, c.requires.by_index) in
+    let (few, some, nodes, long, table) = c.requires.barriers_bound in
+    let below = c.requires.by_index in
     (few, below, long, table)
 
 pub any_apart-apart-requires : goal.any_apart-apart-requires
 any_apart-apart-requires c =
-    let ((few, some, _, _, _), below) = (c.requires.barriers_bound, c.requires.by_index) in
+    let (few, some, _, _, _) = c.requires.barriers_bound in
+    let below = c.requires.by_index in
     record { total_bound = (few, some); by_index = below }
 
 pub any_stuck-stuck-requires : goal.any_stuck-stuck-requires
 any_stuck-stuck-requires c =
-    let ((few, some, _, _, _), below) = (c.requires.barriers_bound, c.requires.by_index) in
+    let (few, some, _, _, _) = c.requires.barriers_bound in
+    let below = c.requires.by_index in
     record { total_bound = (few, some); by_index = below }
 
 pub any_missed-requires : goal.any_missed-requires
@@ -33,7 +36,8 @@ any_missed-requires-2 c = c.requires.barriers_bound.2
 
 pub returns : goal.returns
 returns c =
-    let some = c.requires.barriers_bound.1 in record { spread_of = (λ places stops R W A S B s t q.
+    let some = c.requires.barriers_bound.1 in record {
+      spread_of = (λ places stops R W A S B s t q.
           let N = standing S W B in
           let masks = c.reach_stops.ensures A.count _ A.split N s in
           let led = found-along S forward A.listed-edge A.edge-listed masks.every in
@@ -51,9 +55,11 @@ returns c =
             ahead,
             behind,
             B.count,
-          )); spread_of_2 = λ places stops R W A S B s t.
+          ));
+      spread_of_2 = λ places stops R W A S B s t.
           let N = standing S W B in
           let masks = c.reach_stops.ensures A.count _ A.split N s in (
             (λ y l. all-masks S forward A.listed-edge A.edge-listed W B masks.passable y),
             (λ y l. all-masks S backward (λ x y t. A.listed-edge y x (listed-turned x y t)) (λ x y h. listed-turned y x (A.edge-listed y x h)) W B t y),
-          ) }
+          );
+    }

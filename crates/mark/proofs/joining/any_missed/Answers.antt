@@ -22,7 +22,7 @@ bounds-masks-x c = omega arith
 pub overflow_add-found : goal.overflow_add-found
 overflow_add-found c =
     let next : c.loop-x.found + c.blank-found.result ≡ count (c.loop-x.x + 1) (λ y. eqb (get_or c.args.masks.now y 0) 0) =
-        cc (c.loop-x.invariant.1, c.blank-found.ensures, count-more c.loop-x.x (λ y. eqb (get_or c.args.masks.now y 0) 0)) in
+    cc (c.loop-x.invariant.1, c.blank-found.ensures, count-more c.loop-x.x (λ y. eqb (get_or c.args.masks.now y 0) 0)) in
     omega (arith, next, count_most (c.loop-x.x + 1) (λ y. eqb (get_or c.args.masks.now y 0) 0), c.requires)
 
 pub overflow_add-x : goal.overflow_add-x
@@ -34,7 +34,7 @@ loop-x-smaller c = omega arith
 pub loop-x-preserved : goal.loop-x-preserved
 loop-x-preserved c =
     let next : c.loop-x.found + c.blank-found.result ≡ count (c.loop-x.x + 1) (λ y. eqb (get_or c.args.masks.now y 0) 0) =
-        cc (c.loop-x.invariant.1, c.blank-found.ensures, count-more c.loop-x.x (λ y. eqb (get_or c.args.masks.now y 0) 0)) in
+    cc (c.loop-x.invariant.1, c.blank-found.ensures, count-more c.loop-x.x (λ y. eqb (get_or c.args.masks.now y 0) 0)) in
     (omega arith, next)
 
 pub returns : goal.returns

@@ -22,7 +22,7 @@ offset_bounds-masks-wide c = omega arith
 
 pub bounds-masks-wide : goal.bounds-masks-wide
 bounds-masks-wide c =
-    omega (arith, c.wide.ensures.0, c.requires.by_index (c.loop-left.false - 1))
+    omega (arith, c.wide.ensures.0, c.requires.by_index (c.loop-left.left - 1))
 
 pub join_with-all-requires : goal.join_with-all-requires
 join_with-all-requires c = omega arith
@@ -34,7 +34,7 @@ pub loop-left-preserved : goal.loop-left-preserved
 loop-left-preserved c =
     let args = c.args in
     let r = rw c.wide.ensures.0 at c.join_with-all.ensures in
-    (omega arith, against-more args.masks.now args.nodes.now args.total c.loop-left.false _ (omega arith) c.loop-left.invariant.1 r)
+    (omega arith, against-more args.masks.now args.nodes.now args.total c.loop-left.left _ (omega arith) c.loop-left.invariant.1 r)
 
 pub returns : goal.returns
 returns c = passed-still _ (λ b i l h t. (omega arith, l)) c.loop-left.invariant.1

@@ -22,19 +22,19 @@ bounds-ends-c c = let (few, most, long) = c.requires in omega arith
 pub overflow_add-nodes : goal.overflow_add-nodes
 overflow_add-nodes c =
     let room : c.args.barriers + c.loop-c.c < 64 =
-        omega arith in
+    omega arith in
     omega (arith, room)
 
 pub bounds-nodes-barriers : goal.bounds-nodes-barriers
 bounds-nodes-barriers c =
     let room : c.args.barriers + c.loop-c.c < 64 =
-        omega arith in
+    omega arith in
     room
 
 pub overflow_add-c : goal.overflow_add-c
 overflow_add-c c =
     let room : c.args.barriers + c.loop-c.c < 64 =
-        omega arith in
+    omega arith in
     omega (arith, room)
 
 pub loop-c-smaller : goal.loop-c-smaller
@@ -43,7 +43,7 @@ loop-c-smaller c = omega arith
 pub loop-c-preserved : goal.loop-c-preserved
 loop-c-preserved c =
     let room : c.args.barriers + c.loop-c.c < 64 =
-        omega arith in
+    omega arith in
     (omega arith, added_more room c.loop-c.invariant.1)
 
 pub overflow_add-result : goal.overflow_add-result

@@ -30,14 +30,13 @@ pub loop-c-smaller : goal.loop-c-smaller
 loop-c-smaller c = omega arith
 
 pub loop-c-preserved : goal.loop-c-preserved
-loop-c-preserved c =
-    (
-      omega arith,
-      λ d m. elim (ℕ_discrete d c.loop-c.c) [
-        | yes q ↦ rw (q, ← c.read.ensures.0, ← c.asks.ensures) c.if-asks.false
-        | no q ↦ c.loop-c.invariant.1 d (omega arith)
-      ],
-    )
+loop-c-preserved c = (
+  omega arith,
+  λ d m. elim (ℕ_discrete d c.loop-c.c) [
+    | yes q ↦ rw (q, ← c.read.ensures.0, ← c.asks.ensures) c.if-asks.false
+    | no q ↦ c.loop-c.invariant.1 d (omega arith)
+  ],
+)
 
 pub returns : goal.returns
 returns c _ d m = c.loop-c.invariant.1 d (omega arith)

@@ -25,7 +25,7 @@ any_asked-requires c = c.requires.accepted.0.laid
 pub returns-then-not-any_asked : goal.returns-then-not-any_asked
 returns-then-not-any_asked c =
     record {
-      none = λ _ d l a. absurd (clash a (c.any_asked.ensures (not-true _ c.if-not-any_asked.true) d (omega (arith, constructs-length _ c.args.chart c.requires.accepted.0.laid, l))));
+      none = λ _ d l a. absurd (clash a (c.any_asked.ensures c.if-not-any_asked.true d (omega (arith, constructs-length _ c.args.chart c.requires.accepted.0.laid, l))));
       all = λ n. absurd (n refl);
     }
 
@@ -36,7 +36,8 @@ all_before-requires c =
 pub returns-then-all_before : goal.returns-then-all_before
 returns-then-all_before c =
     let s = c.args.s.now in
-    let ((A, B, E), (_, _, (stops, (F, S)))) = (c.requires.accepted, c.requires.by_index) in
+    let (A, B, E) = c.requires.accepted in
+    let (_, _, (stops, (F, S))) = c.requires.by_index in
     let q = constructs-length s c.args.chart A.laid in
     record {
       none = λ _. told _ 0 (none-return s c.args.chart A F S c.if-parts-eq-EDGES.true B E (λ d l. c.all_before.ensures c.if-all_before.true d (omega arith)));
