@@ -19,11 +19,11 @@ returns-then-sets-eq0 c =
 pub returns-then-common : goal.returns-then-common
 returns-then-common c =
     let two : c.args.sets.alone ≡ false =
-        c.if-sets.false in
+    c.if-sets.false in
     sym (sized-by _ _ _ two (sym c.common.ensures ∙ c.if-common.true))
 
 pub returns : goal.returns
 returns c =
     let two : c.args.sets.alone ≡ false =
-        c.if-sets.false in
+    c.if-sets.false in
     c.ruled_by-2.ensures ∙ sym (sized-by _ _ _ two (sym c.common.ensures ∙ c.if-common.false))

@@ -14,14 +14,14 @@ use Rattle.answer_pairs.proofs.rules.ruled_by.Goals as goal
 
 pub returns-then-not-common : goal.returns-then-not-common
 unfolding ruled_by by_rules
-returns-then-not-common c = rw (sym c.common.ensures ∙ not-true _ c.if-not-common.true)
+returns-then-not-common c = rw (sym c.common.ensures ∙ c.if-not-common.true)
 
 pub returns-then-not-common-2 : goal.returns-then-not-common-2
 unfolding ruled_by by_rules
 returns-then-not-common-2 c =
     let starts-shared : common c.args.x.starts c.args.y.starts ≡ true =
-        sym c.common.ensures ∙ not-false _ c.if-not-common.false in
-    rw (starts-shared, sym c.common-2.ensures ∙ not-true _ c.if-not-common-2.true)
+    sym c.common.ensures ∙ c.if-not-common.false in
+    rw (starts-shared, sym c.common-2.ensures ∙ c.if-not-common-2.true)
 
 pub loop-k-init : goal.loop-k-init
 unfolding any
@@ -43,9 +43,9 @@ pub returns-then-common : goal.returns-then-common
 unfolding ruled_by by_rules numbered
 returns-then-common c =
     let starts-shared : common c.args.x.starts c.args.y.starts ≡ true =
-        sym c.common.ensures ∙ not-false _ c.if-not-common.false in
+    sym c.common.ensures ∙ c.if-not-common.false in
     let ends-shared : common c.args.x.ends c.args.y.ends ≡ true =
-        sym c.common-2.ensures ∙ not-false _ c.if-not-common-2.false in
+    sym c.common-2.ensures ∙ c.if-not-common-2.false in
     let a = c.args in
     let f = rule_by a.sets.kinds a.x.held a.y.held in
     let k = c.loop-k.k in
@@ -67,8 +67,8 @@ pub returns : goal.returns
 unfolding ruled_by by_rules numbered
 returns c =
     let starts-shared : common c.args.x.starts c.args.y.starts ≡ true =
-        sym c.common.ensures ∙ not-false _ c.if-not-common.false in
+    sym c.common.ensures ∙ c.if-not-common.false in
     let ends-shared : common c.args.x.ends c.args.y.ends ≡ true =
-        sym c.common-2.ensures ∙ not-false _ c.if-not-common-2.false in
+    sym c.common-2.ensures ∙ c.if-not-common-2.false in
     let q : c.loop-k.k ≡ 4 = omega arith in
     rw (starts-shared, ends-shared, rw q at c.loop-k.invariant.1)
