@@ -24,15 +24,18 @@ returns-then-bad_region c =
 pub enter_region-requires : goal.enter_region-requires
 enter_region-requires c =
     let inner : c.read_for-inner.result.region ≢ outside =
-        λ q. c.requires.3 (sym (ap (λ (k : Chart). k.region) c.read_for-inner.ensures) ∙ q) in
+    λ q. c.requires.3 (sym (ap (λ (k : Chart). k.region) c.read_for-inner.ensures) ∙ q) in
     let N = named c.args.s.now c.args.region (sym c.bad_region.ensures ∙ c.if-bad_region.false) in
     record { accepted = (subst (Accepted c.args.s.now) (sym c.read_for-inner.ensures) (accepted-for _ _ c.requires.2 c.args.region N), λ q. absurd (inner q)); starts_value = (refl, refl) }
 
 pub returns : goal.returns
 returns c =
     let inner : c.read_for-inner.result.region ≢ outside =
-        λ q. c.requires.3 (sym (ap (λ (k : Chart). k.region) c.read_for-inner.ensures) ∙ q) in
+    λ q. c.requires.3 (sym (ap (λ (k : Chart). k.region) c.read_for-inner.ensures) ∙ q) in
     let s = c.args.s.now in
     let p = c.args.region in
-    let same = c.read_for-inner.ensures in record { value = c.enter_region.ensures.value.1 inner ∙ marked-region s p c.requires.0 (same ∙ ap (λ (k : Chart). read_for k p) (sym c.requires.1))
-          (ap (λ (k : Chart). length (barriers (reading s k))) same) (sym c.bad_region.ensures ∙ c.if-bad_region.false); entry = c.enter_region.ensures.entry }
+    let same = c.read_for-inner.ensures in record {
+      value = c.enter_region.ensures.value.1 inner ∙ marked-region s p c.requires.0 (same ∙ ap (λ (k : Chart). read_for k p) (sym c.requires.1))
+          (ap (λ (k : Chart). length (barriers (reading s k))) same) (sym c.bad_region.ensures ∙ c.if-bad_region.false);
+      entry = c.enter_region.ensures.entry;
+    }

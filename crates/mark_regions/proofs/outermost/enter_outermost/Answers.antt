@@ -22,4 +22,4 @@ returns-in-Refused c =
 
 pub returns-in-Passed : goal.returns-in-Passed
 returns-in-Passed c =
-    (c.enter_region.ensures.value.0 (read_whole _ _ (sym c.check.ensures.value ∙ c.in let p = -Passed.is)), c.enter_region.ensures.entry) in record { value = p.0; entry = p.1 }
+    record { value = c.enter_region.ensures.value.0 (read_whole _ _ (sym c.check.ensures.value ∙ c.in-Passed.is)); entry = c.enter_region.ensures.entry }
