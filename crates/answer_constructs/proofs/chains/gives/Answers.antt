@@ -6,7 +6,7 @@ use borrow.Author.Rules.{rules}
 use Rattle.answer_constructs.proofs.chains.gives.Goals as goal
 
 pub returns-then-not-has : goal.returns-then-not-has
-returns-then-not-has c = rw (sym c.has.ensures ∙ not-true _ c.if-not-has.true)
+returns-then-not-has c = rw (sym c.has.ensures ∙ c.if-not-has.true)
 
 pub returns : goal.returns
-returns c = rw (sym c.has.ensures ∙ not-false _ c.if-not-has.false) c.own.ensures
+returns c = rw (sym c.has.ensures ∙ c.if-not-has.false) c.own.ensures

@@ -20,9 +20,9 @@ below false m n h l = l
 pub lasting-lasts-requires : goal.lasting-lasts-requires
 lasting-lasts-requires c =
     let given : c.pick-given.result ≡ cond (eqb c.args.construct.kind ordered_byte) (c.args.construct.parent % 64) c.args.c =
-        c.pick-given.ensures ∙ ap (λ (w : ℕ). cond (eqb c.args.construct.kind ordered_byte) (w % 64) c.args.c) c.wide-parent.ensures.0 in
+    c.pick-given.ensures ∙ ap (λ (w : ℕ). cond (eqb c.args.construct.kind ordered_byte) (w % 64) c.args.c) c.wide-parent.ensures.0 in
     let asked : c.pick-asked.result ≡ cond (eqb c.args.construct.kind single_byte) c.args.c (c.args.construct.parent % 64) =
-        c.pick-asked.ensures ∙ ap (λ (w : ℕ). cond (eqb c.args.construct.kind single_byte) c.args.c (w % 64)) c.wide-parent.ensures.0 in
+    c.pick-asked.ensures ∙ ap (λ (w : ℕ). cond (eqb c.args.construct.kind single_byte) c.args.c (w % 64)) c.wide-parent.ensures.0 in
     let k = c.args.construct.kind in
     let p = c.args.construct.parent % 64 in
     let d = c.args.c in (
@@ -56,9 +56,9 @@ returns-then-kind-eq-MASTER c = rw (eq-eqb _ _ c.if-kind-eq-MASTER.true)
 pub returns-then-may_last : goal.returns-then-may_last
 returns-then-may_last c =
     let given : c.pick-given.result ≡ cond (eqb c.args.construct.kind ordered_byte) (c.args.construct.parent % 64) c.args.c =
-        c.pick-given.ensures ∙ ap (λ (w : ℕ). cond (eqb c.args.construct.kind ordered_byte) (w % 64) c.args.c) c.wide-parent.ensures.0 in
+    c.pick-given.ensures ∙ ap (λ (w : ℕ). cond (eqb c.args.construct.kind ordered_byte) (w % 64) c.args.c) c.wide-parent.ensures.0 in
     let asked : c.pick-asked.result ≡ cond (eqb c.args.construct.kind single_byte) c.args.c (c.args.construct.parent % 64) =
-        c.pick-asked.ensures ∙ ap (λ (w : ℕ). cond (eqb c.args.construct.kind single_byte) c.args.c (w % 64)) c.wide-parent.ensures.0 in
+    c.pick-asked.ensures ∙ ap (λ (w : ℕ). cond (eqb c.args.construct.kind single_byte) c.args.c (w % 64)) c.wide-parent.ensures.0 in
     lasts-own _ _ _ _ _ _ _ _ given asked c.requires.1 c.requires.2 (sym c.may_last.ensures ∙ c.if-may_last.true) c.lasting-lasts.ensures
 
 pub returns : goal.returns

@@ -17,9 +17,6 @@ use Rattle.answer_constructs.proofs.kinds.add_kind.Goals as goal
 pub loop-k-init : goal.loop-k-init
 loop-k-init c = (omega arith, c.requires.1, λ j l. absurd (omega arith), λ j l. refl)
 
-array-read-add-if : tie.Need-array-read-add-if invariant-loop decreases-loop
-array-read-add-if c = omega arith
-
 pub offset_bounds-kinds-k : goal.offset_bounds-kinds-k
 offset_bounds-kinds-k c = omega arith
 

@@ -32,7 +32,8 @@ loop-c-smaller c = omega arith
 pub loop-c-preserved : goal.loop-c-preserved
 unfolding is_of
 loop-c-preserved c =
-    let (long, added) = (c.add_kind.ensures.kinds_len, c.add_kind.ensures.by_index) in
+    let long = c.add_kind.ensures.kinds_len in
+    let added = c.add_kind.ensures.by_index in
     (omega arith, long, λ k m. test-next _ c.loop-c.c (ap (λ (b : ℕ). eqb b (rule_byte k)) c.read.ensures.0) (c.loop-c.invariant.2 k m) (added k m))
 
 pub returns : goal.returns

@@ -20,7 +20,7 @@ bounds-known-c c = omega (arith, c.requires.0.constructs-most, c.requires.1)
 pub returns-then-noted-ne0 : goal.returns-then-noted-ne0
 returns-then-noted-ne0 c =
     let below : c.args.c < length (decode c.args.s.now).constructs =
-        omega (arith, constructs-length _ c.args.chart c.requires.0, c.requires.1) in
+    omega (arith, constructs-length _ c.args.chart c.requires.0, c.requires.1) in
     (known-there _ c.requires.2 c.args.c below c.if-noted-ne0.true, c.requires.2)
 
 pub returns : goal.returns

@@ -36,12 +36,11 @@ pub loop-x-smaller : goal.loop-x-smaller
 loop-x-smaller c = omega arith
 
 pub loop-x-preserved : goal.loop-x-preserved
-loop-x-preserved c =
-    (
-      omega arith,
-      rw (c.find.ensures, c.read.ensures.0, c.read.ensures.1)
-          (laid_more _ c.args.chart c.requires.0 c.fill_places.ensures c.loop-x.x c.loop-x.invariant.1 (omega (arith, c.requires.0.laid.nodes-most))),
-    )
+loop-x-preserved c = (
+  omega arith,
+  rw (c.find.ensures, c.read.ensures.0, c.read.ensures.1)
+      (laid_more _ c.args.chart c.requires.0 c.fill_places.ensures c.loop-x.x c.loop-x.invariant.1 (omega (arith, c.requires.0.laid.nodes-most))),
+)
 
 pub returns : goal.returns
 returns c =

@@ -16,4 +16,4 @@ unfolding first_of
 returns-in-Any c = rw c.in-Any.is
 
 pub returns-else-threads-lt-LEAST : goal.returns-else-threads-lt-LEAST
-returns-else-threads-lt-LEAST c = let m = c.size-1.given in of_size {r = ltb 1024 m.0.0} m.1 (rw (le-ltb _ _ c.if-threads-lt-LEAST.false))
+returns-else-threads-lt-LEAST c = of_size {r = ltb 1024 c.in-Of.threads} c.in-Of.is (rw (le-ltb _ _ c.if-threads-lt-LEAST.false))

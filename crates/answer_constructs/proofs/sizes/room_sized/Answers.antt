@@ -15,7 +15,7 @@ pub returns-then-bad_size : goal.returns-then-bad_size
 returns-then-bad_size c =
     let sized : let e = c.args in
     (first_of (output_rows [] e.room e.bytes (size_rows e.size)) ≡ cond c.bad_size.result (some 21) none) × (e.bytes ≡ c.in-Bytes.count) =
-        let e = c.args in
+    let e = c.args in
     let (p, q) = room-passed e.room e.bytes (size_rows e.size) (sym c.room_for.ensures ∙ c.in-Bytes.is) in
     (p ∙ c.bad_size.ensures, q) in
     (refused _ _ [] [] (rw c.if-bad_size.true at sized.0)).0
@@ -29,7 +29,7 @@ pub returns-else-bad_size : goal.returns-else-bad_size
 returns-else-bad_size c =
     let sized : let e = c.args in
     (first_of (output_rows [] e.room e.bytes (size_rows e.size)) ≡ cond c.bad_size.result (some 21) none) × (e.bytes ≡ c.in-Bytes.count) =
-        let e = c.args in
+    let e = c.args in
     let (p, q) = room-passed e.room e.bytes (size_rows e.size) (sym c.room_for.ensures ∙ c.in-Bytes.is) in
     (p ∙ c.bad_size.ensures, q) in
     let (p, q) = sized in (passed _ _ [] [] q (rw c.if-bad_size.false at p)).0
