@@ -24,7 +24,7 @@ pub mask_at-requires : goal.mask_at-requires
 unfolding parent_of
 mask_at-requires c =
     let below : c.loop-c.c < length (decode c.args.s.now).constructs =
-        omega (arith, constructs-length _ c.args.chart c.requires.0.laid) in
+    omega (arith, constructs-length _ c.args.chart c.requires.0.laid) in
     index_below (omega (arith, c.requires.0.laid.constructs-most))
     (subst (Below c.loop-c.c) (sym c.read-construct.ensures.1) (parent-lower _ c.args.chart c.requires.0 c.loop-c.c below))
 
@@ -50,7 +50,7 @@ pub loop-c-preserved : goal.loop-c-preserved
 unfolding parent_of
 loop-c-preserved c =
     let below : c.loop-c.c < length (decode c.args.s.now).constructs =
-        omega (arith, constructs-length _ c.args.chart c.requires.0.laid) in
+    omega (arith, constructs-length _ c.args.chart c.requires.0.laid) in
     (omega arith, rw (c.mask_at.ensures, c.read-construct.ensures.1) (chains-next _ c.args.chart c.requires.0 c.loop-c.c below c.requires.1 c.loop-c.invariant.1))
 
 pub returns : goal.returns

@@ -18,55 +18,55 @@ loop-c-init c = (omega arith, c.requires.1, refl, λ d l. absurd (omega arith))
 pub offset_bounds-given-c : goal.offset_bounds-given-c
 offset_bounds-given-c c =
     let low : c.loop-c.c < 48 =
-        omega (arith, c.requires.0) in
+    omega (arith, c.requires.0) in
     omega (arith, low)
 
 pub bounds-given-c : goal.bounds-given-c
 bounds-given-c c =
     let low : c.loop-c.c < 48 =
-        omega (arith, c.requires.0) in
+    omega (arith, c.requires.0) in
     low
 
 pub bit-requires : goal.bit-requires
 bit-requires c =
     let low : c.loop-c.c < 48 =
-        omega (arith, c.requires.0) in
+    omega (arith, c.requires.0) in
     omega (arith, low)
 
 pub offset_bounds-own-c : goal.offset_bounds-own-c
 offset_bounds-own-c c =
     let low : c.loop-c.c < 48 =
-        omega (arith, c.requires.0) in
+    omega (arith, c.requires.0) in
     omega (arith, low)
 
 pub bounds-own-c : goal.bounds-own-c
 bounds-own-c c =
     let low : c.loop-c.c < 48 =
-        omega (arith, c.requires.0) in
+    omega (arith, c.requires.0) in
     low
 
 pub offset_bounds-given-c-in-loop-c : goal.offset_bounds-given-c-in-loop-c
 offset_bounds-given-c-in-loop-c c =
     let low : c.loop-c.c < 48 =
-        omega (arith, c.requires.0) in
+    omega (arith, c.requires.0) in
     omega (arith, low)
 
 pub bounds-given-c-in-loop-c : goal.bounds-given-c-in-loop-c
 bounds-given-c-in-loop-c c =
     let low : c.loop-c.c < 48 =
-        omega (arith, c.requires.0) in
+    omega (arith, c.requires.0) in
     low
 
 pub has-requires : goal.has-requires
 has-requires c =
     let low : c.loop-c.c < 48 =
-        omega (arith, c.requires.0) in
+    omega (arith, c.requires.0) in
     omega (arith, low)
 
 pub add_if-all-requires : goal.add_if-all-requires
 add_if-all-requires c =
     let low : c.loop-c.c < 48 =
-        omega (arith, c.requires.0) in
+    omega (arith, c.requires.0) in
     omega (arith, low)
 
 pub overflow_add-c : goal.overflow_add-c
@@ -78,7 +78,7 @@ loop-c-smaller c = omega arith
 pub loop-c-preserved : goal.loop-c-preserved
 loop-c-preserved c =
     let low : c.loop-c.c < 48 =
-        omega (arith, c.requires.0) in
+    omega (arith, c.requires.0) in
     let given = c.args.given.now in
     let (below, long, all, own) = c.loop-c.invariant in (
       omega arith,
