@@ -34,11 +34,11 @@ pub returns-then-bad_size : goal.returns-then-bad_size
 unfolding answered first_of claim_rows odd_bytes
 returns-then-bad_size c =
     let R : Region =
-        reading c.args.s.now c.args.chart in
+    reading c.args.s.now c.args.chart in
     let good : bad_numbers R c.args.claims.now ≡ false =
-        sym c.bad_numbers.ensures ∙ c.if-bad_numbers.false in
+    sym c.bad_numbers.ensures ∙ c.if-bad_numbers.false in
     let rest : first_of (claim_rows R c.args.size c.args.claims.now) ≡ first_of (size_rows c.args.size) =
-        rw (ne_eqb (length c.args.claims.now % 2) 1 (omega (arith, c.if-claims-eq1.false)), good) in
+    rw (ne_eqb (length c.args.claims.now % 2) 1 (omega (arith, c.if-claims-eq1.false)), good) in
     rw (rest, c.bad_size.ensures, c.if-bad_size.true)
 
 pub sets_for-requires : goal.sets_for-requires
@@ -47,9 +47,9 @@ sets_for-requires c = c.requires.0
 pub first_false-requires : goal.first_false-requires
 first_false-requires c =
     let R : Region =
-        reading c.args.s.now c.args.chart in
+    reading c.args.s.now c.args.chart in
     let good : bad_numbers R c.args.claims.now ≡ false =
-        sym c.bad_numbers.ensures ∙ c.if-bad_numbers.false in
+    sym c.bad_numbers.ensures ∙ c.if-bad_numbers.false in
     let M = c.requires.1 in
     numbers_fit R _ M.well-formed M.few good
 
@@ -57,10 +57,11 @@ pub returns : goal.returns
 unfolding answered first_of claim_rows odd_bytes
 returns c =
     let R : Region =
-        reading c.args.s.now c.args.chart in
+    reading c.args.s.now c.args.chart in
     let good : bad_numbers R c.args.claims.now ≡ false =
-        sym c.bad_numbers.ensures ∙ c.if-bad_numbers.false in
+    sym c.bad_numbers.ensures ∙ c.if-bad_numbers.false in
     let rest : first_of (claim_rows R c.args.size c.args.claims.now) ≡ first_of (size_rows c.args.size) =
-        rw (ne_eqb (length c.args.claims.now % 2) 1 (omega (arith, c.if-claims-eq1.false)), good) in
-    let (Z, same) = (c.sets_for.ensures.sized, c.sets_for.ensures.kinds_value) in
+    rw (ne_eqb (length c.args.claims.now % 2) 1 (omega (arith, c.if-claims-eq1.false)), good) in
+    let Z = c.sets_for.ensures.sized in
+    let same = c.sets_for.ensures.kinds_value in
     rw (rest, c.bad_size.ensures, c.if-bad_size.false) (c.first_false.ensures R c.args.size (rw same c.requires.1) Z good)
