@@ -14,7 +14,7 @@ use Rattle.answer_masks.proofs.survey.Goals as goal
 pub survey_region-requires : goal.survey_region-requires
 survey_region-requires c =
     let h = sym c.check.ensures.value ∙ c.in-Passed.is in
-    ((accepted _ _ h, λ _. h, c.requires), c.check.ensures.both_framed _ c.in let p = -Passed.is) in record { accepted = p.0; both_framed = p.1 }
+    record { accepted = (accepted _ _ h, λ _. h, c.requires); both_framed = c.check.ensures.both_framed _ c.in-Passed.is }
 
 pub returns-then-region-eq-OUTERMOST : goal.returns-then-region-eq-OUTERMOST
 unfolding counts_of
@@ -24,7 +24,7 @@ returns-then-region-eq-OUTERMOST c =
 
 pub survey_inner-requires : goal.survey_inner-requires
 survey_inner-requires c =
-    ((sym c.check.ensures.value ∙ c.in-Passed.is, c.if-region-eq-OUTERMOST.false, c.requires), c.check.ensures.both_framed _ c.in let p = -Passed.is) in record { s_value = p.0; both_framed = p.1 }
+    record { s_value = (sym c.check.ensures.value ∙ c.in-Passed.is, c.if-region-eq-OUTERMOST.false, c.requires); both_framed = c.check.ensures.both_framed _ c.in-Passed.is }
 
 pub returns-in-Refused : goal.returns-in-Refused
 unfolding checked_by

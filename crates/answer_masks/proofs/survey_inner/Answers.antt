@@ -22,7 +22,8 @@ use Rattle.answer_masks.proofs.survey_inner.Goals as goal
 
 pub survey_region-requires : goal.survey_region-requires
 survey_region-requires c =
-    let ((h, _, blank), framed) = (c.requires.s_value, c.requires.both_framed) in
+    let (h, _, blank) = c.requires.s_value in
+    let framed = c.requires.both_framed in
     record { accepted = (accepted _ _ h, (λ _. h), blank); both_framed = framed }
 
 pub bad_region-requires : goal.bad_region-requires
@@ -34,10 +35,10 @@ pub returns-then-bad_region : goal.returns-then-bad_region
 unfolding checked_by
 returns-then-bad_region c =
     let outer : (let s = c.args.s.now in c.survey_region.result ≡ checked_by (first_of (admit_rows s)) (counts_of s)) =
-        c.survey_region.ensures.value.0 (read_whole _ _ c.requires.s_value.0) in
+    c.survey_region.ensures.value.0 (read_whole _ _ c.requires.s_value.0) in
     let admits : (whole : Chart) → c.survey_region.result ≡ Passed whole
     → (let s = c.args.s.now in (first_of (admit_rows s) ≡ none) × (counts_of s ≡ whole)) =
-        λ whole q. passed_none _ _ _ (sym outer ∙ q) in
+    λ whole q. passed_none _ _ _ (sym outer ∙ q) in
     let n = entered-refused _ _ _ (sym (refused-region c.args.s.now c.args.region (admits _ c.in-Passed.is).0 (sym c.bad_region.ensures ∙ c.if-bad_region.true))) in
     record { value = rw n; survey = λ chart q. absurd (bad (cc)) }
 
@@ -46,34 +47,37 @@ pub returns-in-Refused : goal.returns-in-Refused
 unfolding checked_by
 returns-in-Refused c =
     let outer : (let s = c.args.s.now in c.survey_region.result ≡ checked_by (first_of (admit_rows s)) (counts_of s)) =
-        c.survey_region.ensures.value.0 (read_whole _ _ c.requires.s_value.0) in
+    c.survey_region.ensures.value.0 (read_whole _ _ c.requires.s_value.0) in
     let n = refused-some _ _ _ (sym outer ∙ c.in-Refused.is) in
     record { value = rw (entered-refused _ _ _ (sym (refused-first c.args.s.now c.args.region _ n))); survey = λ chart q. absurd (bad (cc)) }
 
 pub survey_region-requires-in-Passed : goal.survey_region-requires-in-Passed
 survey_region-requires-in-Passed c =
     let inner : c.read_for-inner.result.region ≢ outside =
-        λ q. c.requires.s_value.1 (sym (ap (λ (k : Chart). k.region) c.read_for-inner.ensures) ∙ q) in
+    λ q. c.requires.s_value.1 (sym (ap (λ (k : Chart). k.region) c.read_for-inner.ensures) ∙ q) in
     let A = (c.survey_region.ensures.survey _ c.in-Passed.is).accepted in
-    let N = named c.args.s.now c.args.region (sym c.bad_region.ensures ∙ c.if-bad_region.false) in record { accepted = (
+    let N = named c.args.s.now c.args.region (sym c.bad_region.ensures ∙ c.if-bad_region.false) in record {
+      accepted = (
         subst (Accepted c.args.s.now) (sym c.read_for-inner.ensures) (accepted-for _ _ A c.args.region N),
         λ q. absurd (inner q),
         refl,
-      ); both_framed = c.requires.both_framed }
+      );
+      both_framed = c.requires.both_framed;
+    }
 
 pub returns-else-bad_region : goal.returns-else-bad_region
 unfolding checked_by
 returns-else-bad_region c =
     let outer : (let s = c.args.s.now in c.survey_region.result ≡ checked_by (first_of (admit_rows s)) (counts_of s)) =
-        c.survey_region.ensures.value.0 (read_whole _ _ c.requires.s_value.0) in
+    c.survey_region.ensures.value.0 (read_whole _ _ c.requires.s_value.0) in
     let admits : (whole : Chart) → c.survey_region.result ≡ Passed whole
     → (let s = c.args.s.now in (first_of (admit_rows s) ≡ none) × (counts_of s ≡ whole)) =
-        λ whole q. passed_none _ _ _ (sym outer ∙ q) in
+    λ whole q. passed_none _ _ _ (sym outer ∙ q) in
     let inner : c.read_for-inner.result.region ≢ outside =
-        λ q. c.requires.s_value.1 (sym (ap (λ (k : Chart). k.region) c.read_for-inner.ensures) ∙ q) in
+    λ q. c.requires.s_value.1 (sym (ap (λ (k : Chart). k.region) c.read_for-inner.ensures) ∙ q) in
     let s = c.args.s.now in
     let p = c.args.region in
     let (admitted, counts) = admits _ c.in-Passed.is in
     let same = c.read_for-inner.ensures ∙ ap (λ (c : Chart). read_for c p) (sym counts) in
     let marked = marked-region s p admitted same (ap (λ (c : Chart). length (barriers (reading s c))) same) (sym c.bad_region.ensures ∙ c.if-bad_region.false) in
-    (c.survey_region-in-Passed.ensures.value.1 inner ∙ rw (entered-marked _ _ _ (sym marked), same) refl, c.survey_region-in let p = -Passed.ensures.survey) in record { value = p.0; survey = p.1 }
+    record { value = c.survey_region-in-Passed.ensures.value.1 inner ∙ rw (entered-marked _ _ _ (sym marked), same) refl; survey = c.survey_region-in-Passed.ensures.survey }

@@ -23,38 +23,48 @@ load_tables-loaded-requires c = (c.requires.accepted.0, blank_none, refl)
 pub asked-n-requires : goal.asked-n-requires
 asked-n-requires c =
     let is-accepted : Accepted c.args.s.now c.args.chart =
-        c.requires.accepted.0 in
-    let (T, (H, (S, N, Q, none))) = (c.load_tables-loaded.ensures.arranged, (c.load_tables-loaded.ensures.handed, c.load_tables-loaded.ensures.stops)) in
+    c.requires.accepted.0 in
+    let T = c.load_tables-loaded.ensures.arranged in
+    let H = c.load_tables-loaded.ensures.handed in
+    let (S, N, Q, none) = c.load_tables-loaded.ensures.stops in
     record { accepted = (is-accepted, c.requires.both_framed.0, c.requires.both_framed.1); by_index = (_, _, (_, (T, S))) }
 
 pub add_ends-total-requires : goal.add_ends-total-requires
 add_ends-total-requires c =
     let is-accepted : Accepted c.args.s.now c.args.chart =
-        c.requires.accepted.0 in
+    c.requires.accepted.0 in
     let A = is-accepted in
-    let (T, (H, (S, N, Q, none))) = (c.load_tables-loaded.ensures.arranged, (c.load_tables-loaded.ensures.handed, c.load_tables-loaded.ensures.stops)) in
+    let T = c.load_tables-loaded.ensures.arranged in
+    let H = c.load_tables-loaded.ensures.handed in
+    let (S, N, Q, none) = c.load_tables-loaded.ensures.stops in
     (few A N, asked-few c.asked-n.ensures (omega (arith, A.laid.constructs-most)), N.long)
 
 pub boundaries-requires : goal.boundaries-requires
 boundaries-requires c =
-    let (T, (H, (S, N, Q, none))) = (c.load_tables-loaded.ensures.arranged, (c.load_tables-loaded.ensures.handed, c.load_tables-loaded.ensures.stops)) in
+    let T = c.load_tables-loaded.ensures.arranged in
+    let H = c.load_tables-loaded.ensures.handed in
+    let (S, N, Q, none) = c.load_tables-loaded.ensures.stops in
     let D = c.add_ends-total.ensures in
     record { barriers_le_total = (D.least, D.most, rw c.requires.accepted.2 refl, refl, ready H); by_index = D.node c.requires.both_framed.1.node N.node }
 
 pub returns-returning-requires : goal.returns-returning-requires
 returns-returning-requires c =
     let is-accepted : Accepted c.args.s.now c.args.chart =
-        c.requires.accepted.0 in
+    c.requires.accepted.0 in
     let A = is-accepted in
-    let (T, (H, (S, N, Q, none))) = (c.load_tables-loaded.ensures.arranged, (c.load_tables-loaded.ensures.handed, c.load_tables-loaded.ensures.stops)) in
+    let T = c.load_tables-loaded.ensures.arranged in
+    let H = c.load_tables-loaded.ensures.handed in
+    let (S, N, Q, none) = c.load_tables-loaded.ensures.stops in
     let D = c.add_ends-total.ensures in record { n_bound = (asked-few c.asked-n.ensures (omega (arith, A.laid.constructs-most)), D.least, D.most, added-nothing D, c.boundaries.ensures.starts_len, ready H); by_index = (c.requires.both_framed.0.node, c.requires.both_framed.1.node) }
 
 pub conclude-lost-requires : goal.conclude-lost-requires
 conclude-lost-requires c =
     let is-accepted : Accepted c.args.s.now c.args.chart =
-        c.requires.accepted.0 in
+    c.requires.accepted.0 in
     let A = is-accepted in
-    let (T, (H, (S, N, Q, none))) = (c.load_tables-loaded.ensures.arranged, (c.load_tables-loaded.ensures.handed, c.load_tables-loaded.ensures.stops)) in
+    let T = c.load_tables-loaded.ensures.arranged in
+    let H = c.load_tables-loaded.ensures.handed in
+    let (S, N, Q, none) = c.load_tables-loaded.ensures.stops in
     let B = added-barriers N c.requires.both_framed.1.node c.add_ends-total.ensures in
     let (s, d, t) = c.boundaries.ensures.boundaries T.count _ T.split T.begins (standing S (well-formed _ _ A) B) in
     record { barriers_bound = (few A N, not_none A N, omega (arith, Q, A.laid.nodes-most), (c.returns-returning.ensures.barred _ _ _ s).long, (_, _, H.split)); by_index = B.node }
@@ -63,24 +73,31 @@ pub returns-then-refuses : goal.returns-then-refuses
 unfolding checked_by
 returns-then-refuses c =
     let is-accepted : Accepted c.args.s.now c.args.chart =
-        c.requires.accepted.0 in
+    c.requires.accepted.0 in
     let A = is-accepted in
     let W = well-formed _ _ A in
-    let (T, (H, (S, N, Q, none))) = (c.load_tables-loaded.ensures.arranged, (c.load_tables-loaded.ensures.handed, c.load_tables-loaded.ensures.stops)) in
+    let T = c.load_tables-loaded.ensures.arranged in
+    let H = c.load_tables-loaded.ensures.handed in
+    let (S, N, Q, none) = c.load_tables-loaded.ensures.stops in
     let B = added-barriers N c.requires.both_framed.1.node c.add_ends-total.ensures in
     let (s, d, t) = c.boundaries.ensures.boundaries T.count _ T.split T.begins (standing S W B) in
     let lost = c.conclude-lost.ensures.spread_of _ _ _ W T S B (c.returns-returning.ensures.barred _ _ _ s) t (Q ∙ sym (nodes-length _ _ A.laid)) in
-    let (whole, not) = c.refuses.ensures in record { value = (
+    let (whole, not) = c.refuses.ensures in record {
+      value = (
         λ q. rw (cut_off _ _ (c.requires.accepted.1 q) (sym lost ∙ sym (whole q) ∙ c.if-refuses.true)),
         λ n. let f = not n in let t = c.if-refuses.true in absurd (bad (cc)),
-      ); survey = λ chart q. absurd (bad (cc)) }
+      );
+      survey = λ chart q. absurd (bad (cc));
+    }
 
 pub fill_held-requires : goal.fill_held-requires
 fill_held-requires c =
     let is-accepted : Accepted c.args.s.now c.args.chart =
-        c.requires.accepted.0 in
+    c.requires.accepted.0 in
     let A = is-accepted in
-    let (T, (H, (S, N, Q, none))) = (c.load_tables-loaded.ensures.arranged, (c.load_tables-loaded.ensures.handed, c.load_tables-loaded.ensures.stops)) in
+    let T = c.load_tables-loaded.ensures.arranged in
+    let H = c.load_tables-loaded.ensures.handed in
+    let (S, N, Q, none) = c.load_tables-loaded.ensures.stops in
     let D = c.add_ends-total.ensures in
     let B = added-barriers N c.requires.both_framed.1.node D in
     let (s, d, t) = c.boundaries.ensures.boundaries T.count _ T.split T.begins (standing S (well-formed _ _ A) B) in (
@@ -93,25 +110,31 @@ pub returns : goal.returns
 unfolding checked_by checked
 returns c =
     let is-accepted : Accepted c.args.s.now c.args.chart =
-        c.requires.accepted.0 in
+    c.requires.accepted.0 in
     let A = is-accepted in
     let W = well-formed _ _ A in
-    let (T, (H, (S, N, Q, none))) = (c.load_tables-loaded.ensures.arranged, (c.load_tables-loaded.ensures.handed, c.load_tables-loaded.ensures.stops)) in
+    let T = c.load_tables-loaded.ensures.arranged in
+    let H = c.load_tables-loaded.ensures.handed in
+    let (S, N, Q, none) = c.load_tables-loaded.ensures.stops in
     let B = added-barriers N c.requires.both_framed.1.node c.add_ends-total.ensures in
     let (s, d, t) = c.boundaries.ensures.boundaries T.count _ T.split T.begins (standing S W B) in
     let first = c.returns-returning.ensures.barred _ _ _ s in
-    let (lost, marked) = (c.conclude-lost.ensures.spread_of, c.conclude-lost.ensures.spread_of_2) in
+    let lost = c.conclude-lost.ensures.spread_of in
+    let marked = c.conclude-lost.ensures.spread_of_2 in
     let (starts, ends) = marked _ _ _ W T S B first t in
-    let (whole, _) = c.refuses.ensures in record { value = (
+    let (whole, _) = c.refuses.ensures in record {
+      value = (
         λ q.
             let h = c.requires.accepted.1 q in
             let admits = connects _ _ h (sym (lost _ _ _ W T S B first t (Q ∙ sym (nodes-length _ _ A.laid))) ∙ sym (whole q) ∙ c.if-refuses.false) in
             let counts = (passed_none (first_of (chart_rows c.args.s.now)) (counts_of c.args.s.now) c.args.chart h).1 in
             rw (admits, counts),
         λ n. refl,
-      ); survey = λ chart q.
-          let c : c.args.chart ≡ chart = cc in
-          rw (← c) (record {
+      );
+      survey = λ chart q.
+          let same : c.args.chart ≡ chart = cc in
+          rw (← same) (record {
             accepted = A;
             marked = all-marks _ _ A c.args.marks.now _ _ _ (rw c.requires.accepted.2 refl) starts ends c.fill_held.ensures.held_below c.fill_held.ensures.kinds;
-          }) }
+          });
+    }
