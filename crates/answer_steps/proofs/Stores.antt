@@ -16,7 +16,7 @@ use Rattle.lists.specs.Mask.{Has, Mask, mask_of, mask-of, mask_is, mask-either, 
 use Rattle.lists.specs.Bits.{mask-empty}
 use Rattle.lists.specs.Store.{at_set}
 use Rattle.theory_team.specs.State.{State, update, moved, left, took}
-use Rattle.theory_team.specs.Laws.{update-at, update-off}
+use Rattle.theory_team.proofs.Laws.{update-at, update-off}
 use Rattle.theory_traces.specs.Decide.{apply}
 use Rattle.theory_traces.specs.declared.Effect.{Effect}
 use Rattle.answer_steps.specs.Tables.{Shows}

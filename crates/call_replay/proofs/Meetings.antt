@@ -11,7 +11,7 @@ use Rattle.lists.specs.Truth.{same_truth, or_left, or_right, or_cases}
 use Rattle.lists.specs.Means.{both_of, either-of, not-of, equal_of}
 use Rattle.lists.specs.Range.{any, any_at, at-any}
 use Rattle.theory_team.specs.State.{State, moved, left, took}
-use Rattle.theory_team.specs.Laws.{update-off}
+use Rattle.theory_team.proofs.Laws.{update-off}
 use Rattle.theory_traces.specs.Decide.{apply}
 use Rattle.theory_traces.specs.Legal.{Together}
 use Rattle.theory_traces.specs.Replay.{together}

@@ -19,7 +19,7 @@ use Rattle.theory_paths.specs.AdmissionLaws.{admitted-rows, admitted-well-formed
 use Rattle.theory_team.specs.Run.{ConcurrentIn}
 use Rattle.theory_team.specs.Meets.{Meets, concurrent-meets}
 use Rattle.theory_team.specs.Locks.{InCritical}
-use Rattle.theory_team.specs.SomeLocks.{none-locked}
+use Rattle.theory_team.proofs.SomeLocksLaws.{none-locked}
 use Rattle.theory_answers.specs.Answer.{answer_for}
 use Rattle.theory_answers.specs.AnswerLaws.{in-of}
 use Rattle.theory_answers.specs.SizeLaws.{answer-for}

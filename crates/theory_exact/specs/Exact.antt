@@ -11,7 +11,7 @@ use Rattle.theory_paths.specs.Path.{Open}
 use Rattle.theory_paths.specs.Connected.{Connected}
 use Rattle.theory_team.specs.Run.{ConcurrentIn, Concurrent}
 use Rattle.theory_team.specs.Meets.{Meets, concurrent-meets}
-use Rattle.theory_team.specs.Laws.{two-threads}
+use Rattle.theory_team.proofs.Laws.{two-threads}
 use Rattle.theory_answers.specs.Unexcluded.{HasThreads, Unexcluded}
 use Rattle.theory_exact.specs.Barred.{Unbarred, unexcluded-unbarred}
 use Rattle.theory_exact.specs.Nesting.{Within, Without, within}

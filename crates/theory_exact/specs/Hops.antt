@@ -12,7 +12,7 @@ use Rattle.theory_paths.specs.Assigned.{assigned}
 use Rattle.theory_paths.specs.PathLaws.{append}
 use Rattle.theory_team.specs.State.{State}
 use Rattle.theory_team.specs.Step.{ThreadStep, move, enter, pass, again, take, take_next}
-use Rattle.theory_team.specs.Laws.{one-construct, move-no-barrier}
+use Rattle.theory_team.proofs.Laws.{one-construct, move-no-barrier}
 use Rattle.theory_answers.specs.Unexcluded.{Returns}
 use Rattle.theory_exact.specs.Constructs.{AfterBegin, BeforeEnd, back, forth, inside-open, entry, exit, through}
 

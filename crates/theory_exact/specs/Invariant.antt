@@ -14,8 +14,8 @@ use Rattle.theory_paths.specs.Connected.{Connected}
 use Rattle.theory_team.specs.State.{State, initial, released}
 use Rattle.theory_team.specs.Step.{First, NoneOrdered, MayEnter, ThreadStep, Step, one, release}
 use Rattle.theory_team.specs.Run.{Run, done, step, Finished}
-use Rattle.theory_team.specs.Laws.{released-at, released-count, one-construct, Counted, arrives, node_kept, count_kept, taken-kept, own-taken, counted, enters, no-barrier}
-use Rattle.theory_team.specs.SectionLaws.{section-once}
+use Rattle.theory_team.proofs.Laws.{released-at, released-count, one-construct, Counted, arrives, node_kept, count_kept, taken-kept, own-taken, counted, enters, no-barrier}
+use Rattle.theory_team.proofs.SectionLaws.{section-once}
 use Rattle.theory_answers.specs.Unexcluded.{Returns}
 use Rattle.theory_exact.specs.Constructs.{AfterBegin, inside-open}
 use Rattle.theory_exact.specs.Nesting.{inside-do, is-do}

@@ -16,7 +16,7 @@ use Rattle.theory_paths.specs.Connected.{Connected}
 use Rattle.theory_paths.specs.PathLaws.{Rest}
 use Rattle.theory_team.specs.State.{State, left, took}
 use Rattle.theory_team.specs.Step.{First, Untaken, ThreadStep, take}
-use Rattle.theory_team.specs.Laws.{update-at, arrives, took-off}
+use Rattle.theory_team.proofs.Laws.{update-at, arrives, took-off}
 use Rattle.theory_answers.specs.Unexcluded.{Returns}
 use Rattle.theory_exact.specs.Nesting.{single-outermost, sections-outermost, do-outermost, Exclusive, exclusive-outermost, exclusive-or-do, is-do}
 use Rattle.theory_exact.specs.Invariant.{rises}

@@ -11,7 +11,7 @@ use Rattle.theory_paths.specs.Connected.{Connected}
 use Rattle.theory_paths.specs.PathLaws.{Rest, first_edge}
 use Rattle.theory_team.specs.State.{State, update, released}
 use Rattle.theory_team.specs.Run.{Run, step}
-use Rattle.theory_team.specs.Laws.{update-at, update-off, released-at, released-count}
+use Rattle.theory_team.proofs.Laws.{update-at, update-off, released-at, released-count}
 use Rattle.theory_exact.specs.Hops.{EndsAt, released-outside}
 use Rattle.theory_exact.specs.Runs.{append}
 use Rattle.theory_exact.specs.Invariant.{MasterOf}

@@ -10,7 +10,7 @@ use Rattle.theory_paths.specs.Path.{Open}
 use Rattle.theory_paths.specs.Connected.{Connected}
 use Rattle.theory_team.specs.State.{State, left}
 use Rattle.theory_team.specs.Step.{First, NotFirst, MayPass, ThreadStep, pass}
-use Rattle.theory_team.specs.Laws.{arrives}
+use Rattle.theory_team.proofs.Laws.{arrives}
 use Rattle.theory_answers.specs.Unexcluded.{Returns}
 use Rattle.theory_exact.specs.Hops.{end-top}
 use Rattle.theory_exact.specs.Invariant.{rises}

@@ -8,7 +8,7 @@ use Rattle.chart.specs.WellFormed.{WellFormed}
 use Rattle.theory_team.specs.State.{State}
 use Rattle.theory_team.specs.Step.{ThreadStep, one}
 use Rattle.theory_team.specs.Run.{Run, done, step}
-use Rattle.theory_team.specs.Laws.{node_kept, count_kept, taken-kept, own-taken, counted}
+use Rattle.theory_team.proofs.Laws.{node_kept, count_kept, taken-kept, own-taken, counted}
 use Rattle.theory_exact.specs.Runs.{append}
 use Rattle.theory_exact.specs.Invariant.{grows}
 

@@ -10,8 +10,9 @@ use Rattle.theory_team.specs.State.{State, initial}
 use Rattle.theory_team.specs.Step.{ThreadStep, Step, one, release}
 use Rattle.theory_team.specs.Run.{Run, StateOf, now, later}
 use Rattle.theory_team.specs.Locks.{InCritical, LockedIn}
-use Rattle.theory_team.specs.SomeLocks.{InLocking, KeepsSome, LockedSome, all_in, all-locked}
-use Rattle.theory_team.specs.Laws.{arrives, node_kept, released-at}
+use Rattle.theory_team.specs.SomeLocks.{InLocking, KeepsSome, LockedSome}
+use Rattle.theory_team.proofs.SomeLocksLaws.{all_in, all-locked}
+use Rattle.theory_team.proofs.Laws.{arrives, node_kept, released-at}
 use Rattle.theory_exact.specs.Constructs.{inside-open}
 use Rattle.theory_exact.specs.Hops.{Reenters, hop, came_from, released-outside}
 

@@ -12,7 +12,7 @@ use Rattle.theory_paths.specs.PathLaws.{first_edge, extend}
 use Rattle.theory_team.specs.State.{State, released}
 use Rattle.theory_team.specs.Step.{NoneOrdered, Step, release}
 use Rattle.theory_team.specs.Run.{Run, done, step}
-use Rattle.theory_team.specs.Laws.{released-at}
+use Rattle.theory_team.proofs.Laws.{released-at}
 use Rattle.theory_exact.specs.Constructs.{inside-open}
 use Rattle.theory_exact.specs.Hops.{EndsAt, released-outside}
 use Rattle.theory_exact.specs.Runs.{append}

@@ -15,7 +15,7 @@ use Rattle.theory_paths.specs.Connected.{Connected}
 use Rattle.theory_paths.specs.PathLaws.{Rest}
 use Rattle.theory_team.specs.State.{State}
 use Rattle.theory_team.specs.Step.{First, NotFirst, NoneOrdered, Untaken, MayEnter, MayPass, MayMove, ThreadStep, move, enter, pass, take}
-use Rattle.theory_team.specs.Laws.{one-construct, move-no-begin, arrives, count_kept, node_kept}
+use Rattle.theory_team.proofs.Laws.{one-construct, move-no-begin, arrives, count_kept, node_kept}
 use Rattle.theory_exact.specs.Nesting.{is-do, sections-outermost}
 use Rattle.theory_exact.specs.Hops.{end-top}
 use Rattle.theory_exact.specs.Invariant.{MasterOf, rises, stays}

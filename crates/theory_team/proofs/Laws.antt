@@ -1,5 +1,5 @@
 -- First consequences of the team rules: what a step changes and what it leaves, who leaves a barrier, who enters a single, and what a
--- concurrent pair needs. Those for sections are in specs/SectionLaws.antt.
+-- concurrent pair needs. Those for sections are in proofs/SectionLaws.antt.
 -- Assumes nothing.
 use Rattle.std.specs.Prelude.{◌≡◌, ◌⊎◌, ◌≢◌, true, ℕ, suc, ◌≤◌, ◌<◌}
 use Rattle.std.proofs.Math.Path.{refl}

@@ -10,7 +10,7 @@ use Rattle.chart.specs.WellFormed.{WellFormed}
 use Rattle.chart.proofs.Sections.{assigned-from}
 use Rattle.theory_team.specs.State.{State, moved, left, took}
 use Rattle.theory_team.specs.Step.{Untaken, AllTaken, MayEnter, MayMove, ThreadStep, move, enter, pass, again, take, take_next}
-use Rattle.theory_team.specs.Laws.{one-construct, move-no-begin, took-at, Counted, counted}
+use Rattle.theory_team.proofs.Laws.{one-construct, move-no-begin, took-at, Counted, counted}
 
 -- Node v is the begin of a section of c that no thread has taken in the k-th instance of c.
 abbrev pub Takes : Region → ℕ → State → ℕ → ℕ → ℕ → Type 0
