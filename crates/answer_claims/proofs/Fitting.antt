@@ -10,7 +10,7 @@ use lib.ListN.{length, get_or, get_or-eq_default}
 use Rattle.chart.specs.Region.{Region}
 use Rattle.chart.specs.WellFormed.{WellFormed}
 use Rattle.theory_calls.specs.Claims.{bad_numbers}
-use Rattle.theory_calls.specs.CorrectLaws.{good-numbers}
+use Rattle.theory_calls.proofs.CorrectLaws.{good-numbers}
 
 -- numbers that are not refused fit the tables; past the list's end stands 0
 pub numbers_fit : (R : Region) (claims : List ℕ) → WellFormed R → R.nodes ≤ 192 → bad_numbers R claims ≡ false → (j : ℕ) → get_or claims j 0 < 192

@@ -15,11 +15,11 @@ use Rattle.chart.specs.Region.{Kind, single, master, loop, section, Region}
 use Rattle.chart.specs.WellFormed.{WellFormed}
 use Rattle.chart.proofs.Sections.{section-below}
 use Rattle.theory_answers.specs.Answer.{no_common, no_common_phase, both_in_masters, both_in_single, both_in_ordereds, both_in_section, answer, lacks_thread, answer_in, answer_for}
-use Rattle.theory_answers.specs.SizeLaws.{lacks-of}
+use Rattle.theory_answers.proofs.SizeLaws.{lacks-of}
 use Rattle.theory_answers.specs.declared.Size.{Size}
 use Rattle.theory_answers.specs.declared.Size.TheVariants.{Any, Of}
 use Rattle.theory_answers.specs.Unexcluded.{Common}
-use Rattle.theory_answers.specs.AnswerLaws.{do-below, no-common-of, masters-of, single_of, ordereds-of, section-of}
+use Rattle.theory_answers.proofs.AnswerLaws.{do-below, no-common-of, masters-of, single_of, ordereds-of, section-of}
 use Rattle.theory_paths.specs.Phases.{Direction, forward, backward, Boundary, barriers, barrier_at, marked, marks}
 use Rattle.theory_paths.specs.PhasesLaws.{Marked, marked-means, barrier-number}
 use Rattle.answer_constructs.specs.Marks.{Holds, Held, OfKind, Kinds, Lacked, Sized, starts_in, ends_in, held_in, Marks}

@@ -14,7 +14,7 @@ use Rattle.chart.proofs.Rows.{first-decides, second-decides}
 use Rattle.theory_paths.specs.Admission.{admit_rows, Admitted}
 use Rattle.theory_edits.specs.Splice.{inserted}
 use Rattle.theory_edits.specs.Edits.{ask_rows, receipt_for, asked_by, asked}
-use Rattle.theory_edits.specs.NoNode.{no_node_row, no-node-refused, Unchanged, as_bytes}
+use Rattle.theory_edits.proofs.NoNode.{no_node_row, no-node-refused, Unchanged, as_bytes}
 use Rattle.theory_edits.specs.declared.Receipt.{Receipt}
 use Rattle.theory_edits.specs.declared.Asked.TheVariants.{Admitted as Granted, Refused}
 use Rattle.call_edges.specs.Asking.{front_rows, receipt_on, asked_on}

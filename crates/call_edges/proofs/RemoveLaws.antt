@@ -23,9 +23,9 @@ use Rattle.output.specs.declared.Written.TheVariants.{Bytes, Refused}
 use Rattle.output.proofs.Outputs.{refused}
 use Rattle.theory_edits.specs.Splice.{removed}
 use Rattle.theory_edits.specs.Edits.{no_edge_row, remove_rows, remove_written, remove_left}
-use Rattle.theory_edits.specs.SpliceLaws.{removed-length}
-use Rattle.theory_edits.specs.EditLaws.{admitted-laid, admitted-rising}
-use Rattle.theory_edits.specs.NoNode.{no-node-lacking, as_bytes}
+use Rattle.theory_edits.proofs.SpliceLaws.{removed-length}
+use Rattle.theory_edits.proofs.EditLaws.{admitted-laid, admitted-rising}
+use Rattle.theory_edits.proofs.NoNode.{no-node-lacking, as_bytes}
 use Rattle.call_edges.specs.Asking.{front_rows}
 use Rattle.call_edges.proofs.CheckLaws.{within, front-admitted}
 use Rattle.call_edges.specs.Removing.{short_rows, short_left}

@@ -6,7 +6,7 @@ use mathlib.Core.List.{List, [], ◌∷◌}
 use Prim.Native.Nat.{ℕ, suc, ◌+◌, ◌≤◌, ◌<◌}
 use native.Mathlib.Omega.{arith}
 use Rattle.theory_listing.specs.Tree.{stop, closes, cell, two}
-use Rattle.theory_listing.specs.Flow.{two-same}
+use Rattle.theory_listing.proofs.Flow.{two-same}
 use Rattle.call_listing.specs.Stored.{Stored}
 use Rattle.call_listing.specs.Reads.{end_cells}
 use Rattle.call_listing.proofs.Joining.{stored-joined}

@@ -12,7 +12,7 @@ use Rattle.chart_writing.specs.Bytes.{field_bytes}
 use Rattle.chart_writing.specs.Encode.{flat}
 use Rattle.theory_listing.specs.Tree.{Block, end, plain, barrier, loop, branch, around, node_count, construct_count, first, simple, stop, opens, Cell, cell, two, cells, constructs}
 use Rattle.theory_listing.specs.Grammar.{Item, one_plain, one-barrier, one-loop, one-branch, one-around, put}
-use Rattle.theory_listing.specs.Flow.{two-same}
+use Rattle.theory_listing.proofs.Flow.{two-same}
 use Rattle.call_listing.specs.Stored.{Stored, StoredParts}
 use Rattle.call_listing.specs.declared.tables.Spot.{Spot}
 use Rattle.call_listing.specs.Reads.{Filled, end_cells}

@@ -26,9 +26,9 @@ use Rattle.theory_listing.specs.Grammar.{Read, up_to, stopped, pick, listed}
 use Rattle.theory_listing.specs.GrammarLaws.{Kinds, Fine, listed-fine}
 use Rattle.theory_listing.specs.Meaning.{block_bytes}
 use Rattle.theory_listing.specs.Call.{block_read, stopped_by, too_many, block_rows, listing_bytes, listing_rows, listing_written, listing_left}
-use Rattle.theory_listing.specs.Counts.{too_many_lem, length-block_constructs}
-use Rattle.theory_listing.specs.BlockTables.{length-nodes}
-use Rattle.theory_listing.specs.Admitted.{block-decoded, block-laid}
+use Rattle.theory_listing.proofs.Counts.{too_many_lem, length-block_constructs}
+use Rattle.theory_listing.proofs.BlockTables.{length-nodes}
+use Rattle.theory_listing.proofs.Admitted.{block-decoded, block-laid}
 use Rattle.call_listing.specs.declared.reader.Extent.{Extent}
 use Rattle.call_listing.specs.declared.reader.Extent.TheVariants.{UpTo, Stopped}
 use Rattle.call_listing.specs.Extent.{refused, extent_of, limited_to}

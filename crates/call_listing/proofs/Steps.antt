@@ -12,7 +12,7 @@ use borrow.Author.Tests.{le-ltb, lt-ltb, eq-eqb, ne_eqb}
 use Rattle.chart.specs.Scope.{single_byte, loop_byte}
 use Rattle.theory_listing.specs.Tree.{Block, end, node_count, construct_count}
 use Rattle.theory_listing.specs.Grammar.{plain_letter, barrier_letter, loop_letter, branch_letter, nowait_letter, open_brace, close_brace, most_depth, Item, one_plain, one-barrier, one-loop, one-branch, one-around, put, Read, up_to, stopped, after, pick, stands, braced, letter_kind, followed, item_by, block_of, listed}
-use Rattle.theory_listing.specs.Counts.{too_many_lem}
+use Rattle.theory_listing.proofs.Counts.{too_many_lem}
 use Rattle.call_listing.specs.declared.reader.Extent.{Extent}
 use Rattle.call_listing.specs.declared.reader.Extent.TheVariants.{UpTo, Stopped}
 use Rattle.call_listing.specs.Extent.{refused, extent_of, alone, item_extent, onward, added_to, closed_at, followed_at, limited_to}

@@ -17,10 +17,10 @@ use Rattle.chart_writing.specs.Encode.{flat, encode}
 use Rattle.chart_writing.specs.Trailer.{trailer_for}
 use Rattle.theory_listing.specs.Tree.{Block, node_count, construct_count, first, stop, cell, two, cells, constructs}
 use Rattle.theory_listing.specs.Grammar.{most_depth, Read, up_to, stopped, after, pick, block_of, listed}
-use Rattle.theory_listing.specs.Flow.{two-same}
+use Rattle.theory_listing.proofs.Flow.{two-same}
 use Rattle.theory_listing.specs.Meaning.{kind_byte, whole, edges_of, block_nodes, block_edges, block_constructs, block_bytes}
-use Rattle.theory_listing.specs.BlockTables.{length-nodes}
-use Rattle.theory_listing.specs.Counts.{length-block_constructs, block-length}
+use Rattle.theory_listing.proofs.BlockTables.{length-nodes}
+use Rattle.theory_listing.proofs.Counts.{length-block_constructs, block-length}
 use Rattle.call_listing.specs.Stored.{Stored, StoredParts}
 use Rattle.call_listing.specs.Chart.{Tabled}
 use Rattle.call_listing.proofs.Joining.{stored-joined}

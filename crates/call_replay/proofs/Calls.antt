@@ -16,7 +16,7 @@ use Rattle.chart.proofs.Rows.{first-decides, second-decides}
 use Rattle.theory_paths.specs.Admission.{region_rows}
 use Rattle.output.specs.Output.{room_row, output_rows, left_by, content}
 use Rattle.theory_traces.specs.Call.{bad_trace, replay_rows, answered, replay_answer, sheet_left}
-use Rattle.theory_traces.specs.CorrectLaws.{passed-team, replay-correct}
+use Rattle.theory_traces.proofs.CorrectLaws.{passed-team, replay-correct}
 use Rattle.theory_traces.specs.declared.Thread.{Thread}
 use Rattle.theory_traces.specs.declared.Replayed.TheVariants.{Refused}
 use Rattle.call_replay.specs.Team.{count_by}

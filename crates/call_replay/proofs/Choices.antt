@@ -18,7 +18,7 @@ use Rattle.chart.specs.Region.{Region}
 use Rattle.theory_team.specs.State.{State, released}
 use Rattle.theory_traces.specs.Decide.{decide, apply, allowed}
 use Rattle.theory_traces.specs.Replay.{Play, together, reached, gathered, chosen_now, choose, stepped, feed}
-use Rattle.theory_traces.specs.ReplayLaws.{together-of}
+use Rattle.theory_traces.proofs.ReplayLaws.{together-of}
 use Rattle.answer_steps.specs.Tables.{Shows}
 use Rattle.answer_steps.proofs.Stores.{left-kept, others-kept}
 use Rattle.call_replay.specs.PairsMet.{Sheet}

@@ -10,7 +10,7 @@ use Rattle.lists.specs.Tab.{tab}
 use Rattle.chart.specs.Refusal.{first_of}
 use Rattle.theory_traces.specs.Call.{replay_rows, record_of, records_by, final, replay_answer, records_left, sheet_left, values_of}
 use Rattle.theory_traces.specs.Correct.{ReplayCorrect}
-use Rattle.theory_traces.specs.CorrectLaws.{passed-team, replay-correct}
+use Rattle.theory_traces.proofs.CorrectLaws.{passed-team, replay-correct}
 use Rattle.theory_traces.specs.declared.Replayed.{Replayed}
 use Rattle.theory_traces.specs.declared.Thread.{Thread}
 use Rattle.call_replay.specs.Team.{count_by, refused, Counts, Records}

@@ -15,7 +15,7 @@ use Rattle.theory_team.proofs.Laws.{update-off}
 use Rattle.theory_traces.specs.Decide.{apply}
 use Rattle.theory_traces.specs.Legal.{Together}
 use Rattle.theory_traces.specs.Replay.{together}
-use Rattle.theory_traces.specs.ReplayLaws.{together-of}
+use Rattle.theory_traces.proofs.ReplayLaws.{together-of}
 use Rattle.theory_traces.specs.declared.Effect.{Effect}
 use Rattle.theory_traces.specs.declared.Effect.TheVariants.{None, Moves, Leaves, Takes, TakesNext}
 use Rattle.call_replay.specs.PairsMet.{meet, meets, next_thread}

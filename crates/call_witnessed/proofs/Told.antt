@@ -17,7 +17,7 @@ use Rattle.chart.proofs.Rows.{first-decides, second-decides}
 use Rattle.theory_paths.specs.Admission.{region_rows}
 use Rattle.theory_calls.specs.Pair.{numbers_row}
 use Rattle.theory_calls.specs.Witness.{is_ended, is_witness, witness_rows, answered_by, witnessed}
-use Rattle.theory_calls.specs.WitnessLaws.{byte-is}
+use Rattle.theory_calls.proofs.WitnessLaws.{byte-is}
 use Rattle.theory_calls.specs.declared.Witnessed.{Witnessed}
 use Rattle.theory_calls.specs.declared.Witnessed.TheVariants.{Refused}
 use Rattle.theory_traces.specs.Call.{bad_trace}

@@ -1,7 +1,5 @@
 pub mod Answer
 pub mod Unexcluded
-pub mod AnswerLaws
-pub mod SizeLaws
 pub mod Starred
 pub mod Numbers
 pub mod Size

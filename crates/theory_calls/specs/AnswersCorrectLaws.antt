@@ -19,7 +19,7 @@ use Rattle.theory_paths.specs.Admission.{region_rows}
 use Rattle.theory_paths.specs.AdmissionLaws.{admitted-well-formed}
 use Rattle.theory_answers.specs.Answer.{answer_for}
 use Rattle.theory_answers.specs.Unexcluded.{AnswersFor}
-use Rattle.theory_answers.specs.SizeLaws.{for-unique, answer-for}
+use Rattle.theory_answers.proofs.SizeLaws.{for-unique, answer-for}
 use Rattle.theory_answers.specs.Numbers.{Asked, asked, asked-node, node-asked}
 use Rattle.theory_answers.specs.Size.{size_rows}
 use Rattle.theory_answers.specs.Sheet.{entry, sheet, sheet-length, sheet-at}

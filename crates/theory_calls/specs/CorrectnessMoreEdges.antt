@@ -11,10 +11,11 @@ use Rattle.chart.specs.Reading.{region_of}
 use Rattle.chart.specs.Refusal.{first_of}
 use Rattle.chart.proofs.Rows.{second-decides, both-pass}
 use Rattle.theory_paths.specs.Admission.{region_rows, Admitted}
-use Rattle.theory_answers.specs.SizeLaws.{answer-number}
+use Rattle.theory_answers.proofs.SizeLaws.{answer-number}
 use Rattle.theory_answers.specs.Numbers.{Asked, asked, asked-node, node-asked, bad_number}
 use Rattle.theory_answers.specs.Size.{size_rows}
-use Rattle.theory_answers.specs.MoreEdges.{MoreEdges, Widens, kept_for, same_asked, widens, smaller-in}
+use Rattle.theory_answers.specs.MoreEdges.{MoreEdges, Widens}
+use Rattle.theory_answers.proofs.MoreEdgesLaws.{kept_for, same_asked, widens, smaller-in}
 use Rattle.theory_answers.specs.declared.Size.{Size}
 use Rattle.output.specs.Output.{output_rows}
 use Rattle.theory_calls.specs.Pair.{numbers_row, pair_rows_for}

@@ -1,8 +1,6 @@
 pub mod Claims
 pub mod Correct
-pub mod CorrectLaws
 pub mod Judged
-pub mod MoreEdges
 pub mod Admission
 pub mod Bytes
 pub mod Pair
@@ -12,13 +10,10 @@ pub mod Distances
 pub mod Access
 pub mod Races
 pub mod Race
-pub mod RaceLaws
 pub mod Locks
 pub mod LocksLaws
-pub mod Known
 pub mod LockedRun
 pub mod Witness
-pub mod WitnessLaws
 pub mod PhasesCorrect
 pub mod PhasesCorrectLaws
 pub mod AdmitCorrectLaws
@@ -29,8 +24,6 @@ pub mod NeverMet
 pub mod DistancesCorrect
 pub mod DistancesCorrectLaws
 pub mod RacesCorrect
-pub mod RacesCorrectLaws
 pub mod LocksCorrect
 pub mod LocksCorrectLaws
 pub mod WitnessedCorrect
-pub mod WitnessedCorrectLaws

@@ -14,7 +14,7 @@ use Rattle.theory_paths.specs.Admission.{region_rows, AdmittedIn}
 use Rattle.theory_paths.specs.AdmissionLaws.{admitted-well-formed, admitted-connected}
 use Rattle.theory_answers.specs.Size.{size_rows}
 use Rattle.theory_answers.specs.declared.Size.{Size}
-use Rattle.theory_exact.specs.Dropped.{dropped, always-dropped}
+use Rattle.theory_exact.proofs.Dropped.{dropped, always-dropped}
 use Rattle.output.specs.Output.{number_of}
 use Rattle.output.proofs.OutputCorrectLaws.{output-correct, output-only}
 use Rattle.theory_calls.specs.Locks.{is_critical, needed, ever_needed, lock_byte, locks_result, locks_written_for, locks_left_for}

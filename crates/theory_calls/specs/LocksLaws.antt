@@ -21,17 +21,18 @@ use Rattle.theory_team.specs.Meets.{Meets, concurrent-meets}
 use Rattle.theory_team.specs.Locks.{InCritical}
 use Rattle.theory_team.proofs.SomeLocksLaws.{none-locked}
 use Rattle.theory_answers.specs.Answer.{answer_for}
-use Rattle.theory_answers.specs.AnswerLaws.{in-of}
-use Rattle.theory_answers.specs.SizeLaws.{answer-for}
+use Rattle.theory_answers.proofs.AnswerLaws.{in-of}
+use Rattle.theory_answers.proofs.SizeLaws.{answer-for}
 use Rattle.theory_answers.specs.Unexcluded.{In}
 use Rattle.theory_answers.specs.declared.Size.{Size}
 use Rattle.theory_answers.specs.declared.Size.TheVariants.{Any, Of}
 use Rattle.theory_exact.specs.Constructs.{inside-open}
-use Rattle.theory_exact.specs.Answered.{ConcurrentFor, exact-for}
+use Rattle.theory_exact.specs.Answered.{ConcurrentFor}
+use Rattle.theory_exact.proofs.AnsweredFor.{exact-for}
 use Rattle.theory_exact.specs.Barred.{is_barred_for}
-use Rattle.theory_exact.specs.BarredLaws.{barred-for-of}
-use Rattle.theory_exact.specs.Unmet.{MeetsFor}
-use Rattle.theory_exact.specs.Met.{meets-exact}
+use Rattle.theory_exact.proofs.BarredLaws.{barred-for-of}
+use Rattle.theory_exact.proofs.Unmet.{MeetsFor}
+use Rattle.theory_exact.proofs.MetLaws.{meets-exact}
 use Rattle.theory_exact.specs.Droppable.{Droppable, AlwaysDroppable, Fits, Enough, AlwaysEnough}
 use Rattle.theory_calls.specs.Locks.{opening, is_critical, in_named, some_pair, needed, ever_needed}
 

@@ -2,14 +2,9 @@ pub mod Splice
 pub mod Edits
 pub mod Cut
 pub mod PlaceLaws
-pub mod SpliceLaws
 pub mod AskCorrect
 pub mod AskingLaws
 pub mod Loosening
-pub mod EditLaws
-pub mod NoNode
 pub mod Known
 pub mod InsertCorrect
-pub mod InsertCorrectLaws
 pub mod RemoveCorrect
-pub mod RemoveCorrectLaws

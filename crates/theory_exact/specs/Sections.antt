@@ -17,7 +17,7 @@ use Rattle.theory_team.specs.State.{State, moved, left, took}
 use Rattle.theory_team.specs.Step.{Taken, Untaken, AllTaken, MayEnter, MayPass, MayMove, ThreadStep, move, enter, pass, take, take_next}
 use Rattle.theory_team.proofs.Laws.{update-at, update-off, one-construct, arrives, took-at}
 use Rattle.theory_answers.specs.Answer.{in_section}
-use Rattle.theory_answers.specs.AnswerLaws.{in-section-of}
+use Rattle.theory_answers.proofs.AnswerLaws.{in-section-of}
 use Rattle.theory_exact.specs.Constructs.{inside-open, exit}
 use Rattle.theory_exact.specs.Nesting.{sections-outermost}
 use Rattle.theory_exact.specs.Invariant.{rises}

@@ -4,14 +4,6 @@ pub mod Meaning
 pub mod Call
 pub mod Items
 pub mod Place
-pub mod Flow
-pub mod CellTables
-pub mod BlockTables
-pub mod Admitted
 pub mod GrammarLaws
-pub mod CallLaws
 pub mod Known
-pub mod Counts
-pub mod Barred
 pub mod ListingCorrect
-pub mod ListingCorrectLaws

@@ -13,7 +13,7 @@ use Rattle.chart.specs.InSection.{SectionOf}
 use Rattle.chart.specs.WellFormed.{WellFormed}
 use Rattle.theory_team.specs.State.{State}
 use Rattle.theory_team.specs.Step.{First, NotFirst, NoneOrdered, Taken, Untaken, AllTaken, MayEnter, MayPass}
-use Rattle.theory_answers.specs.AnswerLaws.{ordered_of}
+use Rattle.theory_answers.proofs.AnswerLaws.{ordered_of}
 use Rattle.theory_traces.specs.Tests.{is_kind, is_first, none_ordered, is_untaken, is_opening, is_section_of, all_taken, may_enter, may_pass, may_leave}
 
 pub own : (t : Bool) → (t ≡ true) ↔ (t ≡ true)

@@ -13,7 +13,7 @@ use Rattle.output.specs.Output.{output_rows, written_by}
 use Rattle.output.proofs.Outputs.{had-room, kept, put}
 use Rattle.theory_calls.specs.Access.{total, bad_accesses}
 use Rattle.theory_calls.specs.Races.{races}
-use Rattle.theory_calls.specs.RaceLaws.{few-accesses, races-length}
+use Rattle.theory_calls.proofs.RaceLaws.{few-accesses, races-length}
 use Rattle.answer_races.proofs.RowsLaws.{few-pairs}
 use Rattle.call_races.proofs.Outcome.{list-refused, list-passed}
 use borrow.Author.Rules.{rules}

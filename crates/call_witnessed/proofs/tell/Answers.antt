@@ -13,7 +13,7 @@ use Rattle.theory_answers.specs.Numbers.{bad_number, good-number}
 use Rattle.mark_tables.proofs.Accepted.{well-formed}
 use Rattle.theory_calls.specs.Pair.{numbers_row}
 use Rattle.theory_calls.specs.Witness.{told, answered_by}
-use Rattle.theory_traces.specs.CorrectLaws.{whole-trace}
+use Rattle.theory_traces.proofs.CorrectLaws.{whole-trace}
 use borrow.Author.Rules.{rules}
 use Rattle.call_witnessed.proofs.tell.Goals as goal
 

@@ -4,7 +4,7 @@ use Prim.Native.Nat.{◌+◌, ◌*◌}
 use native.Mathlib.Omega.{arith}
 use borrow.Author.Rules.{rules}
 use Rattle.theory_calls.specs.Claims.{left, right, is_false}
-use Rattle.theory_calls.specs.CorrectLaws.{good-numbers}
+use Rattle.theory_calls.proofs.CorrectLaws.{good-numbers}
 use Rattle.answer_claims.proofs.list.is_false.Goals as goal
 
 pub pair-requires : goal.pair-requires

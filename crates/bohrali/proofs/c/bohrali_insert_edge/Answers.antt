@@ -7,10 +7,10 @@ use mir.Syntax.{w64}
 use mir.Val.{to_z, of_z}
 use Rattle.output.specs.Output.{number_of}
 use Rattle.output.proofs.OutputCorrectLaws.{carried}
-use Rattle.theory_edits.specs.EditLaws.{insert-returns, room}
+use Rattle.theory_edits.proofs.EditLaws.{insert-returns, room}
 use Rattle.theory_edits.specs.declared.Receipt.{Receipt}
 use Rattle.theory_edits.specs.InsertCorrect.{InsertCorrect}
-use Rattle.theory_edits.specs.InsertCorrectLaws.{insert-correct}
+use Rattle.theory_edits.proofs.InsertCorrectLaws.{insert-correct}
 use Rattle.bohrali.proofs.c.bohrali_insert_edge.Goals as goal
 
 -- a result that was written had room, and so fits

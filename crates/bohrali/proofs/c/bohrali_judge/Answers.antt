@@ -5,7 +5,7 @@ use borrow.Author.Rules.{rules}
 use mir.Syntax.{w64}
 use mir.Val.{to_z, of_z}
 use Rattle.theory_calls.specs.Correct.{Correct}
-use Rattle.theory_calls.specs.CorrectLaws.{correct-any}
+use Rattle.theory_calls.proofs.CorrectLaws.{correct-any}
 use Rattle.output.proofs.OutputCorrectLaws.{told}
 use Rattle.bohrali.proofs.c.bohrali_judge.Goals as goal
 

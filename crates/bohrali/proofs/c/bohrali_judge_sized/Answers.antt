@@ -5,7 +5,7 @@ use borrow.Author.Rules.{rules}
 use mir.Syntax.{w64}
 use mir.Val.{to_z, of_z}
 use Rattle.theory_calls.specs.Correct.{CorrectIn}
-use Rattle.theory_calls.specs.CorrectLaws.{correct-in}
+use Rattle.theory_calls.proofs.CorrectLaws.{correct-in}
 use Rattle.output.proofs.OutputCorrectLaws.{told}
 use Rattle.bohrali.proofs.c.bohrali_judge_sized.Goals as goal
 

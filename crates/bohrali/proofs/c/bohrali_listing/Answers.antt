@@ -13,7 +13,7 @@ use Rattle.output.proofs.OutputCorrectLaws.{carried}
 use Rattle.theory_listing.specs.Grammar.{listed}
 use Rattle.theory_listing.specs.Call.{block_rows, listing_bytes, listing_rows, listing_written}
 use Rattle.theory_listing.specs.ListingCorrect.{ListingCorrect}
-use Rattle.theory_listing.specs.ListingCorrectLaws.{listing-correct}
+use Rattle.theory_listing.proofs.ListingCorrectLaws.{listing-correct}
 use Rattle.bohrali.proofs.c.bohrali_listing.Goals as goal
 
 -- a result that was written had room, and so fits

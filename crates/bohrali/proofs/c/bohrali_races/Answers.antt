@@ -9,7 +9,7 @@ use mir.Syntax.{w64}
 use mir.Val.{to_z, of_z}
 use Rattle.theory_calls.specs.Races.{races, list_rows}
 use Rattle.theory_calls.specs.RacesCorrect.{RacesCorrect}
-use Rattle.theory_calls.specs.RacesCorrectLaws.{races-correct}
+use Rattle.theory_calls.proofs.RacesCorrectLaws.{races-correct}
 use Rattle.chart.specs.Format.{decode}
 use Rattle.chart.specs.Reading.{region_of}
 use Rattle.output.specs.Output.{number_of}

@@ -7,9 +7,9 @@ use mir.Syntax.{w64}
 use mir.Val.{to_z, of_z}
 use Rattle.output.specs.Output.{number_of}
 use Rattle.output.proofs.OutputCorrectLaws.{carried}
-use Rattle.theory_edits.specs.EditLaws.{remove-returns, fits_in}
+use Rattle.theory_edits.proofs.EditLaws.{remove-returns, fits_in}
 use Rattle.theory_edits.specs.RemoveCorrect.{RemoveCorrect}
-use Rattle.theory_edits.specs.RemoveCorrectLaws.{remove-correct}
+use Rattle.theory_edits.proofs.RemoveCorrectLaws.{remove-correct}
 use Rattle.bohrali.proofs.c.bohrali_remove_edge.Goals as goal
 
 -- a result that was written had room, and so fits

@@ -6,7 +6,7 @@ use mir.Syntax.{w64}
 use mir.Val.{to_z, of_z}
 use Rattle.theory_calls.specs.Witness.{number_of}
 use Rattle.theory_calls.specs.WitnessedCorrect.{WitnessedCorrect}
-use Rattle.theory_calls.specs.WitnessedCorrectLaws.{witnessed-correct}
+use Rattle.theory_calls.proofs.WitnessedCorrectLaws.{witnessed-correct}
 use Rattle.bohrali.proofs.c.bohrali_witnessed.Goals as goal
 
 pub returns : goal.returns

@@ -4,8 +4,8 @@ use mathlib.Core.Path.{sym, ◌∙◌}
 use native.Mathlib.Omega.{arith}
 use borrow.Author.Rules.{rules}
 use Rattle.chart.proofs.Accepted.{laid}
-use Rattle.theory_edits.specs.SpliceLaws.{inserted-length}
-use Rattle.theory_edits.specs.EditLaws.{admitted-laid}
+use Rattle.theory_edits.proofs.SpliceLaws.{inserted-length}
+use Rattle.theory_edits.proofs.EditLaws.{admitted-laid}
 use Rattle.call_edges.proofs.CheckLaws.{passed_none, refused-some, trailer-passes, chart-most, within}
 use Rattle.call_edges.proofs.AskLaws.{longer-refused, longer-admitted}
 use Rattle.call_edges.proofs.ask.ask_longer.Goals as goal

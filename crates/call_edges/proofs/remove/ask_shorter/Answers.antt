@@ -13,7 +13,7 @@ use Rattle.chart.proofs.Accepted.{laid}
 use Rattle.chart.proofs.Records.{edges-length}
 use Rattle.output.proofs.Outputs.{refused, passed}
 use Rattle.theory_edits.specs.PlaceLaws.{at_place}
-use Rattle.theory_edits.specs.EditLaws.{admitted-rising}
+use Rattle.theory_edits.proofs.EditLaws.{admitted-rising}
 use Rattle.call_edges.proofs.CheckLaws.{passed_none, refused-some, trailer-passes, chart-least, chart-most}
 use Rattle.call_edges.proofs.RemoveLaws.{apart, no_edge, short-front}
 use Rattle.call_edges.proofs.remove.ask_shorter.Goals as goal

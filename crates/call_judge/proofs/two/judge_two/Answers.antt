@@ -13,7 +13,7 @@ use Rattle.theory_answers.specs.declared.Size.TheVariants.{Any}
 use Rattle.theory_calls.specs.Claims.{total}
 use Rattle.theory_calls.specs.Judged.{judged, number_of}
 use Rattle.theory_calls.specs.Correct.{Correct}
-use Rattle.theory_calls.specs.CorrectLaws.{correct-any}
+use Rattle.theory_calls.proofs.CorrectLaws.{correct-any}
 use Rattle.theory_calls.specs.declared.Verdict.{Verdict}
 use Rattle.theory_calls.specs.declared.Verdict.TheVariants.{Failed}
 use Rattle.call_judge.proofs.Facts.{failed-below}

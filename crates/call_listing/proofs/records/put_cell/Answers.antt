@@ -8,7 +8,7 @@ use lib.ListN.{take}
 use borrow.Author.Rules.{rules}
 use Rattle.chart_writing.specs.Encode.{flat}
 use Rattle.chart_writing.proofs.Putting.{chained}
-use Rattle.theory_listing.specs.Flow.{two-same, two-below, two-above}
+use Rattle.theory_listing.proofs.Flow.{two-same, two-below, two-above}
 use Rattle.call_listing.proofs.Storing.{stored-cell}
 use Rattle.call_listing.proofs.records.put_cell.Goals as goal
 

@@ -8,7 +8,7 @@ use lib.ListN.{length}
 use borrow.Author.Tests.{not-true, not-false}
 use Rattle.chart.specs.Region.{Region}
 use Rattle.theory_traces.specs.Replay.{Play, begun, going, progress, outcome_of, play_of}
-use Rattle.theory_traces.specs.ReplayLaws.{goes_on, halts, stays}
+use Rattle.theory_traces.proofs.ReplayLaws.{goes_on, halts, stays}
 use Rattle.answer_steps.specs.Tables.{Tabled}
 use Rattle.call_replay.specs.PairsMet.{Kept}
 use Rattle.call_replay.specs.Playing.{Playing, Few}

@@ -7,7 +7,7 @@ use lib.ListN.{length}
 use Rattle.lists.specs.Rows.{square}
 use Rattle.chart.proofs.Records.{nodes-length}
 use Rattle.theory_traces.specs.Call.{replay_answer, sheet_left, answered}
-use Rattle.theory_traces.specs.CorrectLaws.{passed-team}
+use Rattle.theory_traces.proofs.CorrectLaws.{passed-team}
 use Rattle.output.specs.Output.{left_by, content}
 use Rattle.call_replay.specs.Team.{count_by}
 use Rattle.call_replay.proofs.Results.{content-length}

@@ -1,0 +1,3 @@
+pub mod AnswerLaws
+pub mod MoreEdgesLaws
+pub mod SizeLaws

@@ -1,0 +1,7 @@
+pub mod CorrectLaws
+pub mod Known
+pub mod MoreEdges
+pub mod RaceLaws
+pub mod RacesCorrectLaws
+pub mod WitnessLaws
+pub mod WitnessedCorrectLaws

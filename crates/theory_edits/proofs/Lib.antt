@@ -1,0 +1,5 @@
+pub mod EditLaws
+pub mod InsertCorrectLaws
+pub mod NoNode
+pub mod RemoveCorrectLaws
+pub mod SpliceLaws

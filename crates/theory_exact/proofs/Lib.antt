@@ -1,0 +1,9 @@
+pub mod AnsweredFor
+pub mod AnsweredLaws
+pub mod BarredLaws
+pub mod Dropped
+pub mod Exact
+pub mod Exactness
+pub mod MetLaws
+pub mod Sound
+pub mod Unmet

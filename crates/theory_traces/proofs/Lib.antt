@@ -1,0 +1,9 @@
+pub mod CallLaws
+pub mod CorrectLaws
+pub mod CorrectOnly
+pub mod EveryRun
+pub mod Feeding
+pub mod LegalLaws
+pub mod Recorded
+pub mod ReplayLaws
+pub mod Unfinished
