@@ -1,5 +1,6 @@
 pub mod CorrectLaws
 pub mod Known
+pub mod LocksCorrectLaws
 pub mod MoreEdges
 pub mod RaceLaws
 pub mod RacesCorrectLaws

@@ -25,5 +25,4 @@ pub mod DistancesCorrect
 pub mod DistancesCorrectLaws
 pub mod RacesCorrect
 pub mod LocksCorrect
-pub mod LocksCorrectLaws
 pub mod WitnessedCorrect

@@ -5,7 +5,7 @@ use borrow.Author.Rules.{rules}
 use mir.Syntax.{w64}
 use mir.Val.{to_z, of_z}
 use Rattle.theory_calls.specs.LocksCorrect.{LocksCorrectIn}
-use Rattle.theory_calls.specs.LocksCorrectLaws.{locks-correct}
+use Rattle.theory_calls.proofs.LocksCorrectLaws.{locks-correct}
 use Rattle.output.proofs.OutputCorrectLaws.{carried}
 use Rattle.bohrali.proofs.c.bohrali_locks_sized.Goals as goal
 
