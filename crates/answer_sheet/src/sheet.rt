@@ -69,10 +69,9 @@ pub fn fill_sheet(
     out: &mut [u8],
 )
     requires { Accepted s.now chart × Marks (reading s.now chart) marks.now kinds.now × (chart.nodes * chart.nodes ≤ length out.old) }
-    ensures* { λ _.
-        let R = reading s.now chart in
+    ensures { let R = reading s.now chart in
         let result = sheet R (answer_for R size) in
-        ⌜ out.new ≡ result ++ drop (length result) out.old ⌝ }
+        out.new ≡ result ++ drop (length result) out.old }
 {
     let sets = sets_for(s, chart, size, kinds);
     let mut closed = [0u8; Chart::NODES];

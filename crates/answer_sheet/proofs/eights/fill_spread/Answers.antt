@@ -25,13 +25,13 @@ bounds-table-b c = omega arith
 pub overflow_mul-table : goal.overflow_mul-table
 overflow_mul-table c =
     let least : get_or c.loop-b.table (c.loop-b.b / 2) 0 ≤ 282578800148737 =
-        low-most (c.loop-b.b / 2) _ (omega arith) (c.loop-b.invariant.3 (c.loop-b.b / 2) (omega arith)) in
+    low-most (c.loop-b.b / 2) _ (omega arith) (c.loop-b.invariant.3 (c.loop-b.b / 2) (omega arith)) in
     omega (arith, least)
 
 pub overflow_add-table : goal.overflow_add-table
 overflow_add-table c =
     let least : get_or c.loop-b.table (c.loop-b.b / 2) 0 ≤ 282578800148737 =
-        low-most (c.loop-b.b / 2) _ (omega arith) (c.loop-b.invariant.3 (c.loop-b.b / 2) (omega arith)) in
+    low-most (c.loop-b.b / 2) _ (omega arith) (c.loop-b.invariant.3 (c.loop-b.b / 2) (omega arith)) in
     omega (arith, least)
 
 pub offset_bounds-table-b-in-loop-b : goal.offset_bounds-table-b-in-loop-b

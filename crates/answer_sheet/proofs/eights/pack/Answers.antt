@@ -22,7 +22,7 @@ overflow_sub-i c = omega arith
 pub overflow_mul-word : goal.overflow_mul-word
 overflow_mul-word c =
     let small : c.loop-i.word ≤ 72057594037927935 =
-        let e = c.args in
+    let e = c.args in
     rw c.loop-i.invariant.1 (cover-most (λ k. eqb (get_or e.closed.now (e.at + (c.loop-i.i + k)) 0) 0) (8 - c.loop-i.i) (omega arith)) in
     omega (arith, small)
 
@@ -38,7 +38,7 @@ cover-requires c = tt
 pub overflow_add-word : goal.overflow_add-word
 overflow_add-word c =
     let small : c.loop-i.word ≤ 72057594037927935 =
-        let e = c.args in
+    let e = c.args in
     rw c.loop-i.invariant.1 (cover-most (λ k. eqb (get_or e.closed.now (e.at + (c.loop-i.i + k)) 0) 0) (8 - c.loop-i.i) (omega arith)) in
     omega (arith, small, c.cover.ensures.1)
 

@@ -45,8 +45,8 @@ loop-k-preserved c =
     let rule : ℕ → ℕ → Bool = λ j i. has (get_or e.rules.now i 0) j in (
       omega arith,
       λ j. let u = c.loop-k.invariant.1 j in
-          let hit = has-and c.loop-k.false set j in (
-            has-without c.loop-k.false set j ∙ next-left (has e.both j) (rule j) k u,
+          let hit = has-and c.loop-k.left set j in (
+            has-without c.loop-k.left set j ∙ next-left (has e.both j) (rule j) k u,
             c.give-p.ensures j (λ h. blank-left (has e.both j) (rule j) k u (sym hit ∙ h)) ∙ ap (λ (b : Bool). cond b (k + 2) (digit c.loop-k.p j)) hit ∙ next-number (has e.both j) (rule j) k u,
           ),
     )

@@ -20,14 +20,13 @@ put_phase-requires-3 c =
     (omega arith, c.requires.0, c.put_phase-2.ensures.0)
 
 pub returns : goal.returns
-returns c =
-    (
-      c.put_phase-3.ensures.0,
-      λ closed marks sets own F S E O.
-          three-words (λ j. get_or c.put_phase-3.new.row j 0 ≡ row_of closed sets marks own j)
-          (λ j l. c.put_phase-3.ensures.2 (64 * 0 + j) (omega arith) ∙ c.put_phase-2.ensures.2 (64 * 0 + j) (omega arith) ∙ c.put_phase.ensures.1 closed F j l
-          ∙ phase-word closed marks sets own 0 _ _ O S.low E.low j l)
-          (λ j l. c.put_phase-3.ensures.2 (64 * 1 + j) (omega arith) ∙ c.put_phase-2.ensures.1 closed F j l
-          ∙ phase-word closed marks sets own 1 _ _ O S.middle E.middle j l)
-          (λ j l. c.put_phase-3.ensures.1 closed F j l ∙ phase-word closed marks sets own 2 _ _ O S.high E.high j l),
-    )
+returns c = (
+  c.put_phase-3.ensures.0,
+  λ closed marks sets own F S E O.
+      three-words (λ j. get_or c.put_phase-3.new.row j 0 ≡ row_of closed sets marks own j)
+      (λ j l. c.put_phase-3.ensures.2 (64 * 0 + j) (omega arith) ∙ c.put_phase-2.ensures.2 (64 * 0 + j) (omega arith) ∙ c.put_phase.ensures.1 closed F j l
+      ∙ phase-word closed marks sets own 0 _ _ O S.low E.low j l)
+      (λ j l. c.put_phase-3.ensures.2 (64 * 1 + j) (omega arith) ∙ c.put_phase-2.ensures.1 closed F j l
+      ∙ phase-word closed marks sets own 1 _ _ O S.middle E.middle j l)
+      (λ j l. c.put_phase-3.ensures.1 closed F j l ∙ phase-word closed marks sets own 2 _ _ O S.high E.high j l),
+)

@@ -20,12 +20,11 @@ pub loop-b-smaller : goal.loop-b-smaller
 loop-b-smaller c = omega arith
 
 pub loop-b-preserved : goal.loop-b-preserved
-loop-b-preserved c =
-    (
-      omega arith,
-      length-set c.loop-b.out c.loop-b.b _ ∙ c.loop-b.invariant.1,
-      stored (λ j v. v ≡ 255) c.loop-b.out c.loop-b.b _ (omega (arith, c.loop-b.invariant.1)) refl c.loop-b.invariant.2,
-    )
+loop-b-preserved c = (
+  omega arith,
+  length-set c.loop-b.out c.loop-b.b _ ∙ c.loop-b.invariant.1,
+  stored (λ j v. v ≡ 255) c.loop-b.out c.loop-b.b _ (omega (arith, c.loop-b.invariant.1)) refl c.loop-b.invariant.2,
+)
 
 pub shape_of-out : goal.shape_of-out
 shape_of-out c = c.loop-b.invariant.1

@@ -49,13 +49,13 @@ loop-a-init c = (
 pub profile_of-requires : goal.profile_of-requires
 profile_of-requires c =
     let few : c.loop-a.a < 192 =
-        omega (arith, c.requires.0.laid.nodes-most, c.loop-a-test.true) in
+    omega (arith, c.requires.0.laid.nodes-most, c.loop-a-test.true) in
     few
 
 pub bounds-closed-a : goal.bounds-closed-a
 bounds-closed-a c =
     let few : c.loop-a.a < 192 =
-        omega (arith, c.requires.0.laid.nodes-most, c.loop-a-test.true) in
+    omega (arith, c.requires.0.laid.nodes-most, c.loop-a-test.true) in
     few
 
 pub keep_row-kept-requires : goal.keep_row-kept-requires
@@ -65,84 +65,86 @@ keep_row-kept-requires c =
 pub overflow_mul-a : goal.overflow_mul-a
 overflow_mul-a c =
     let ends : let n = c.args.chart.nodes in (c.loop-a.a + 1) * n ≡ c.loop-a.a * n + n =
-        row-end c.loop-a.a c.args.chart.nodes in
+    row-end c.loop-a.a c.args.chart.nodes in
     let most : (c.loop-a.a + 1) * c.args.chart.nodes ≤ 36864 =
-        omega (arith, ends, row_room c.loop-a.a c.args.chart.nodes c.loop-a-test.true, square c.requires.0.laid.nodes-most) in
+    omega (arith, ends, row_room c.loop-a.a c.args.chart.nodes c.loop-a-test.true, square c.requires.0.laid.nodes-most) in
     omega (arith, most, ends)
 
 pub overflow_add-a : goal.overflow_add-a
 overflow_add-a c =
     let few : c.loop-a.a < 192 =
-        omega (arith, c.requires.0.laid.nodes-most, c.loop-a-test.true) in
+    omega (arith, c.requires.0.laid.nodes-most, c.loop-a-test.true) in
     omega (arith, few)
 
 pub overflow_mul-a-in-loop-a : goal.overflow_mul-a-in-loop-a
 overflow_mul-a-in-loop-a c =
     let ends : let n = c.args.chart.nodes in (c.loop-a.a + 1) * n ≡ c.loop-a.a * n + n =
-        row-end c.loop-a.a c.args.chart.nodes in
+    row-end c.loop-a.a c.args.chart.nodes in
     let most : (c.loop-a.a + 1) * c.args.chart.nodes ≤ 36864 =
-        omega (arith, ends, row_room c.loop-a.a c.args.chart.nodes c.loop-a-test.true, square c.requires.0.laid.nodes-most) in
+    omega (arith, ends, row_room c.loop-a.a c.args.chart.nodes c.loop-a-test.true, square c.requires.0.laid.nodes-most) in
     omega (arith, most)
 
 pub slice_bounds-fill_row-count : goal.slice_bounds-fill_row-count
 slice_bounds-fill_row-count c =
     let ends : let n = c.args.chart.nodes in (c.loop-a.a + 1) * n ≡ c.loop-a.a * n + n =
-        row-end c.loop-a.a c.args.chart.nodes in
+    row-end c.loop-a.a c.args.chart.nodes in
     omega (arith, ends)
 
 pub slice_bounds-fill_row-start : goal.slice_bounds-fill_row-start
 slice_bounds-fill_row-start c =
     let ends : let n = c.args.chart.nodes in (c.loop-a.a + 1) * n ≡ c.loop-a.a * n + n =
-        row-end c.loop-a.a c.args.chart.nodes in
+    row-end c.loop-a.a c.args.chart.nodes in
     omega (arith, ends)
 
 pub slice_bounds-fill_row-end : goal.slice_bounds-fill_row-end
 slice_bounds-fill_row-end c =
     let read : Region =
-        reading c.args.s.now c.args.chart in
+    reading c.args.s.now c.args.chart in
     let answer : ℕ → ℕ → ℕ =
-        answer_for read c.args.size in
+    answer_for read c.args.size in
     let passed : c.loop-a.out ≡ after (entry read answer) read.nodes c.loop-a.a c.args.out.now =
-        let (Z, same) = (c.sets_for-sets.ensures.sized, c.sets_for-sets.ensures.kinds_value) in
+    let Z = c.sets_for-sets.ensures.sized in
+    let same = c.sets_for-sets.ensures.kinds_value in
     c.loop-a.invariant.3 read c.args.size (nodes-length _ c.args.chart c.requires.0.laid) (subst (Marks read c.args.marks.now) (sym same) c.requires.1) Z c.load_closed.ensures in
     let long : length c.loop-a.out ≡ length c.args.out.now =
-        let n = nodes-length _ c.args.chart c.requires.0.laid in
+    let n = nodes-length _ c.args.chart c.requires.0.laid in
     let most = mul-le-mul_right {m = c.loop-a.a} {n = c.args.chart.nodes} c.args.chart.nodes c.loop-a.invariant.0 in
     ap length passed ∙ after-length (entry read answer) read.nodes c.loop-a.a c.args.out.now (rw n (omega (arith, most, c.requires.2))) in
     let ends : let n = c.args.chart.nodes in (c.loop-a.a + 1) * n ≡ c.loop-a.a * n + n =
-        row-end c.loop-a.a c.args.chart.nodes in
+    row-end c.loop-a.a c.args.chart.nodes in
     let most : (c.loop-a.a + 1) * c.args.chart.nodes ≤ 36864 =
-        omega (arith, ends, row_room c.loop-a.a c.args.chart.nodes c.loop-a-test.true, square c.requires.0.laid.nodes-most) in
+    omega (arith, ends, row_room c.loop-a.a c.args.chart.nodes c.loop-a-test.true, square c.requires.0.laid.nodes-most) in
     let room : (c.loop-a.a + 1) * c.args.chart.nodes ≤ length c.loop-a.out =
-        omega (arith, ends, row_room c.loop-a.a c.args.chart.nodes c.loop-a-test.true, c.requires.2, long) in
+    omega (arith, ends, row_room c.loop-a.a c.args.chart.nodes c.loop-a-test.true, c.requires.2, long) in
     room
 
 pub fill_row-requires : goal.fill_row-requires
 fill_row-requires c =
     let read : Region =
-        reading c.args.s.now c.args.chart in
+    reading c.args.s.now c.args.chart in
     let answer : ℕ → ℕ → ℕ =
-        answer_for read c.args.size in
+    answer_for read c.args.size in
     let passed : c.loop-a.out ≡ after (entry read answer) read.nodes c.loop-a.a c.args.out.now =
-        let (Z, same) = (c.sets_for-sets.ensures.sized, c.sets_for-sets.ensures.kinds_value) in
+    let Z = c.sets_for-sets.ensures.sized in
+    let same = c.sets_for-sets.ensures.kinds_value in
     c.loop-a.invariant.3 read c.args.size (nodes-length _ c.args.chart c.requires.0.laid) (subst (Marks read c.args.marks.now) (sym same) c.requires.1) Z c.load_closed.ensures in
     let long : length c.loop-a.out ≡ length c.args.out.now =
-        let n = nodes-length _ c.args.chart c.requires.0.laid in
+    let n = nodes-length _ c.args.chart c.requires.0.laid in
     let most = mul-le-mul_right {m = c.loop-a.a} {n = c.args.chart.nodes} c.args.chart.nodes c.loop-a.invariant.0 in
     ap length passed ∙ after-length (entry read answer) read.nodes c.loop-a.a c.args.out.now (rw n (omega (arith, most, c.requires.2))) in
     let ends : let n = c.args.chart.nodes in (c.loop-a.a + 1) * n ≡ c.loop-a.a * n + n =
-        row-end c.loop-a.a c.args.chart.nodes in
+    row-end c.loop-a.a c.args.chart.nodes in
     let most : (c.loop-a.a + 1) * c.args.chart.nodes ≤ 36864 =
-        omega (arith, ends, row_room c.loop-a.a c.args.chart.nodes c.loop-a-test.true, square c.requires.0.laid.nodes-most) in
+    omega (arith, ends, row_room c.loop-a.a c.args.chart.nodes c.loop-a-test.true, square c.requires.0.laid.nodes-most) in
     let room : (c.loop-a.a + 1) * c.args.chart.nodes ≤ length c.loop-a.out =
-        omega (arith, ends, row_room c.loop-a.a c.args.chart.nodes c.loop-a-test.true, c.requires.2, long) in
+    omega (arith, ends, row_room c.loop-a.a c.args.chart.nodes c.loop-a-test.true, c.requires.2, long) in
     let long = part_length c.args.chart.nodes _ _ c.loop-a.out ends room in
     (omega (arith, long, c.requires.0.laid.nodes-most), omega (arith, long))
 
 pub overflow_add-a-in-loop-a : goal.overflow_add-a-in-loop-a
 overflow_add-a-in-loop-a c =
     let few : c.loop-a.a < 192 =
-        omega (arith, c.requires.0.laid.nodes-most, c.loop-a-test.true) in
+    omega (arith, c.requires.0.laid.nodes-most, c.loop-a-test.true) in
     omega (arith, few)
 
 pub loop-a-smaller : goal.loop-a-smaller
@@ -152,22 +154,23 @@ pub loop-a-preserved : goal.loop-a-preserved
 unfolding row
 loop-a-preserved c =
     let read : Region =
-        reading c.args.s.now c.args.chart in
+    reading c.args.s.now c.args.chart in
     let answer : ℕ → ℕ → ℕ =
-        answer_for read c.args.size in
+    answer_for read c.args.size in
     let passed : c.loop-a.out ≡ after (entry read answer) read.nodes c.loop-a.a c.args.out.now =
-        let (Z, same) = (c.sets_for-sets.ensures.sized, c.sets_for-sets.ensures.kinds_value) in
+    let Z = c.sets_for-sets.ensures.sized in
+    let same = c.sets_for-sets.ensures.kinds_value in
     c.loop-a.invariant.3 read c.args.size (nodes-length _ c.args.chart c.requires.0.laid) (subst (Marks read c.args.marks.now) (sym same) c.requires.1) Z c.load_closed.ensures in
     let long : length c.loop-a.out ≡ length c.args.out.now =
-        let n = nodes-length _ c.args.chart c.requires.0.laid in
+    let n = nodes-length _ c.args.chart c.requires.0.laid in
     let most = mul-le-mul_right {m = c.loop-a.a} {n = c.args.chart.nodes} c.args.chart.nodes c.loop-a.invariant.0 in
     ap length passed ∙ after-length (entry read answer) read.nodes c.loop-a.a c.args.out.now (rw n (omega (arith, most, c.requires.2))) in
     let ends : let n = c.args.chart.nodes in (c.loop-a.a + 1) * n ≡ c.loop-a.a * n + n =
-        row-end c.loop-a.a c.args.chart.nodes in
+    row-end c.loop-a.a c.args.chart.nodes in
     let most : (c.loop-a.a + 1) * c.args.chart.nodes ≤ 36864 =
-        omega (arith, ends, row_room c.loop-a.a c.args.chart.nodes c.loop-a-test.true, square c.requires.0.laid.nodes-most) in
+    omega (arith, ends, row_room c.loop-a.a c.args.chart.nodes c.loop-a-test.true, square c.requires.0.laid.nodes-most) in
     let room : (c.loop-a.a + 1) * c.args.chart.nodes ≤ length c.loop-a.out =
-        omega (arith, ends, row_room c.loop-a.a c.args.chart.nodes c.loop-a-test.true, c.requires.2, long) in
+    omega (arith, ends, row_room c.loop-a.a c.args.chart.nodes c.loop-a-test.true, c.requires.2, long) in
     let (below, wide, kept, done) = c.loop-a.invariant in
     let next = c.keep_row-kept.ensures.2 _ _ c.gather_all.ensures c.fill_fence.ensures kept in (
       omega arith,
@@ -184,31 +187,29 @@ loop-a-preserved c =
 pub shape_of-out : goal.shape_of-out
 shape_of-out c =
     let read : Region =
-        reading c.args.s.now c.args.chart in
+    reading c.args.s.now c.args.chart in
     let answer : ℕ → ℕ → ℕ =
-        answer_for read c.args.size in
+    answer_for read c.args.size in
     let passed : c.loop-a.out ≡ after (entry read answer) read.nodes c.loop-a.a c.args.out.now =
-        let (Z, same) = (c.sets_for-sets.ensures.sized, c.sets_for-sets.ensures.kinds_value) in
+    let Z = c.sets_for-sets.ensures.sized in
+    let same = c.sets_for-sets.ensures.kinds_value in
     c.loop-a.invariant.3 read c.args.size (nodes-length _ c.args.chart c.requires.0.laid) (subst (Marks read c.args.marks.now) (sym same) c.requires.1) Z c.load_closed.ensures in
     let long : length c.loop-a.out ≡ length c.args.out.now =
-        let n = nodes-length _ c.args.chart c.requires.0.laid in
+    let n = nodes-length _ c.args.chart c.requires.0.laid in
     let most = mul-le-mul_right {m = c.loop-a.a} {n = c.args.chart.nodes} c.args.chart.nodes c.loop-a.invariant.0 in
     ap length passed ∙ after-length (entry read answer) read.nodes c.loop-a.a c.args.out.now (rw n (omega (arith, most, c.requires.2))) in
-    let ends : let n = c.args.chart.nodes in (c.loop-a.a + 1) * n ≡ c.loop-a.a * n + n =
-        row-end c.loop-a.a c.args.chart.nodes in
-    let most : (c.loop-a.a + 1) * c.args.chart.nodes ≤ 36864 =
-        omega (arith, ends, row_room c.loop-a.a c.args.chart.nodes c.loop-a-test.true, square c.requires.0.laid.nodes-most) in
     long
 
 pub returns : goal.returns
 unfolding sheet
 returns c =
     let read : Region =
-        reading c.args.s.now c.args.chart in
+    reading c.args.s.now c.args.chart in
     let answer : ℕ → ℕ → ℕ =
-        answer_for read c.args.size in
+    answer_for read c.args.size in
     let passed : c.loop-a.out ≡ after (entry read answer) read.nodes c.loop-a.a c.args.out.now =
-        let (Z, same) = (c.sets_for-sets.ensures.sized, c.sets_for-sets.ensures.kinds_value) in
+    let Z = c.sets_for-sets.ensures.sized in
+    let same = c.sets_for-sets.ensures.kinds_value in
     c.loop-a.invariant.3 read c.args.size (nodes-length _ c.args.chart c.requires.0.laid) (subst (Marks read c.args.marks.now) (sym same) c.requires.1) Z c.load_closed.ensures in
     let R = read in
     let f = answer in
