@@ -24,9 +24,8 @@ pub fn put_races(s: &[u8], chart: Chart, marks: &MaskTable, accesses: &[u8], out
         × ((kinds : List ℕ) × Marks (reading s.now chart) marks.now kinds)
         × (bad_accesses (reading s.now chart) accesses.now ≡ false)
         × (pair_count (total accesses.now) ≤ length out.old) }
-    ensures* { λ _.
-        let result = races_of (reading s.now chart) accesses.now in
-        ⌜ out.new ≡ result ++ drop (length result) out.old ⌝ }
+    ensures { let result = races_of (reading s.now chart) accesses.now in
+        out.new ≡ result ++ drop (length result) out.old }
 {
     let mut names = [0u64; Chart::NODES];
     fill_names(s, chart, &mut names);

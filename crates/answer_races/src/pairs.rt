@@ -16,10 +16,9 @@ pub fn fill_races(accesses: &[u8], lines: &Lines, out: &mut [u8])
     requires { (length accesses.now ≤ 4096)
         × (pair_count (total accesses.now) ≤ length out.old)
         × ((j : ℕ) → ((access_at accesses.now j).node < 192) × ((access_at accesses.now j).write ≤ 1)) }
-    ensures* { λ _.
-        let list = accesses.now in
+    ensures { let list = accesses.now in
         let result = rows_by (pairs_from (total list)) (line_byte lines.now list) (total list) in
-        ⌜ out.new ≡ result ++ drop (length result) out.old ⌝ }
+        out.new ≡ result ++ drop (length result) out.old }
 {
     let mut all = [0u16; PLACES];
     let mut writes = [0u16; PLACES];

@@ -11,7 +11,7 @@ use Rattle.chart.specs.Region.{Region}
 use Rattle.chart.specs.Checked.{reading}
 use Rattle.chart.proofs.Records.{nodes-length}
 use Rattle.theory_calls.specs.Access.{access_at}
-use Rattle.theory_calls.proofs.RaceLaws.{whole-accesses, few-accesses}
+use Rattle.theory_calls.specs.RaceLaws.{whole-accesses, few-accesses}
 use Rattle.answer_constructs.proofs.Past.{rows-past}
 use Rattle.answer_races.proofs.BytesLaws.{fields_fit, all-pairs}
 use Rattle.answer_races.proofs.bytes.put_races.Goals as goal
@@ -27,12 +27,12 @@ gather_names-requires c =
 pub fill_races-requires : goal.fill_races-requires
 fill_races-requires c =
     let read : Region =
-        reading c.args.s.now c.args.chart in
+    reading c.args.s.now c.args.chart in
     let nodes-are : (read.nodes ≡ c.args.chart.nodes) × (0 < read.nodes) × (read.nodes ≤ 192) =
-        let n = nodes-length _ c.args.chart c.requires.0.laid in
+    let n = nodes-length _ c.args.chart c.requires.0.laid in
     (omega (arith, n), omega (arith, n, c.requires.0.laid.two-nodes), omega (arith, n, c.requires.0.laid.nodes-most)) in
     let fits : (j : ℕ) → ((access_at c.args.accesses.now j).node < 192) × ((access_at c.args.accesses.now j).write ≤ 1) =
-        λ j. let (same, some, most) = nodes-are in
+    λ j. let (same, some, most) = nodes-are in
     let (node, write) = fields_fit read c.args.accesses.now c.requires.1.1.well-formed c.requires.2 some j in
     (omega arith, write) in
     let list = c.args.accesses.now in
@@ -41,9 +41,9 @@ fill_races-requires c =
 pub returns : goal.returns
 returns c =
     let read : Region =
-        reading c.args.s.now c.args.chart in
+    reading c.args.s.now c.args.chart in
     let nodes-are : (read.nodes ≡ c.args.chart.nodes) × (0 < read.nodes) × (read.nodes ≤ 192) =
-        let n = nodes-length _ c.args.chart c.requires.0.laid in
+    let n = nodes-length _ c.args.chart c.requires.0.laid in
     (omega (arith, n), omega (arith, n, c.requires.0.laid.two-nodes), omega (arith, n, c.requires.0.laid.nodes-most)) in
     let all = all-pairs read c.args.accesses.now c.requires.1.1.well-formed c.requires.2 c.fill_lines.new.lines c.requires.1.1 c.load_closed.ensures c.fill_names.ensures.names
     (λ a l z. c.fill_lines.ensures a (omega (arith, nodes-are.0)) z) in

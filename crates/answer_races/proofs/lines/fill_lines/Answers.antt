@@ -32,13 +32,13 @@ loop-a-init c =
 pub profile_of-requires-in-loop-a : goal.profile_of-requires-in-loop-a
 profile_of-requires-in-loop-a c =
     let low : c.loop-a.a < 192 =
-        omega (arith, c.requires.0) in
+    omega (arith, c.requires.0) in
     low
 
 pub bounds-closed-a : goal.bounds-closed-a
 bounds-closed-a c =
     let low : c.loop-a.a < 192 =
-        omega (arith, c.requires.0) in
+    omega (arith, c.requires.0) in
     low
 
 pub keep-kept-requires : goal.keep-kept-requires
@@ -47,13 +47,13 @@ keep-kept-requires c = tt
 pub offset_bounds-names-a : goal.offset_bounds-names-a
 offset_bounds-names-a c =
     let low : c.loop-a.a < 192 =
-        omega (arith, c.requires.0) in
+    omega (arith, c.requires.0) in
     omega (arith, low)
 
 pub bounds-names-a : goal.bounds-names-a
 bounds-names-a c =
     let low : c.loop-a.a < 192 =
-        omega (arith, c.requires.0) in
+    omega (arith, c.requires.0) in
     low
 
 pub line_of-requires : goal.line_of-requires
@@ -62,19 +62,19 @@ line_of-requires c = tt
 pub offset_bounds-lines-a : goal.offset_bounds-lines-a
 offset_bounds-lines-a c =
     let low : c.loop-a.a < 192 =
-        omega (arith, c.requires.0) in
+    omega (arith, c.requires.0) in
     omega (arith, low)
 
 pub bounds-lines-a : goal.bounds-lines-a
 bounds-lines-a c =
     let low : c.loop-a.a < 192 =
-        omega (arith, c.requires.0) in
+    omega (arith, c.requires.0) in
     low
 
 pub overflow_add-a : goal.overflow_add-a
 overflow_add-a c =
     let low : c.loop-a.a < 192 =
-        omega (arith, c.requires.0) in
+    omega (arith, c.requires.0) in
     omega (arith, low)
 
 pub loop-a-smaller : goal.loop-a-smaller
@@ -83,7 +83,7 @@ loop-a-smaller c = omega arith
 pub loop-a-preserved : goal.loop-a-preserved
 loop-a-preserved c =
     let low : c.loop-a.a < 192 =
-        omega (arith, c.requires.0) in
+    omega (arith, c.requires.0) in
     let closed = c.args.closed.now in
     let marks = c.args.marks.now in
     let names = c.args.names.now in

@@ -38,14 +38,14 @@ pub returns-then-bad_access : goal.returns-then-bad_access
 unfolding bad_accesses total
 returns-then-bad_access c =
     let read : Region =
-        reading c.args.s.now c.args.chart in
+    reading c.args.s.now c.args.chart in
     let counted : let list = c.args.accesses.now in
     (eqb (length list % 4) 0 ≡ true) × (ltb 1024 (length list / 4) ≡ false) =
-        let list = c.args.accesses.now in
+    let list = c.args.accesses.now in
     let few : length list / 4 ≤ 1024 = omega (arith, c.if-n-gt-MOST.false) in
     (eq-eqb (length list % 4) 0 c.if-accesses-ne0.false, le-ltb 1024 (length list / 4) few) in
     let tested : c.bad_access.result ≡ bad_access read (access_at c.args.accesses.now c.loop-i.i) =
-        c.bad_access.ensures read c.requires.1 (nodes-length _ c.args.chart c.requires.0.laid) c.load_closed.ensures in
+    c.bad_access.ensures read c.requires.1 (nodes-length _ c.args.chart c.requires.0.laid) c.load_closed.ensures in
     let list = c.args.accesses.now in
     let bads : ℕ → Bool = λ k. bad_access read (access_at list k) in
     let (whole, few) = counted in
@@ -60,19 +60,19 @@ loop-i-smaller c = omega arith
 pub loop-i-preserved : goal.loop-i-preserved
 loop-i-preserved c =
     let read : Region =
-        reading c.args.s.now c.args.chart in
+    reading c.args.s.now c.args.chart in
     let tested : c.bad_access.result ≡ bad_access read (access_at c.args.accesses.now c.loop-i.i) =
-        c.bad_access.ensures read c.requires.1 (nodes-length _ c.args.chart c.requires.0.laid) c.load_closed.ensures in
+    c.bad_access.ensures read c.requires.1 (nodes-length _ c.args.chart c.requires.0.laid) c.load_closed.ensures in
     (omega arith, any-more _ _ c.loop-i.invariant.1 (sym tested ∙ c.if-bad_access.false))
 
 pub returns : goal.returns
 unfolding bad_accesses total
 returns c =
     let read : Region =
-        reading c.args.s.now c.args.chart in
+    reading c.args.s.now c.args.chart in
     let counted : let list = c.args.accesses.now in
     (eqb (length list % 4) 0 ≡ true) × (ltb 1024 (length list / 4) ≡ false) =
-        let list = c.args.accesses.now in
+    let list = c.args.accesses.now in
     let few : length list / 4 ≤ 1024 = omega (arith, c.if-n-gt-MOST.false) in
     (eq-eqb (length list % 4) 0 c.if-accesses-ne0.false, le-ltb 1024 (length list / 4) few) in
     let list = c.args.accesses.now in

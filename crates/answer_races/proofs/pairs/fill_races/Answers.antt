@@ -37,7 +37,7 @@ pub overflow_add-end : goal.overflow_add-end
 unfolding total pair_count
 overflow_add-end c =
     let few : (c.loop-i.at + (length c.args.accesses.now / 4 - c.loop-i.i) ≤ 524800) × (c.loop-i.i < 1024) =
-        let n = length c.args.accesses.now / 4 in
+    let n = length c.args.accesses.now / 4 in
     let most : n ≤ 1024 = omega (arith, c.requires.0) in
     let below : c.loop-i.i < n = omega arith in
     (omega (arith, row_fits n c.loop-i.i below, few-pairs n most, c.loop-i.invariant.1), omega (arith, most, below)) in
@@ -47,14 +47,14 @@ pub offset_bounds-lines-node : goal.offset_bounds-lines-node
 unfolding access_at
 offset_bounds-lines-node c =
     let node : (c.wide-node.result ≡ (access_at c.args.accesses.now c.loop-i.i).node) × (c.wide-node.result < 192) =
-        (c.wide-node.ensures.0, omega (arith, c.wide-node.ensures.0, (c.requires.2 c.loop-i.i).0)) in
+    (c.wide-node.ensures.0, omega (arith, c.wide-node.ensures.0, (c.requires.2 c.loop-i.i).0)) in
     omega (arith, node.1)
 
 pub bounds-lines-node : goal.bounds-lines-node
 unfolding access_at
 bounds-lines-node c =
     let node : (c.wide-node.result ≡ (access_at c.args.accesses.now c.loop-i.i).node) × (c.wide-node.result < 192) =
-        (c.wide-node.ensures.0, omega (arith, c.wide-node.ensures.0, (c.requires.2 c.loop-i.i).0)) in
+    (c.wide-node.ensures.0, omega (arith, c.wide-node.ensures.0, (c.requires.2 c.loop-i.i).0)) in
     node.1
 
 pub slice_bounds-fill_row-count : goal.slice_bounds-fill_row-count
@@ -67,25 +67,25 @@ pub slice_bounds-fill_row-end : goal.slice_bounds-fill_row-end
 unfolding total
 slice_bounds-fill_row-end c =
     let room : c.loop-i.at + (length c.args.accesses.now / 4 - c.loop-i.i) ≤ length c.loop-i.out =
-        omega (arith, row_fits (length c.args.accesses.now / 4) c.loop-i.i (omega arith), c.loop-i.invariant.1, c.loop-i.invariant.2.is-long, c.requires.1) in
+    omega (arith, row_fits (length c.args.accesses.now / 4) c.loop-i.i (omega arith), c.loop-i.invariant.1, c.loop-i.invariant.2.is-long, c.requires.1) in
     room
 
 pub fill_row-requires : goal.fill_row-requires
 unfolding total
 fill_row-requires c =
     let room : c.loop-i.at + (length c.args.accesses.now / 4 - c.loop-i.i) ≤ length c.loop-i.out =
-        omega (arith, row_fits (length c.args.accesses.now / 4) c.loop-i.i (omega arith), c.loop-i.invariant.1, c.loop-i.invariant.2.is-long, c.requires.1) in
+    omega (arith, row_fits (length c.args.accesses.now / 4) c.loop-i.i (omega arith), c.loop-i.invariant.1, c.loop-i.invariant.2.is-long, c.requires.1) in
     let row-part : let n = length c.args.accesses.now / 4 in
     let end = c.loop-i.at + (n - c.loop-i.i) in
     length (take (end - c.loop-i.at) (drop c.loop-i.at c.loop-i.out)) ≡ n - c.loop-i.i =
-        part_length _ _ _ c.loop-i.out refl room in
+    part_length _ _ _ c.loop-i.out refl room in
     (c.link.ensures, c.requires.0, omega (arith, row-part), omega (arith, row-part), (λ j. (c.requires.2 j).0), (c.requires.2 c.loop-i.i).1)
 
 pub overflow_add-i : goal.overflow_add-i
 unfolding total pair_count
 overflow_add-i c =
     let few : (c.loop-i.at + (length c.args.accesses.now / 4 - c.loop-i.i) ≤ 524800) × (c.loop-i.i < 1024) =
-        let n = length c.args.accesses.now / 4 in
+    let n = length c.args.accesses.now / 4 in
     let most : n ≤ 1024 = omega (arith, c.requires.0) in
     let below : c.loop-i.i < n = omega arith in
     (omega (arith, row_fits n c.loop-i.i below, few-pairs n most, c.loop-i.invariant.1), omega (arith, most, below)) in
@@ -98,13 +98,13 @@ pub loop-i-preserved : goal.loop-i-preserved
 unfolding total access_at
 loop-i-preserved c =
     let room : c.loop-i.at + (length c.args.accesses.now / 4 - c.loop-i.i) ≤ length c.loop-i.out =
-        omega (arith, row_fits (length c.args.accesses.now / 4) c.loop-i.i (omega arith), c.loop-i.invariant.1, c.loop-i.invariant.2.is-long, c.requires.1) in
+    omega (arith, row_fits (length c.args.accesses.now / 4) c.loop-i.i (omega arith), c.loop-i.invariant.1, c.loop-i.invariant.2.is-long, c.requires.1) in
     let row-part : let n = length c.args.accesses.now / 4 in
     let end = c.loop-i.at + (n - c.loop-i.i) in
     length (take (end - c.loop-i.at) (drop c.loop-i.at c.loop-i.out)) ≡ n - c.loop-i.i =
-        part_length _ _ _ c.loop-i.out refl room in
+    part_length _ _ _ c.loop-i.out refl room in
     let node : (c.wide-node.result ≡ (access_at c.args.accesses.now c.loop-i.i).node) × (c.wide-node.result < 192) =
-        (c.wide-node.ensures.0, omega (arith, c.wide-node.ensures.0, (c.requires.2 c.loop-i.i).0)) in
+    (c.wide-node.ensures.0, omega (arith, c.wide-node.ensures.0, (c.requires.2 c.loop-i.i).0)) in
     let list = c.args.accesses.now in
     let lines = c.args.lines.now in
     let i = c.loop-i.i in

@@ -21,12 +21,11 @@ pub loop-k-smaller : goal.loop-k-smaller
 loop-k-smaller c = omega arith
 
 pub loop-k-preserved : goal.loop-k-preserved
-loop-k-preserved c =
-    (
-      omega arith,
-      length-set c.loop-k.out c.loop-k.k _ ∙ c.loop-k.invariant.1,
-      stored (λ j v. v ≡ 0) c.loop-k.out c.loop-k.k _ (omega (arith, c.loop-k.invariant.1)) refl c.loop-k.invariant.2,
-    )
+loop-k-preserved c = (
+  omega arith,
+  length-set c.loop-k.out c.loop-k.k _ ∙ c.loop-k.invariant.1,
+  stored (λ j v. v ≡ 0) c.loop-k.out c.loop-k.k _ (omega (arith, c.loop-k.invariant.1)) refl c.loop-k.invariant.2,
+)
 
 pub shape_of-out : goal.shape_of-out
 shape_of-out c = c.loop-k.invariant.1

@@ -11,8 +11,6 @@ use Rattle.answer_races.proofs.same_variable.chain.Goals as goal
 
 pub loop-i-init : goal.loop-i-init
 loop-i-init c =
-    let few : c.loop-i.i - 1 < 1024 =
-        omega (arith, c.requires.0) in
     let n = length c.args.accesses.now / 4 in
     let few : n ≤ 1024 = omega (arith, c.requires.0) in
     (omega arith, c.requires.1, length-replicate {A = ℕ} 1021 1024, heads-none (bucket c.args.accesses.now) n few, λ j l m. absurd (omega arith))
@@ -32,19 +30,19 @@ bounds-heads-bucket c = omega arith
 pub offset_bounds-under-i : goal.offset_bounds-under-i
 offset_bounds-under-i c =
     let few : c.loop-i.i - 1 < 1024 =
-        omega (arith, c.requires.0) in
+    omega (arith, c.requires.0) in
     omega (arith, few)
 
 pub bounds-under-i : goal.bounds-under-i
 bounds-under-i c =
     let few : c.loop-i.i - 1 < 1024 =
-        omega (arith, c.requires.0) in
+    omega (arith, c.requires.0) in
     omega (arith, few)
 
 pub overflow_cast-heads : goal.overflow_cast-heads
 overflow_cast-heads c =
     let few : c.loop-i.i - 1 < 1024 =
-        omega (arith, c.requires.0) in
+    omega (arith, c.requires.0) in
     omega (arith, few)
 
 pub offset_bounds-heads-bucket-in-loop-i : goal.offset_bounds-heads-bucket-in-loop-i
@@ -60,7 +58,7 @@ pub loop-i-preserved : goal.loop-i-preserved
 unfolding bucket
 loop-i-preserved c =
     let few : c.loop-i.i - 1 < 1024 =
-        omega (arith, c.requires.0) in
+    omega (arith, c.requires.0) in
     let list = c.args.accesses.now in
     let n = length list / 4 in
     let i = c.loop-i.i - 1 in

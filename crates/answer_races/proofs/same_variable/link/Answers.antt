@@ -14,14 +14,13 @@ chain-requires c = (c.requires.0, refl)
 
 pub loop-i-init : goal.loop-i-init
 unfolding total
-loop-i-init c =
-    (
-      omega arith,
-      c.requires.1,
-      c.requires.2,
-      record { next = λ j l h. absurd (omega arith); second = λ j l h. absurd (omega arith); small = λ j l h. absurd (omega arith) },
-      record { next = λ j l h. absurd (omega arith); second = λ j l h. absurd (omega arith); small = λ j l h. absurd (omega arith) },
-    )
+loop-i-init c = (
+  omega arith,
+  c.requires.1,
+  c.requires.2,
+  record { next = λ j l h. absurd (omega arith); second = λ j l h. absurd (omega arith); small = λ j l h. absurd (omega arith) },
+  record { next = λ j l h. absurd (omega arith); second = λ j l h. absurd (omega arith); small = λ j l h. absurd (omega arith) },
+)
 
 pub overflow_sub-i : goal.overflow_sub-i
 overflow_sub-i c = omega arith
@@ -33,9 +32,9 @@ pub put-requires : goal.put-requires
 unfolding total
 put-requires c =
     let few : total c.args.accesses.now ≤ 1024 =
-        omega (arith, c.requires.0) in
+    omega (arith, c.requires.0) in
     let low : (c.loop-i.i - 1 < total c.args.accesses.now) × (c.loop-i.i - 1 < 1024) × (c.loop-i.i ≡ c.loop-i.i - 1 + 1) =
-        (omega (arith, c.loop-i.invariant.0), omega (arith, c.loop-i.invariant.0, few), omega arith) in
+    (omega (arith, c.loop-i.invariant.0), omega (arith, c.loop-i.invariant.0, few), omega arith) in
     (c.loop-i.invariant.1, low.1, c.next_of-k.ensures.1)
 
 pub write_from-w-requires : goal.write_from-w-requires
@@ -45,13 +44,13 @@ pub put-requires-in-loop-i : goal.put-requires-in-loop-i
 unfolding total
 put-requires-in-loop-i c =
     let few : total c.args.accesses.now ≤ 1024 =
-        omega (arith, c.requires.0) in
+    omega (arith, c.requires.0) in
     let low : (c.loop-i.i - 1 < total c.args.accesses.now) × (c.loop-i.i - 1 < 1024) × (c.loop-i.i ≡ c.loop-i.i - 1 + 1) =
-        (omega (arith, c.loop-i.invariant.0), omega (arith, c.loop-i.invariant.0, few), omega arith) in
+    (omega (arith, c.loop-i.invariant.0), omega (arith, c.loop-i.invariant.0, few), omega arith) in
     let written : let list = c.args.accesses.now in
     let i = c.loop-i.i - 1 in
     FirstFrom (Beside list 0 (access_at list i).variable) (total list) (i + 1) c.write_from-w.result × (c.write_from-w.result ≤ 1024) =
-        let list = c.args.accesses.now in
+    let list = c.args.accesses.now in
     let (inside, few, q) = low in
     c.write_from-w.ensures (c.loop-i.i - 1) inside c.next_of-k.ensures.0 c.next_of-k.ensures.1 (subst (λ (i : ℕ). Linked list 0 i c.loop-i.writes) q c.loop-i.invariant.4) in
     (c.loop-i.invariant.2, low.1, written.1)
@@ -63,13 +62,13 @@ pub loop-i-preserved : goal.loop-i-preserved
 unfolding total
 loop-i-preserved c =
     let few : total c.args.accesses.now ≤ 1024 =
-        omega (arith, c.requires.0) in
+    omega (arith, c.requires.0) in
     let low : (c.loop-i.i - 1 < total c.args.accesses.now) × (c.loop-i.i - 1 < 1024) × (c.loop-i.i ≡ c.loop-i.i - 1 + 1) =
-        (omega (arith, c.loop-i.invariant.0), omega (arith, c.loop-i.invariant.0, few), omega arith) in
+    (omega (arith, c.loop-i.invariant.0), omega (arith, c.loop-i.invariant.0, few), omega arith) in
     let written : let list = c.args.accesses.now in
     let i = c.loop-i.i - 1 in
     FirstFrom (Beside list 0 (access_at list i).variable) (total list) (i + 1) c.write_from-w.result × (c.write_from-w.result ≤ 1024) =
-        let list = c.args.accesses.now in
+    let list = c.args.accesses.now in
     let (inside, few, q) = low in
     c.write_from-w.ensures (c.loop-i.i - 1) inside c.next_of-k.ensures.0 c.next_of-k.ensures.1 (subst (λ (i : ℕ). Linked list 0 i c.loop-i.writes) q c.loop-i.invariant.4) in
     let list = c.args.accesses.now in

@@ -13,27 +13,27 @@ pub variable_at-variable-requires : goal.variable_at-variable-requires
 unfolding total
 variable_at-variable-requires c =
     let few : total c.args.accesses.now ≤ 1024 =
-        omega (arith, c.requires.1) in
+    omega (arith, c.requires.1) in
     let first : (4 * c.args.i + 3 < length c.args.accesses.now) × (c.args.i < 1024) =
-        (omega (arith, c.requires.2), omega (arith, few, c.requires.2)) in
+    (omega (arith, c.requires.2), omega (arith, few, c.requires.2)) in
     first.0
 
 pub offset_bounds-under-i : goal.offset_bounds-under-i
 unfolding total
 offset_bounds-under-i c =
     let few : total c.args.accesses.now ≤ 1024 =
-        omega (arith, c.requires.1) in
+    omega (arith, c.requires.1) in
     let first : (4 * c.args.i + 3 < length c.args.accesses.now) × (c.args.i < 1024) =
-        (omega (arith, c.requires.2), omega (arith, few, c.requires.2)) in
+    (omega (arith, c.requires.2), omega (arith, few, c.requires.2)) in
     omega (arith, first.1)
 
 pub bounds-under-i : goal.bounds-under-i
 unfolding total
 bounds-under-i c =
     let few : total c.args.accesses.now ≤ 1024 =
-        omega (arith, c.requires.1) in
+    omega (arith, c.requires.1) in
     let first : (4 * c.args.i + 3 < length c.args.accesses.now) × (c.args.i < 1024) =
-        (omega (arith, c.requires.2), omega (arith, few, c.requires.2)) in
+    (omega (arith, c.requires.2), omega (arith, few, c.requires.2)) in
     first.1
 
 pub index-k-requires : goal.index-k-requires
@@ -50,21 +50,21 @@ pub returns-then-variable_at-variable : goal.returns-then-variable_at-variable
 unfolding total
 returns-then-variable_at-variable c =
     let few : total c.args.accesses.now ≤ 1024 =
-        omega (arith, c.requires.1) in
+    omega (arith, c.requires.1) in
     (sought-found c.args.accesses.now c.args.i (sym c.variable_at.ensures ∙ c.if-variable_at-variable.true ∙ c.variable_at-variable.ensures) c.loop-k.invariant, omega (arith, few))
 
 pub offset_bounds-under-k : goal.offset_bounds-under-k
 unfolding total
 offset_bounds-under-k c =
     let few : total c.args.accesses.now ≤ 1024 =
-        omega (arith, c.requires.1) in
+    omega (arith, c.requires.1) in
     omega (arith, few)
 
 pub bounds-under-k : goal.bounds-under-k
 unfolding total
 bounds-under-k c =
     let few : total c.args.accesses.now ≤ 1024 =
-        omega (arith, c.requires.1) in
+    omega (arith, c.requires.1) in
     omega (arith, few)
 
 pub index-k-requires-in-loop-k : goal.index-k-requires-in-loop-k
@@ -74,20 +74,20 @@ pub loop-k-smaller : goal.loop-k-smaller
 unfolding total
 loop-k-smaller c =
     let inside : c.loop-k.k < total c.args.accesses.now =
-        c.loop-k-test.true in
+    c.loop-k-test.true in
     let linked : let list = c.args.accesses.now in
     FirstFrom (λ x. bucket list x ≡ bucket list c.loop-k.k) (total list) (c.loop-k.k + 1) (get_or c.args.under.now c.loop-k.k 0) =
-        c.requires.0.after c.loop-k.k inside in
+    c.requires.0.after c.loop-k.k inside in
     omega (arith, c.index-k-in-loop-k.ensures, linked.from)
 
 pub loop-k-preserved : goal.loop-k-preserved
 unfolding total
 loop-k-preserved c =
     let inside : c.loop-k.k < total c.args.accesses.now =
-        c.loop-k-test.true in
+    c.loop-k-test.true in
     let linked : let list = c.args.accesses.now in
     FirstFrom (λ x. bucket list x ≡ bucket list c.loop-k.k) (total list) (c.loop-k.k + 1) (get_or c.args.under.now c.loop-k.k 0) =
-        c.requires.0.after c.loop-k.k inside in
+    c.requires.0.after c.loop-k.k inside in
     rw c.index-k-in-loop-k.ensures (sought-more c.args.accesses.now c.args.i inside
     (λ q. c.if-variable_at-variable.false (c.variable_at.ensures ∙ q ∙ sym c.variable_at-variable.ensures)) c.loop-k.invariant linked)
 
@@ -95,7 +95,7 @@ pub returns : goal.returns
 unfolding total
 returns c =
     let few : total c.args.accesses.now ≤ 1024 =
-        omega (arith, c.requires.1) in
+    omega (arith, c.requires.1) in
     let past : total c.args.accesses.now ≤ c.loop-k.k =
-        omega arith in
+    omega arith in
     (sought-none c.args.accesses.now c.args.i past few c.requires.2 c.loop-k.invariant, omega arith)
