@@ -1,4 +1,5 @@
 # make            prove the library and build it, and the command: target/staticlib/libbohrali.a, target/lib/libbohrali.so, target/bin/bohrali
+# make proved     prove and build the archive and the programs: target/staticlib/libbohrali.a, target/bin/print_chart and the others
 # make demo       the same, then show both: charts of the paper from C, and the command on examples/playtest
 # make test       the gate: all proofs, must-fail edits and tests
 # make frontend   the gcc plugin that writes control flow, the recorder, and the wrappers bohrali-gcc, bohrali-g++, bohrali-gfortran: target/frontend
@@ -11,6 +12,7 @@ PREFIX ?= /usr/local
 VERSION := 2.0.0
 SONAME := libbohrali.so.$(firstword $(subst ., ,$(VERSION)))
 ARCHIVE := target/staticlib/libbohrali.a
+PROGRAMS := $(patsubst crates/%/src/main.rt,target/bin/%,$(wildcard crates/*/src/main.rt))
 REPLAY := target/bin/replay_trace
 SHARED := target/lib/libbohrali.so.$(VERSION)
 COMMAND := target/bin/bohrali
@@ -18,17 +20,20 @@ SOURCES := crates.txt $(wildcard crates/*/src/*.rt crates/*/specs/*.antt)
 RUST := rust/Cargo.toml rust/Cargo.lock $(wildcard page/* rust/bohrali/src/*.rs rust/bohrali/build.rs $(foreach x,region witness frontend tool,rust/$(x)/Cargo.toml rust/$(x)/src/*.rs rust/$(x)/src/*/*.rs))
 CFLAGS ?= -O2 -Wall -Wextra -Werror
 
-.PHONY: all demo test frontend evidence mutants bench bench-against install clean
+.PHONY: all proved demo test frontend evidence mutants bench bench-against install clean
 
 all: $(ARCHIVE) $(SHARED) $(COMMAND)
 
-$(ARCHIVE): $(SOURCES)
-	rt staticlib bohrali
-	touch $@
+proved: $(ARCHIVE) $(PROGRAMS)
 
-$(REPLAY): $(SOURCES)
-	rt check replay_trace
-	touch $@
+$(ARCHIVE): $(SOURCES)
+	cd crates/bohrali_c && rt lib
+	install -D -m 644 crates/bohrali_c/out/libbohrali_c.a $@
+
+# A program is built by a run of it.
+$(PROGRAMS): target/bin/%: $(SOURCES)
+	cd crates/$* && rt run </dev/null >/dev/null
+	install -D crates/$*/out/$* $@
 
 # The command stands beside the proved program that replays traces.
 $(COMMAND): $(ARCHIVE) $(REPLAY) $(RUST)
@@ -91,4 +96,4 @@ install: $(ARCHIVE) $(SHARED) $(COMMAND) $(REPLAY)
 	install -D -m 644 docs/bohrali.1 $(DESTDIR)$(PREFIX)/share/man/man1/bohrali.1
 
 clean:
-	rm -rf target rust/target examples/playtest/build
+	rm -rf target rust/target examples/playtest/build crates/*/out

@@ -1,5 +1,5 @@
-//! Links the archive that `rt staticlib bohrali` writes, or the one in the folder that
-//! `BOHRALI_LIB_DIR` names.
+//! Links the archive that `make proved` builds, or the one in the folder that `BOHRALI_LIB_DIR`
+//! names.
 
 use std::env;
 

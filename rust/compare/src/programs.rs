@@ -1,4 +1,4 @@
-//! The programs that the kit builds from the proved crates, into target/bin.
+//! The programs that the kit builds from the proved crates, in target/bin.
 
 use std::io::Write;
 use std::path::Path;
@@ -13,7 +13,9 @@ pub fn printed(program: &str, input: &[u8]) -> String {
         .stdin(Stdio::piped())
         .stdout(Stdio::piped())
         .spawn()
-        .unwrap_or_else(|error| panic!("target/bin/{program}, which `rt ci` builds: {error}"));
+        .unwrap_or_else(|error| {
+            panic!("target/bin/{program}, which `make proved` builds: {error}")
+        });
     let mut pipe = child.stdin.take().expect("standard input is a pipe");
     let output = thread::scope(|scope| {
         // beside the reading, since a pipe holds only so much; a program need not read all of it

@@ -69,7 +69,7 @@ fn found() -> Result<PathBuf, Failure> {
     let mut paths = folders.into_iter().map(|x| x.join(NAME));
     paths.find(|x| x.is_file()).ok_or_else(|| {
         Failure::words(format!(
-            "the proved program {NAME} was not found: BOHRALI_REPLAY may name it, 'rt check {NAME}' builds it"
+            "the proved program {NAME} was not found: BOHRALI_REPLAY may name it, 'make proved' builds it"
         ))
     })
 }

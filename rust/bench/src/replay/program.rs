@@ -39,7 +39,7 @@ pub struct Program {
 impl Program {
     pub fn library() -> Program {
         let path = Path::new(TARGET).join("bin/replay_trace");
-        assert!(path.exists(), "`rt check replay_trace` builds the program");
+        assert!(path.exists(), "`make proved` builds the program");
         Program {
             path,
             arguments: &[],
