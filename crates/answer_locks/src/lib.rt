@@ -35,9 +35,8 @@ fn put_found(
     out: &mut [u8],
 )
     requires { Accepted s.now chart × Marks (reading s.now chart) marks.now kinds.now × (chart.constructs ≤ length out.old) }
-    ensures* { λ _.
-        let result = locks_result (reading s.now chart) size in
-        ⌜ out.new ≡ result ++ drop (length result) out.old ⌝ }
+    ensures { let result = locks_result (reading s.now chart) size in
+        out.new ≡ result ++ drop (length result) out.old }
 {
     let mut given = [0u64; Chart::CONSTRUCTS];
     fill_given(s, chart, &mut given);
@@ -68,9 +67,8 @@ pub fn put_locks(
     out: &mut [u8],
 )
     requires { Accepted s.now chart × Marks (reading s.now chart) marks.now kinds.now × (chart.constructs ≤ length out.old) }
-    ensures* { λ _.
-        let result = locks_result (reading s.now chart) size in
-        ⌜ out.new ≡ result ++ drop (length result) out.old ⌝ }
+    ensures { let result = locks_result (reading s.now chart) size in
+        out.new ≡ result ++ drop (length result) out.old }
 {
     if Construct::occurs(s, chart, Construct::CRITICAL) {
         put_found(s, chart, size, marks, kinds, out);

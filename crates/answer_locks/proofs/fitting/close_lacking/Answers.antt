@@ -18,25 +18,25 @@ loop-x-init c = (omega arith, c.requires.1, λ y l. absurd (omega arith))
 pub bounds-closed-x : goal.bounds-closed-x
 bounds-closed-x c =
     let low : c.loop-x.x < 192 =
-        omega (arith, c.requires.0) in
+    omega (arith, c.requires.0) in
     low
 
 pub offset_bounds-marks-x : goal.offset_bounds-marks-x
 offset_bounds-marks-x c =
     let low : c.loop-x.x < 192 =
-        omega (arith, c.requires.0) in
+    omega (arith, c.requires.0) in
     omega (arith, low)
 
 pub bounds-marks-x : goal.bounds-marks-x
 bounds-marks-x c =
     let low : c.loop-x.x < 192 =
-        omega (arith, c.requires.0) in
+    omega (arith, c.requires.0) in
     low
 
 pub bounds-shut-x : goal.bounds-shut-x
 bounds-shut-x c =
     let low : c.loop-x.x < 192 =
-        omega (arith, c.requires.0) in
+    omega (arith, c.requires.0) in
     low
 
 pub overflow_add-x : goal.overflow_add-x
@@ -48,7 +48,7 @@ loop-x-smaller c = omega arith
 pub loop-x-preserved : goal.loop-x-preserved
 loop-x-preserved c =
     let low : c.loop-x.x < 192 =
-        omega (arith, c.requires.0) in
+    omega (arith, c.requires.0) in
     let e = c.args in (
       omega arith,
       length-set c.loop-x.shut c.loop-x.x _ ∙ c.loop-x.invariant.1,

@@ -20,25 +20,25 @@ loop-x-init c = (omega arith, λ names N. searched-none _ _)
 pub profile_of-requires-in-loop-x : goal.profile_of-requires-in-loop-x
 profile_of-requires-in-loop-x c =
     let low : c.loop-x.x < 192 =
-        omega (arith, c.requires.0) in
+    omega (arith, c.requires.0) in
     low
 
 pub bounds-closed-x : goal.bounds-closed-x
 bounds-closed-x c =
     let low : c.loop-x.x < 192 =
-        omega (arith, c.requires.0) in
+    omega (arith, c.requires.0) in
     low
 
 pub offset_bounds-around-x : goal.offset_bounds-around-x
 offset_bounds-around-x c =
     let low : c.loop-x.x < 192 =
-        omega (arith, c.requires.0) in
+    omega (arith, c.requires.0) in
     omega (arith, low)
 
 pub bounds-around-x : goal.bounds-around-x
 bounds-around-x c =
     let low : c.loop-x.x < 192 =
-        omega (arith, c.requires.0) in
+    omega (arith, c.requires.0) in
     low
 
 pub try_node-tried-requires : goal.try_node-tried-requires
