@@ -1,5 +1,5 @@
 -- The pair rules (01: "Phases and pair rules"): the answer for two nodes, which may be equal, by computation. It is asked for nodes that are
--- no barriers. What it means is in specs/AnswerLaws.antt.
+-- no barriers. What it means is in proofs/AnswerLaws.antt.
 -- Assumes nothing.
 use Rattle.std.specs.Prelude.{Bool, false, ◌&&◌, ◌||◌, not, cond, ℕ, eqb, leb}
 use Rattle.lists.specs.Truth.{is}

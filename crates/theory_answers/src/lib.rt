@@ -1,6 +1,6 @@
 // The pair rules: the answer for two nodes of a region, and what each answer means in paths and constructs.
-// Definitions and lemmas in specs/: Unexcluded is what a reader must believe, the rules in words; Answer, Size, Numbers and Sheet compute it; AnswerLaws
-// and SizeLaws say that the two agree; Starred holds known answers, MoreEdges that a chart with more edges has no more nevers. The types of an
+// Definitions and lemmas, in specs/ and proofs/: Unexcluded is what a reader must believe, the rules in words; Answer, Size, Numbers and Sheet compute it; AnswerLaws
+// and SizeLaws say that the two agree; Starred holds known answers, MoreEdgesLaws that a chart with more edges has no more nevers. The types of an
 // answer and of a size are here, since the definitions speak of them; no function is.
 #![tactic(auto)]
 

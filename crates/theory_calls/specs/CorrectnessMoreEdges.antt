@@ -1,5 +1,5 @@
 -- More edges only loosen (02, Note 8), said of what Pair and Sheet return, without a team size and with one: a never of the larger chart is one of
--- the smaller, and 255 stands in both sheets at the same places. Judge is in specs/MoreEdges.antt.
+-- the smaller, and 255 stands in both sheets at the same places. Judge is in proofs/MoreEdges.antt.
 -- Assumes nothing.
 use Rattle.std.specs.Prelude.{◌≡◌, refl, ◌⊎◌, ◌≢◌, ◌↔◌, true, false, List, ◌∷◌, ℕ, zero, suc, ◌+◌, ◌*◌, ◌<◌, ℤ, pos, neg_ℤ, length, get_or}
 use Rattle.std.proofs.Common.{sym, ◌∙◌, inl, inr, arith}

@@ -19,7 +19,7 @@ unfoldable pub length_row : ℕ → ℕ → Row
 length_row room len = record { number = 4; applies = ltb room len }
 
 -- Then rows 1 to 10 on the present chart, then on the longer one. The edge's numbers are any: one that no node has, though it fit no byte, gives row 9 of
--- the longer chart, or row 3 before it where there are 1,024 edges already (specs/NoNode.antt).
+-- the longer chart, or row 3 before it where there are 1,024 edges already (proofs/NoNode.antt).
 unfoldable pub ask_rows : List ℕ → ℕ → ℕ → ℕ → List Row
 ask_rows buffer len from to =
     let s = take len buffer in

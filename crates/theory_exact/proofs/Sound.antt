@@ -1,4 +1,4 @@
--- Soundness: no rule excludes two nodes that are concurrent in some team. What holds of every meeting is in specs/Unmet.antt; a finished run adds a
+-- Soundness: no rule excludes two nodes that are concurrent in some team. What holds of every meeting is in proofs/Unmet.antt; a finished run adds a
 -- common end.
 -- Assumes nothing.
 use Rattle.std.proofs.Common.{subst}

@@ -1,5 +1,5 @@
 -- Never in any run, finished or not: a pair of nodes that a rule other than "no common end" excludes is met in no state of any run of any team. What
--- a meeting says of the rules is shown here for every run; specs/Sound.antt adds what a finished run says of ends.
+-- a meeting says of the rules is shown here for every run; proofs/Sound.antt adds what a finished run says of ends.
 -- Assumes nothing.
 use Rattle.std.specs.Prelude.{◌≡◌, ◌⊎◌, ◌≢◌, true, List, ℕ, ◌≤◌, ◌<◌}
 use Rattle.std.proofs.Common.{ap, sym, ◌∙◌, subst, inl, inr, arith}

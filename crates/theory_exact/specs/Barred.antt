@@ -1,6 +1,6 @@
 -- The rules that exclude two nodes in every run, finished or not: all but "no common end". That one speaks of the barrier that all threads go on
 -- to, and so of finished runs alone; what the other rules speak of has happened by the time that two threads stand at the nodes. That no run at all
--- meets what these exclude, and some run all else, is in specs/Unmet.antt and specs/Exact.antt.
+-- meets what these exclude, and some run all else, is in proofs/Unmet.antt and proofs/Exact.antt.
 -- Assumes nothing.
 use Rattle.std.specs.Prelude.{◌≡◌, ◌⊎◌, ◌≢◌, Bool, true, ◌||◌, ℕ, ◌≤◌, leb}
 use Rattle.chart.specs.Region.{single, master, Region}

@@ -1,6 +1,6 @@
 -- Locks that can be dropped. By the answers: every pair of a node inside the critical and a node inside a critical of its name, itself included, is
 -- answered never; begins and ends are not inside (01). In runs: the locks that are left are enough. That the one gives the other, for all such
--- criticals at once, is in specs/Dropped.antt.
+-- criticals at once, is in proofs/Dropped.antt.
 -- Assumes nothing.
 use Rattle.std.specs.Prelude.{◌≡◌, ◌≢◌, Bool, true, false, ℕ}
 use Rattle.chart.specs.Region.{critical, Region}
