@@ -52,12 +52,15 @@ from_begin-requires c =
 
 pub returns-then-role-eq-OPENS : goal.returns-then-role-eq-OPENS
 unfolding decide from_node
-returns-then-role-eq-OPENS c = record { of_states = λ R σ T S.
+returns-then-role-eq-OPENS c = record {
+  of_states = λ R σ T S.
       let x = c.node_of-x.ensures in
       let less : c.args.t < 8 = omega arith in
       let low = S.byte c.args.t less in
       let role = ap R.role (sym (x ∙ S.node c.args.t less)) ∙ T.role _ (omega (arith, x, low)) in
-      rw (lt-ltb c.args.t c.args.m (omega arith), role ∙ role-opens _ _ (sym c.at-role.ensures ∙ c.if-role-eq-OPENS.true)) (c.from_begin.ensures.of_states R σ T S ∙ ap (from_begin R c.args.m σ c.args.t c.args.v) c.at.ensures); numbered = c.from_begin.ensures.numbered }
+      rw (lt-ltb c.args.t c.args.m (omega arith), role ∙ role-opens _ _ (sym c.at-role.ensures ∙ c.if-role-eq-OPENS.true)) (c.from_begin.ensures.of_states R σ T S ∙ ap (from_begin R c.args.m σ c.args.t c.args.v) c.at.ensures);
+  numbered = c.from_begin.ensures.numbered;
+}
 
 pub overflow_add-x-then-role-eq-CLOSES : goal.overflow_add-x-then-role-eq-CLOSES
 overflow_add-x-then-role-eq-CLOSES c =
@@ -83,21 +86,27 @@ from_end-requires c =
 
 pub returns-then-role-eq-CLOSES : goal.returns-then-role-eq-CLOSES
 unfolding decide from_node
-returns-then-role-eq-CLOSES c = record { of_states = λ R σ T S.
+returns-then-role-eq-CLOSES c = record {
+  of_states = λ R σ T S.
       let x = c.node_of-x.ensures in
       let less : c.args.t < 8 = omega arith in
       let low = S.byte c.args.t less in
       let role = ap R.role (sym (x ∙ S.node c.args.t less)) ∙ T.role _ (omega (arith, x, low)) in
-      rw (lt-ltb c.args.t c.args.m (omega arith), role ∙ role-closes _ _ (sym c.at-role.ensures ∙ c.if-role-eq-CLOSES.true)) (c.from_end.ensures.of_states R σ T S ∙ ap (from_end R c.args.m σ c.args.t c.args.v) c.at-then-role-eq-CLOSES.ensures); numbered = c.from_end.ensures.numbered }
+      rw (lt-ltb c.args.t c.args.m (omega arith), role ∙ role-closes _ _ (sym c.at-role.ensures ∙ c.if-role-eq-CLOSES.true)) (c.from_end.ensures.of_states R σ T S ∙ ap (from_end R c.args.m σ c.args.t c.args.v) c.at-then-role-eq-CLOSES.ensures);
+  numbered = c.from_end.ensures.numbered;
+}
 
 pub returns-then-role-eq-BARRIER : goal.returns-then-role-eq-BARRIER
 unfolding decide from_node
-returns-then-role-eq-BARRIER c = record { of_states = λ R σ T S.
+returns-then-role-eq-BARRIER c = record {
+  of_states = λ R σ T S.
       let x = c.node_of-x.ensures in
       let less : c.args.t < 8 = omega arith in
       let low = S.byte c.args.t less in
       let role = ap R.role (sym (x ∙ S.node c.args.t less)) ∙ T.role _ (omega (arith, x, low)) in
-      rw (lt-ltb c.args.t c.args.m (omega arith), role ∙ role-barrier _ _ (sym c.at-role.ensures ∙ c.if-role-eq-BARRIER.true)); numbered = tt }
+      rw (lt-ltb c.args.t c.args.m (omega arith), role ∙ role-barrier _ _ (sym c.at-role.ensures ∙ c.if-role-eq-BARRIER.true));
+  numbered = tt;
+}
 
 pub leads-requires : goal.leads-requires
 leads-requires c =
@@ -107,20 +116,26 @@ leads-requires c =
 
 pub returns-then-leads : goal.returns-then-leads
 unfolding decide from_node
-returns-then-leads c = record { of_states = λ R σ T S.
+returns-then-leads c = record {
+  of_states = λ R σ T S.
       let x = c.node_of-x.ensures in
       let less : c.args.t < 8 = omega arith in
       let low = S.byte c.args.t less in
       let role = ap R.role (sym (x ∙ S.node c.args.t less)) ∙ T.role _ (omega (arith, x, low)) in
       let edge = ap (λ (n : ℕ). R.edge n c.args.v) (sym (x ∙ S.node c.args.t less)) ∙ T.edge _ c.args.v (omega (arith, x, low)) c.requires.2 ∙ sym c.leads.ensures in
-      rw (lt-ltb c.args.t c.args.m (omega arith), role ∙ role-plain _ _ (λ z. c.if-role-eq-BARRIER.false (c.at-role.ensures ∙ z)) (λ z. c.if-role-eq-OPENS.false (c.at-role.ensures ∙ z)) (λ z. c.if-role-eq-CLOSES.false (c.at-role.ensures ∙ z)), edge ∙ c.if-leads.true); numbered = tt }
+      rw (lt-ltb c.args.t c.args.m (omega arith), role ∙ role-plain _ _ (λ z. c.if-role-eq-BARRIER.false (c.at-role.ensures ∙ z)) (λ z. c.if-role-eq-OPENS.false (c.at-role.ensures ∙ z)) (λ z. c.if-role-eq-CLOSES.false (c.at-role.ensures ∙ z)), edge ∙ c.if-leads.true);
+  numbered = tt;
+}
 
 pub returns : goal.returns
 unfolding decide from_node
-returns c = record { of_states = λ R σ T S.
+returns c = record {
+  of_states = λ R σ T S.
       let x = c.node_of-x.ensures in
       let less : c.args.t < 8 = omega arith in
       let low = S.byte c.args.t less in
       let role = ap R.role (sym (x ∙ S.node c.args.t less)) ∙ T.role _ (omega (arith, x, low)) in
       let edge = ap (λ (n : ℕ). R.edge n c.args.v) (sym (x ∙ S.node c.args.t less)) ∙ T.edge _ c.args.v (omega (arith, x, low)) c.requires.2 ∙ sym c.leads.ensures in
-      rw (lt-ltb c.args.t c.args.m (omega arith), role ∙ role-plain _ _ (λ z. c.if-role-eq-BARRIER.false (c.at-role.ensures ∙ z)) (λ z. c.if-role-eq-OPENS.false (c.at-role.ensures ∙ z)) (λ z. c.if-role-eq-CLOSES.false (c.at-role.ensures ∙ z)), edge ∙ c.if-leads.false); numbered = tt }
+      rw (lt-ltb c.args.t c.args.m (omega arith), role ∙ role-plain _ _ (λ z. c.if-role-eq-BARRIER.false (c.at-role.ensures ∙ z)) (λ z. c.if-role-eq-OPENS.false (c.at-role.ensures ∙ z)) (λ z. c.if-role-eq-CLOSES.false (c.at-role.ensures ∙ z)), edge ∙ c.if-leads.false);
+  numbered = tt;
+}

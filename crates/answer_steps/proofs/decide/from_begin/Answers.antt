@@ -25,16 +25,22 @@ overflow_add-count_of c =
 
 pub returns-then-takes : goal.returns-then-takes
 unfolding from_begin
-returns-then-takes c = record { of_states = λ R σ T S.
+returns-then-takes c = record {
+  of_states = λ R σ T S.
       let own = c.count_of.ensures ∙ S.count c.args.t c.args.c c.requires.2 (omega (arith, c.requires.4, T.constructs, T.few)) in
       let taken = ap (λ (k : ℕ). taking R c.args.m σ c.args.c k (Takes c.args.c) (R.role c.args.v)) (sym (add-one _ ∙ ap suc own)) ∙ c.takes.ensures R σ T S (Takes c.args.c) in
       rw (sym (c.goes.ensures R σ T S) ∙ c.if-goes.false, sym (c.passes.ensures R σ T S) ∙ c.if-passes.false)
-      (ap (Takes c.args.c) c.at.ensures ∙ sym (taken ∙ ap (λ (b : Bool). cond b (Takes c.args.c (get_or c.args.table.now (1280 + c.args.v) 0)) None) c.if-takes.true)); numbered = (omega (arith, c.requires.4, c.requires.0.tabled.constructs, c.requires.0.tabled.few), omega (arith, c.at.ensures, c.requires.0.tabled.numbers c.args.v c.requires.3)) }
+      (ap (Takes c.args.c) c.at.ensures ∙ sym (taken ∙ ap (λ (b : Bool). cond b (Takes c.args.c (get_or c.args.table.now (1280 + c.args.v) 0)) None) c.if-takes.true));
+  numbered = (omega (arith, c.requires.4, c.requires.0.tabled.constructs, c.requires.0.tabled.few), omega (arith, c.at.ensures, c.requires.0.tabled.numbers c.args.v c.requires.3));
+}
 
 pub returns : goal.returns
 unfolding from_begin
-returns c = record { of_states = λ R σ T S.
+returns c = record {
+  of_states = λ R σ T S.
       let own = c.count_of.ensures ∙ S.count c.args.t c.args.c c.requires.2 (omega (arith, c.requires.4, T.constructs, T.few)) in
       let taken = ap (λ (k : ℕ). taking R c.args.m σ c.args.c k (Takes c.args.c) (R.role c.args.v)) (sym (add-one _ ∙ ap suc own)) ∙ c.takes.ensures R σ T S (Takes c.args.c) in
       rw (sym (c.goes.ensures R σ T S) ∙ c.if-goes.false, sym (c.passes.ensures R σ T S) ∙ c.if-passes.false)
-      (sym (taken ∙ ap (λ (b : Bool). cond b (Takes c.args.c (get_or c.args.table.now (1280 + c.args.v) 0)) None) c.if-takes.false)); numbered = tt }
+      (sym (taken ∙ ap (λ (b : Bool). cond b (Takes c.args.c (get_or c.args.table.now (1280 + c.args.v) 0)) None) c.if-takes.false));
+  numbered = tt;
+}

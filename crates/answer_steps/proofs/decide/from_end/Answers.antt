@@ -20,16 +20,22 @@ returns-then-again c = record { of_states = λ R σ T S. rw (sym (c.goes.ensures
 
 pub returns-then-takes : goal.returns-then-takes
 unfolding from_end
-returns-then-takes c = record { of_states = λ R σ T S.
+returns-then-takes c = record {
+  of_states = λ R σ T S.
       let own = c.count_of.ensures ∙ S.count c.args.t c.args.c c.requires.2 (omega (arith, c.requires.4, T.constructs, T.few)) in
       let taken = ap (λ (k : ℕ). taking R c.args.m σ c.args.c k (TakesNext c.args.c) (R.role c.args.v)) (sym own) ∙ c.takes.ensures R σ T S (TakesNext c.args.c) in
       rw (sym (c.goes.ensures R σ T S) ∙ c.if-goes.false, sym (c.again.ensures R T) ∙ c.if-again.false)
-      (ap (TakesNext c.args.c) c.at.ensures ∙ sym (taken ∙ ap (λ (b : Bool). cond b (TakesNext c.args.c (get_or c.args.table.now (1280 + c.args.v) 0)) None) c.if-takes.true)); numbered = (omega (arith, c.requires.4, c.requires.0.tabled.constructs, c.requires.0.tabled.few), omega (arith, c.at.ensures, c.requires.0.tabled.numbers c.args.v c.requires.3)) }
+      (ap (TakesNext c.args.c) c.at.ensures ∙ sym (taken ∙ ap (λ (b : Bool). cond b (TakesNext c.args.c (get_or c.args.table.now (1280 + c.args.v) 0)) None) c.if-takes.true));
+  numbered = (omega (arith, c.requires.4, c.requires.0.tabled.constructs, c.requires.0.tabled.few), omega (arith, c.at.ensures, c.requires.0.tabled.numbers c.args.v c.requires.3));
+}
 
 pub returns : goal.returns
 unfolding from_end
-returns c = record { of_states = λ R σ T S.
+returns c = record {
+  of_states = λ R σ T S.
       let own = c.count_of.ensures ∙ S.count c.args.t c.args.c c.requires.2 (omega (arith, c.requires.4, T.constructs, T.few)) in
       let taken = ap (λ (k : ℕ). taking R c.args.m σ c.args.c k (TakesNext c.args.c) (R.role c.args.v)) (sym own) ∙ c.takes.ensures R σ T S (TakesNext c.args.c) in
       rw (sym (c.goes.ensures R σ T S) ∙ c.if-goes.false, sym (c.again.ensures R T) ∙ c.if-again.false)
-      (sym (taken ∙ ap (λ (b : Bool). cond b (TakesNext c.args.c (get_or c.args.table.now (1280 + c.args.v) 0)) None) c.if-takes.false)); numbered = tt }
+      (sym (taken ∙ ap (λ (b : Bool). cond b (TakesNext c.args.c (get_or c.args.table.now (1280 + c.args.v) 0)) None) c.if-takes.false));
+  numbered = tt;
+}

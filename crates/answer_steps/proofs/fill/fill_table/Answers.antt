@@ -52,24 +52,30 @@ pub fill_children-requires : goal.fill_children-requires
 unfolding construct_word
 fill_children-requires c =
     let table : List ℕ =
-        c.put_numbers.last.1.1.1.1.0 in
+    c.put_numbers.new.table in
     let few : c.args.chart.constructs ≤ 48 =
-        c.requires.laid.constructs-most in
+    c.requires.laid.constructs-most in
     let nodes : c.args.chart.nodes ≤ 192 =
-        c.requires.laid.nodes-most in
+    c.requires.laid.nodes-most in
     let long : length table ≡ 2133 =
-        c.put_numbers.ensures.beside.long ∙ c.fill_constructs-5.ensures.long ∙ c.fill_constructs-4.ensures.long ∙ c.fill_constructs-3.ensures.long
+    c.put_numbers.ensures.beside.long ∙ c.fill_constructs-5.ensures.long ∙ c.fill_constructs-4.ensures.long ∙ c.fill_constructs-3.ensures.long
     ∙ c.fill_constructs-2.ensures.long ∙ c.fill_constructs.ensures.long ∙ c.fill_nodes-3.ensures.long ∙ c.fill_nodes-2.ensures.long
     ∙ c.fill_nodes.ensures.long ∙ length-replicate {A = ℕ} 2133 0 in
     let blank : (j : ℕ) → (j < 1024) ⊎ (2037 ≤ j) → get_or table j 0 ≡ 0 =
-        λ j (inr l). c.put_numbers.ensures.beside.rest j (inr (omega arith)) ∙ c.fill_constructs-5.ensures.rest j (inr (omega (arith, few))) ∙ c.fill_constructs-4.ensures.rest j (inr (omega (arith, few)))
-    ∙ c.fill_constructs-3.ensures.rest j (inr (omega (arith, few))) ∙ c.fill_constructs-2.ensures.rest j (inr (omega (arith, few))) ∙ c.fill_constructs.ensures.rest j (inr (omega (arith, few)))
-    ∙ c.fill_nodes-3.ensures.rest j (inr (omega (arith, nodes))) ∙ c.fill_nodes-2.ensures.rest j (inr (omega (arith, nodes))) ∙ c.fill_nodes.ensures.rest j (inr (omega (arith, nodes)))
-    ∙ zeros 2133 j in
+    λ j t. elim t [
+      | inl l ↦ c.put_numbers.ensures.beside.rest j (inl (omega arith)) ∙ c.fill_constructs-5.ensures.rest j (inl (omega arith)) ∙ c.fill_constructs-4.ensures.rest j (inl (omega arith))
+          ∙ c.fill_constructs-3.ensures.rest j (inl (omega arith)) ∙ c.fill_constructs-2.ensures.rest j (inl (omega arith)) ∙ c.fill_constructs.ensures.rest j (inl (omega arith))
+          ∙ c.fill_nodes-3.ensures.rest j (inl (omega arith)) ∙ c.fill_nodes-2.ensures.rest j (inl (omega arith)) ∙ c.fill_nodes.ensures.rest j (inl (omega arith))
+          ∙ zeros 2133 j
+      | inr l ↦ c.put_numbers.ensures.beside.rest j (inr (omega arith)) ∙ c.fill_constructs-5.ensures.rest j (inr (omega (arith, few))) ∙ c.fill_constructs-4.ensures.rest j (inr (omega (arith, few)))
+          ∙ c.fill_constructs-3.ensures.rest j (inr (omega (arith, few))) ∙ c.fill_constructs-2.ensures.rest j (inr (omega (arith, few))) ∙ c.fill_constructs.ensures.rest j (inr (omega (arith, few)))
+          ∙ c.fill_nodes-3.ensures.rest j (inr (omega (arith, nodes))) ∙ c.fill_nodes-2.ensures.rest j (inr (omega (arith, nodes))) ∙ c.fill_nodes.ensures.rest j (inr (omega (arith, nodes)))
+          ∙ zeros 2133 j
+    ] in
     let count : get_or table 2033 0 ≡ c.args.chart.constructs =
-        c.put_numbers.ensures.table_after.1 in
+    c.put_numbers.ensures.table_after.1 in
     let begins : (x : ℕ) → x < get_or table 2033 0 → get_or table (1936 + x) 0 < 256 =
-        λ x l. let small : x < c.args.chart.constructs = omega (arith, count) in
+    λ x l. let small : x < c.args.chart.constructs = omega (arith, count) in
     let e = c.put_numbers.ensures.beside.rest (1936 + x) (inl (omega (arith, few))) ∙ c.fill_constructs-5.ensures.rest (1936 + x) (inl (omega (arith, few))) ∙ c.fill_constructs-4.ensures.at x small in
     omega (arith, e, c.frames.ensures.0.node x) in
     record { table_len = (long, omega arith, omega (arith, count, few)); by_index = begins; by_index_2 = λ j l. blank j (inr (omega arith)) }
@@ -78,24 +84,30 @@ pub fill_children-requires-2 : goal.fill_children-requires-2
 unfolding construct_word
 fill_children-requires-2 c =
     let table : List ℕ =
-        c.put_numbers.last.1.1.1.1.0 in
+    c.put_numbers.new.table in
     let few : c.args.chart.constructs ≤ 48 =
-        c.requires.laid.constructs-most in
+    c.requires.laid.constructs-most in
     let nodes : c.args.chart.nodes ≤ 192 =
-        c.requires.laid.nodes-most in
+    c.requires.laid.nodes-most in
     let long : length table ≡ 2133 =
-        c.put_numbers.ensures.beside.long ∙ c.fill_constructs-5.ensures.long ∙ c.fill_constructs-4.ensures.long ∙ c.fill_constructs-3.ensures.long
+    c.put_numbers.ensures.beside.long ∙ c.fill_constructs-5.ensures.long ∙ c.fill_constructs-4.ensures.long ∙ c.fill_constructs-3.ensures.long
     ∙ c.fill_constructs-2.ensures.long ∙ c.fill_constructs.ensures.long ∙ c.fill_nodes-3.ensures.long ∙ c.fill_nodes-2.ensures.long
     ∙ c.fill_nodes.ensures.long ∙ length-replicate {A = ℕ} 2133 0 in
     let blank : (j : ℕ) → (j < 1024) ⊎ (2037 ≤ j) → get_or table j 0 ≡ 0 =
-        λ j (inr l). c.put_numbers.ensures.beside.rest j (inr (omega arith)) ∙ c.fill_constructs-5.ensures.rest j (inr (omega (arith, few))) ∙ c.fill_constructs-4.ensures.rest j (inr (omega (arith, few)))
-    ∙ c.fill_constructs-3.ensures.rest j (inr (omega (arith, few))) ∙ c.fill_constructs-2.ensures.rest j (inr (omega (arith, few))) ∙ c.fill_constructs.ensures.rest j (inr (omega (arith, few)))
-    ∙ c.fill_nodes-3.ensures.rest j (inr (omega (arith, nodes))) ∙ c.fill_nodes-2.ensures.rest j (inr (omega (arith, nodes))) ∙ c.fill_nodes.ensures.rest j (inr (omega (arith, nodes)))
-    ∙ zeros 2133 j in
+    λ j t. elim t [
+      | inl l ↦ c.put_numbers.ensures.beside.rest j (inl (omega arith)) ∙ c.fill_constructs-5.ensures.rest j (inl (omega arith)) ∙ c.fill_constructs-4.ensures.rest j (inl (omega arith))
+          ∙ c.fill_constructs-3.ensures.rest j (inl (omega arith)) ∙ c.fill_constructs-2.ensures.rest j (inl (omega arith)) ∙ c.fill_constructs.ensures.rest j (inl (omega arith))
+          ∙ c.fill_nodes-3.ensures.rest j (inl (omega arith)) ∙ c.fill_nodes-2.ensures.rest j (inl (omega arith)) ∙ c.fill_nodes.ensures.rest j (inl (omega arith))
+          ∙ zeros 2133 j
+      | inr l ↦ c.put_numbers.ensures.beside.rest j (inr (omega arith)) ∙ c.fill_constructs-5.ensures.rest j (inr (omega (arith, few))) ∙ c.fill_constructs-4.ensures.rest j (inr (omega (arith, few)))
+          ∙ c.fill_constructs-3.ensures.rest j (inr (omega (arith, few))) ∙ c.fill_constructs-2.ensures.rest j (inr (omega (arith, few))) ∙ c.fill_constructs.ensures.rest j (inr (omega (arith, few)))
+          ∙ c.fill_nodes-3.ensures.rest j (inr (omega (arith, nodes))) ∙ c.fill_nodes-2.ensures.rest j (inr (omega (arith, nodes))) ∙ c.fill_nodes.ensures.rest j (inr (omega (arith, nodes)))
+          ∙ zeros 2133 j
+    ] in
     let count : get_or table 2033 0 ≡ c.args.chart.constructs =
-        c.put_numbers.ensures.table_after.1 in
+    c.put_numbers.ensures.table_after.1 in
     let begins : (x : ℕ) → x < get_or table 2033 0 → get_or table (1936 + x) 0 < 256 =
-        λ x l. let small : x < c.args.chart.constructs = omega (arith, count) in
+    λ x l. let small : x < c.args.chart.constructs = omega (arith, count) in
     let e = c.put_numbers.ensures.beside.rest (1936 + x) (inl (omega (arith, few))) ∙ c.fill_constructs-5.ensures.rest (1936 + x) (inl (omega (arith, few))) ∙ c.fill_constructs-4.ensures.at x small in
     omega (arith, e, c.frames.ensures.0.node x) in
     let one = c.fill_children.ensures.beside in
@@ -104,20 +116,26 @@ fill_children-requires-2 c =
 pub fill_edges-requires : goal.fill_edges-requires
 fill_edges-requires c =
     let table : List ℕ =
-        c.put_numbers.last.1.1.1.1.0 in
+    c.put_numbers.new.table in
     let few : c.args.chart.constructs ≤ 48 =
-        c.requires.laid.constructs-most in
+    c.requires.laid.constructs-most in
     let nodes : c.args.chart.nodes ≤ 192 =
-        c.requires.laid.nodes-most in
+    c.requires.laid.nodes-most in
     let long : length table ≡ 2133 =
-        c.put_numbers.ensures.beside.long ∙ c.fill_constructs-5.ensures.long ∙ c.fill_constructs-4.ensures.long ∙ c.fill_constructs-3.ensures.long
+    c.put_numbers.ensures.beside.long ∙ c.fill_constructs-5.ensures.long ∙ c.fill_constructs-4.ensures.long ∙ c.fill_constructs-3.ensures.long
     ∙ c.fill_constructs-2.ensures.long ∙ c.fill_constructs.ensures.long ∙ c.fill_nodes-3.ensures.long ∙ c.fill_nodes-2.ensures.long
     ∙ c.fill_nodes.ensures.long ∙ length-replicate {A = ℕ} 2133 0 in
     let blank : (j : ℕ) → (j < 1024) ⊎ (2037 ≤ j) → get_or table j 0 ≡ 0 =
-        λ j (inr l). c.put_numbers.ensures.beside.rest j (inr (omega arith)) ∙ c.fill_constructs-5.ensures.rest j (inr (omega (arith, few))) ∙ c.fill_constructs-4.ensures.rest j (inr (omega (arith, few)))
-    ∙ c.fill_constructs-3.ensures.rest j (inr (omega (arith, few))) ∙ c.fill_constructs-2.ensures.rest j (inr (omega (arith, few))) ∙ c.fill_constructs.ensures.rest j (inr (omega (arith, few)))
-    ∙ c.fill_nodes-3.ensures.rest j (inr (omega (arith, nodes))) ∙ c.fill_nodes-2.ensures.rest j (inr (omega (arith, nodes))) ∙ c.fill_nodes.ensures.rest j (inr (omega (arith, nodes)))
-    ∙ zeros 2133 j in
+    λ j t. elim t [
+      | inl l ↦ c.put_numbers.ensures.beside.rest j (inl (omega arith)) ∙ c.fill_constructs-5.ensures.rest j (inl (omega arith)) ∙ c.fill_constructs-4.ensures.rest j (inl (omega arith))
+          ∙ c.fill_constructs-3.ensures.rest j (inl (omega arith)) ∙ c.fill_constructs-2.ensures.rest j (inl (omega arith)) ∙ c.fill_constructs.ensures.rest j (inl (omega arith))
+          ∙ c.fill_nodes-3.ensures.rest j (inl (omega arith)) ∙ c.fill_nodes-2.ensures.rest j (inl (omega arith)) ∙ c.fill_nodes.ensures.rest j (inl (omega arith))
+          ∙ zeros 2133 j
+      | inr l ↦ c.put_numbers.ensures.beside.rest j (inr (omega arith)) ∙ c.fill_constructs-5.ensures.rest j (inr (omega (arith, few))) ∙ c.fill_constructs-4.ensures.rest j (inr (omega (arith, few)))
+          ∙ c.fill_constructs-3.ensures.rest j (inr (omega (arith, few))) ∙ c.fill_constructs-2.ensures.rest j (inr (omega (arith, few))) ∙ c.fill_constructs.ensures.rest j (inr (omega (arith, few)))
+          ∙ c.fill_nodes-3.ensures.rest j (inr (omega (arith, nodes))) ∙ c.fill_nodes-2.ensures.rest j (inr (omega (arith, nodes))) ∙ c.fill_nodes.ensures.rest j (inr (omega (arith, nodes)))
+          ∙ zeros 2133 j
+    ] in
     let one = c.fill_children.ensures.beside in
     let two = c.fill_children-2.ensures.beside in
     record { accepted = (c.requires, two.long ∙ one.long ∙ long); by_index = λ j l. two.rest j (inl (omega arith)) ∙ one.rest j (inl (omega arith)) ∙ blank j (inl l) }
@@ -125,9 +143,9 @@ fill_edges-requires c =
 pub returns : goal.returns
 returns c =
     let F = c.frames.ensures in
-    let N = (c.put_numbers.ensures.table_after, (c.put_numbers.ensures.fact, c.put_numbers.ensures.beside)) in
+    let N = c.put_numbers.ensures in
     let E = c.fill_edges.ensures in
     tabled _ c.args.chart c.requires _ _ _ c.members_of-members.ensures F.0 F.1 (zeros 2133) (length-replicate {A = ℕ} 2133 0)
     c.fill_nodes.ensures c.fill_nodes-2.ensures c.fill_nodes-3.ensures c.fill_constructs.ensures c.fill_constructs-2.ensures
-    c.fill_constructs-3.ensures c.fill_constructs-4.ensures c.fill_constructs-5.ensures N.0 N.1.0 N.1.1 c.fill_children.ensures
+    c.fill_constructs-3.ensures c.fill_constructs-4.ensures c.fill_constructs-5.ensures N.table_after N.fact N.beside c.fill_children.ensures
     c.fill_children-2.ensures E.0 E.1

@@ -48,11 +48,10 @@ pub loop-t-smaller : goal.loop-t-smaller
 loop-t-smaller c = omega arith
 
 pub loop-t-preserved : goal.loop-t-preserved
-loop-t-preserved c =
-    (
-      omega arith,
-      λ R σ T S x k h. more (untaken_by σ c.args.c c.args.instance x) c.loop-t.t c.loop-t.true c.taken_by-taken.result x (c.loop-t.invariant.1 R σ T S x k h) (c.taken_by-taken.ensures R σ T S x k h),
-    )
+loop-t-preserved c = (
+  omega arith,
+  λ R σ T S x k h. more (untaken_by σ c.args.c c.args.instance x) c.loop-t.t c.loop-t.taken c.taken_by-taken.result x (c.loop-t.invariant.1 R σ T S x k h) (c.taken_by-taken.ensures R σ T S x k h),
+)
 
 pub overflow_add-sections : goal.overflow_add-sections
 overflow_add-sections c = omega (arith, c.requires.2)
@@ -68,5 +67,5 @@ unfolding all_taken is_untaken
 returns c =
     λ R σ T S.
     let q : c.loop-t.t ≡ c.args.m = omega arith in
-    ap (λ (w : ℕ). eqb (bit_and c.loop-t.true w) w) (T.sections c.args.c c.requires.2)
-    ∙ all-covered c.loop-t.true (is_section_of R c.args.c) R.constructs (λ x. every c.args.m (untaken_by σ c.args.c c.args.instance x)) (rw q at (c.loop-t.invariant.1 R σ T S))
+    ap (λ (w : ℕ). eqb (bit_and c.loop-t.taken w) w) (T.sections c.args.c c.requires.2)
+    ∙ all-covered c.loop-t.taken (is_section_of R c.args.c) R.constructs (λ x. every c.args.m (untaken_by σ c.args.c c.args.instance x)) (rw q at (c.loop-t.invariant.1 R σ T S))

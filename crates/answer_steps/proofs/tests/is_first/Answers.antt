@@ -40,15 +40,14 @@ pub loop-k-smaller : goal.loop-k-smaller
 loop-k-smaller c = omega arith
 
 pub loop-k-preserved : goal.loop-k-preserved
-loop-k-preserved c =
-    (
-      omega arith,
-      c.loop-k.invariant.1,
-      λ σ S.
-          let own = S.count c.args.t c.args.c c.requires.2 c.requires.3 in
-          let other = S.count c.loop-k.k c.args.c (omega arith) c.requires.3 in
-          every_more c.loop-k.k (λ j. leb (σ.encounters j c.args.c) (σ.encounters c.args.t c.args.c)) (c.loop-k.invariant.2 σ S) (le-leb (σ.encounters c.loop-k.k c.args.c) (σ.encounters c.args.t c.args.c) (omega (arith, c.if-own-count_of.false, c.loop-k.invariant.1, c.count_of.ensures, own, other))),
-    )
+loop-k-preserved c = (
+  omega arith,
+  c.loop-k.invariant.1,
+  λ σ S.
+      let own = S.count c.args.t c.args.c c.requires.2 c.requires.3 in
+      let other = S.count c.loop-k.k c.args.c (omega arith) c.requires.3 in
+      every_more c.loop-k.k (λ j. leb (σ.encounters j c.args.c) (σ.encounters c.args.t c.args.c)) (c.loop-k.invariant.2 σ S) (le-leb (σ.encounters c.loop-k.k c.args.c) (σ.encounters c.args.t c.args.c) (omega (arith, c.if-own-count_of.false, c.loop-k.invariant.1, c.count_of.ensures, own, other))),
+)
 
 pub returns : goal.returns
 unfolding is_first

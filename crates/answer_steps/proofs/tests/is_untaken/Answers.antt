@@ -22,7 +22,7 @@ untaken_by-requires c = (c.requires.0, c.requires.2, c.requires.3, omega arith)
 
 pub returns-then-not-untaken_by : goal.returns-then-not-untaken_by
 unfolding is_untaken
-returns-then-not-untaken_by c = λ σ S. sym (every-fails c.args.m _ c.loop-t.t (omega (arith)) (sym (c.untaken_by.ensures σ S) ∙ not-true _ c.if-not-untaken_by.true))
+returns-then-not-untaken_by c = λ σ S. sym (every-fails c.args.m _ c.loop-t.t (omega (arith)) (sym (c.untaken_by.ensures σ S) ∙ c.if-not-untaken_by.true))
 
 pub overflow_add-t : goal.overflow_add-t
 overflow_add-t c = omega arith
@@ -32,7 +32,7 @@ loop-t-smaller c = omega arith
 
 pub loop-t-preserved : goal.loop-t-preserved
 loop-t-preserved c =
-    (omega arith, λ σ S. every_more c.loop-t.t _ (c.loop-t.invariant.1 σ S) (sym (c.untaken_by.ensures σ S) ∙ not-false _ c.if-not-untaken_by.false))
+    (omega arith, λ σ S. every_more c.loop-t.t _ (c.loop-t.invariant.1 σ S) (sym (c.untaken_by.ensures σ S) ∙ c.if-not-untaken_by.false))
 
 pub returns : goal.returns
 unfolding is_untaken

@@ -24,7 +24,7 @@ not_beside-requires c = (c.requires.0, c.requires.2, c.requires.3, omega arith)
 
 pub returns-then-not-not_beside : goal.returns-then-not-not_beside
 unfolding none_ordered
-returns-then-not-not_beside c = λ R σ T S. sym (every-fails c.args.m _ c.loop-k.k (omega (arith)) (sym (c.not_beside.ensures R σ T S) ∙ not-true _ c.if-not-not_beside.true))
+returns-then-not-not_beside c = λ R σ T S. sym (every-fails c.args.m _ c.loop-k.k (omega (arith)) (sym (c.not_beside.ensures R σ T S) ∙ c.if-not-not_beside.true))
 
 pub overflow_add-k : goal.overflow_add-k
 overflow_add-k c = omega arith
@@ -34,7 +34,7 @@ loop-k-smaller c = omega arith
 
 pub loop-k-preserved : goal.loop-k-preserved
 loop-k-preserved c =
-    (omega arith, λ R σ T S. every_more c.loop-k.k _ (c.loop-k.invariant.1 R σ T S) (sym (c.not_beside.ensures R σ T S) ∙ not-false _ c.if-not-not_beside.false))
+    (omega arith, λ R σ T S. every_more c.loop-k.k _ (c.loop-k.invariant.1 R σ T S) (sym (c.not_beside.ensures R σ T S) ∙ c.if-not-not_beside.false))
 
 pub returns : goal.returns
 unfolding none_ordered

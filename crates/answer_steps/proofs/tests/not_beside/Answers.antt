@@ -21,13 +21,13 @@ pub returns-then-not-in_ordered : goal.returns-then-not-in_ordered
 returns-then-not-in_ordered c =
     λ R σ T S.
     let node = c.node_of.ensures ∙ S.node c.args.k c.requires.3 in
-    let out : in_ordered_of R (σ.node c.args.k) c.args.d ≡ false = ap (λ (x : ℕ). in_ordered_of R x c.args.d) (sym node) ∙ sym (c.in_ordered.ensures R T) ∙ not-true _ c.if-not-in_ordered.true in
+    let out : in_ordered_of R (σ.node c.args.k) c.args.d ≡ false = ap (λ (x : ℕ). in_ordered_of R x c.args.d) (sym node) ∙ sym (c.in_ordered.ensures R T) ∙ c.if-not-in_ordered.true in
     rw (ne_eqb _ _ c.if-k-t.false, out)
 
 pub returns : goal.returns
 returns c =
     λ R σ T S.
     let node = c.node_of.ensures ∙ S.node c.args.k c.requires.3 in
-    let within : in_ordered_of R (σ.node c.args.k) c.args.d ≡ true = ap (λ (x : ℕ). in_ordered_of R x c.args.d) (sym node) ∙ sym (c.in_ordered.ensures R T) ∙ not-false _ c.if-not-in_ordered.false in
+    let within : in_ordered_of R (σ.node c.args.k) c.args.d ≡ true = ap (λ (x : ℕ). in_ordered_of R x c.args.d) (sym node) ∙ sym (c.in_ordered.ensures R T) ∙ c.if-not-in_ordered.false in
     rw (ne_eqb _ _ c.if-k-t.false, within)
     (differ (c.count_of.ensures ∙ S.count c.args.k c.args.d c.requires.3 c.requires.2) (c.count_of-2.ensures ∙ S.count c.args.t c.args.d c.requires.1 c.requires.2))
