@@ -17,17 +17,17 @@ use Rattle.call_edges.proofs.ask.ask_into.Goals as goal
 pub slice_bounds-ask_longer-end : goal.slice_bounds-ask_longer-end
 slice_bounds-ask_longer-end c =
     let passes : first_of (front_rows c.args.buffer.now c.args.len) ≡ none =
-        (passed_none _ _ (sym c.check_front.ensures ∙ c.in-Passed.is)).0 in
+    (passed_none _ _ (sym c.check_front.ensures ∙ c.in-Passed.is)).0 in
     let present : (c.args.len ≤ length c.args.buffer.now) × Admitted (take c.args.len c.args.buffer.now) =
-        front-admitted c.args.buffer.now c.args.len passes in
+    front-admitted c.args.buffer.now c.args.len passes in
     sym (length-take-le _ _ present.0)
 
 pub ask_longer-requires : goal.ask_longer-requires
 ask_longer-requires c =
     let passes : first_of (front_rows c.args.buffer.now c.args.len) ≡ none =
-        (passed_none _ _ (sym c.check_front.ensures ∙ c.in-Passed.is)).0 in
+    (passed_none _ _ (sym c.check_front.ensures ∙ c.in-Passed.is)).0 in
     let present : (c.args.len ≤ length c.args.buffer.now) × Admitted (take c.args.len c.args.buffer.now) =
-        front-admitted c.args.buffer.now c.args.len passes in
+    front-admitted c.args.buffer.now c.args.len passes in
     ((present.1, (passed_none _ _ (sym c.check_front.ensures ∙ c.in-Passed.is)).1), c.requires)
 
 pub returns-in-Refused : goal.returns-in-Refused
@@ -38,9 +38,9 @@ returns-in-Refused c =
 pub returns-in-Passed : goal.returns-in-Passed
 returns-in-Passed c =
     let passes : first_of (front_rows c.args.buffer.now c.args.len) ≡ none =
-        (passed_none _ _ (sym c.check_front.ensures ∙ c.in-Passed.is)).0 in
+    (passed_none _ _ (sym c.check_front.ensures ∙ c.in-Passed.is)).0 in
     let present : (c.args.len ≤ length c.args.buffer.now) × Admitted (take c.args.len c.args.buffer.now) =
-        front-admitted c.args.buffer.now c.args.len passes in
+    front-admitted c.args.buffer.now c.args.len passes in
     let edge = c.edge_between.ensures in
     let buffer = c.args.buffer.now in
     let len = c.args.len in
@@ -48,7 +48,10 @@ returns-in-Passed c =
     let y = c.args.to in
     let (l, admits) = present in
     let long = length-take-le len buffer l in
-    let is = rw (edge.0, edge.1) at c.ask_longer.ensures.value ∙ asked-as-bytes (take len buffer) admits x y in record { value = is ∙ front-passed buffer len x y passes; len_bound = λ receipt q. (
+    let is = rw (edge.0, edge.1) at c.ask_longer.ensures.value ∙ asked-as-bytes (take len buffer) admits x y in record {
+      value = is ∙ front-passed buffer len x y passes;
+      len_bound = λ receipt q. (
         omega (arith, chart-most (take len buffer) admits, long),
         rw (edge.0, edge.1, long) at c.ask_longer.ensures.longer_after ∙ inserted-as-bytes (take len buffer) admits x y (sym is ∙ q),
-      ) }
+      );
+    }

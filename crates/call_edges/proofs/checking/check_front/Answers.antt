@@ -15,11 +15,11 @@ returns-then-buffer-len c = rw (beyond c.args.buffer.now c.args.len c.if-buffer-
 pub slice_bounds-check_all-end : goal.slice_bounds-check_all-end
 slice_bounds-check_all-end c =
     let long : length (take c.args.len c.args.buffer.now) ≡ c.args.len =
-        length-take-le c.args.len c.args.buffer.now c.if-buffer-len.false in
+    length-take-le c.args.len c.args.buffer.now c.if-buffer-len.false in
     sym long
 
 pub returns : goal.returns
 returns c =
     let long : length (take c.args.len c.args.buffer.now) ≡ c.args.len =
-        length-take-le c.args.len c.args.buffer.now c.if-buffer-len.false in
+    length-take-le c.args.len c.args.buffer.now c.if-buffer-len.false in
     rw (within c.args.buffer.now c.args.len refl long) c.check_all.ensures

@@ -37,7 +37,7 @@ overflow_sub-size c = let least = chart-least _ c.requires.0.0 in omega arith
 pub put_shorter-requires : goal.put_shorter-requires
 put_shorter-requires c =
     let there : not (edge_in (decode c.args.s.now).edges c.args.edge.from c.args.edge.to) ≡ false =
-        sym c.lacks_edge.ensures ∙ c.if-lacks_edge.false in
+    sym c.lacks_edge.ensures ∙ c.if-lacks_edge.false in
     let ((admits, counts), long) = c.requires in
     let edges = (decode c.args.s.now).edges in
     let L : Laid c.args.s.now c.args.chart = rw counts (laid _ (trailer-passes _ admits)) in
@@ -50,7 +50,7 @@ put_shorter-requires c =
 pub returns-in-Refused : goal.returns-in-Refused
 returns-in-Refused c =
     let there : not (edge_in (decode c.args.s.now).edges c.args.edge.from c.args.edge.to) ≡ false =
-        sym c.lacks_edge.ensures ∙ c.if-lacks_edge.false in
+    sym c.lacks_edge.ensures ∙ c.if-lacks_edge.false in
     let s = c.args.s.now in
     let x = c.args.edge.from in
     let y = c.args.edge.to in
@@ -61,7 +61,7 @@ returns-in-Refused c =
 pub returns-in-Passed : goal.returns-in-Passed
 returns-in-Passed c =
     let there : not (edge_in (decode c.args.s.now).edges c.args.edge.from c.args.edge.to) ≡ false =
-        sym c.lacks_edge.ensures ∙ c.if-lacks_edge.false in
+    sym c.lacks_edge.ensures ∙ c.if-lacks_edge.false in
     let s = c.args.s.now in
     let x = c.args.edge.from in
     let y = c.args.edge.to in

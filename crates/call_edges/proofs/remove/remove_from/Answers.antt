@@ -17,54 +17,55 @@ use Rattle.call_edges.proofs.remove.remove_from.Goals as goal
 pub slice_bounds-ask_shorter-end-2 : goal.slice_bounds-ask_shorter-end-2
 slice_bounds-ask_shorter-end-2 c =
     let long : length (take c.args.len c.args.buffer.now) ≡ c.args.len =
-        length-take-le c.args.len c.args.buffer.now c.requires.0 in
+    length-take-le c.args.len c.args.buffer.now c.requires.0 in
     sym long
 
 pub slice_bounds-shorter-end : goal.slice_bounds-shorter-end
 slice_bounds-shorter-end c =
     let long : length (take c.args.len c.args.buffer.now) ≡ c.args.len =
-        length-take-le c.args.len c.args.buffer.now c.requires.0 in
+    length-take-le c.args.len c.args.buffer.now c.requires.0 in
     let scratch : List ℕ =
-        c.ask_shorter.new.shorter in
+    c.ask_shorter.new.shorter in
     let fits : c.args.len ≤ length scratch =
-        let full : length scratch ≡ 3122 = search rules in
+    let full : length scratch ≡ 3122 = search rules in
     omega (arith, chart-most _ c.requires.1.0, long) in
     fits
 
 pub slice_bounds-put_part-end : goal.slice_bounds-put_part-end
 slice_bounds-put_part-end c =
     let long : length (take c.args.len c.args.buffer.now) ≡ c.args.len =
-        length-take-le c.args.len c.args.buffer.now c.requires.0 in
+    length-take-le c.args.len c.args.buffer.now c.requires.0 in
     let scratch : List ℕ =
-        c.ask_shorter.new.shorter in
+    c.ask_shorter.new.shorter in
     let fits : c.args.len ≤ length scratch =
-        let full : length scratch ≡ 3122 = search rules in
+    let full : length scratch ≡ 3122 = search rules in
     omega (arith, chart-most _ c.requires.1.0, long) in
     sym (length-take-le _ _ fits)
 
 pub put_part-requires : goal.put_part-requires
 put_part-requires c =
     let long : length (take c.args.len c.args.buffer.now) ≡ c.args.len =
-        length-take-le c.args.len c.args.buffer.now c.requires.0 in
+    length-take-le c.args.len c.args.buffer.now c.requires.0 in
     let scratch : List ℕ =
-        c.ask_shorter.new.shorter in
+    c.ask_shorter.new.shorter in
     let fits : c.args.len ≤ length scratch =
-        let full : length scratch ≡ 3122 = search rules in
+    let full : length scratch ≡ 3122 = search rules in
     omega (arith, chart-most _ c.requires.1.0, long) in
     part_room scratch c.args.len _ fits c.requires.0
 
 pub returns-in-Refused : goal.returns-in-Refused
 unfolding written_by
 returns-in-Refused c =
-    refused _ _ _ _ (refused-some _ _ (sym c.ask_shorter.ensures.value ∙ c.in let p = -Refused.is)) in record { value = p.0; buffer_after = p.1 }
+    let p = refused _ _ _ _ (refused-some _ _ (sym c.ask_shorter.ensures.value ∙ c.in-Refused.is)) in
+    record { value = p.0; buffer_after = p.1 }
 
 pub returns-in-Bytes : goal.returns-in-Bytes
 unfolding written_by
 returns-in-Bytes c =
     let long : length (take c.args.len c.args.buffer.now) ≡ c.args.len =
-        length-take-le c.args.len c.args.buffer.now c.requires.0 in
+    length-take-le c.args.len c.args.buffer.now c.requires.0 in
     let scratch : List ℕ =
-        c.ask_shorter.new.shorter in
+    c.ask_shorter.new.shorter in
     let buffer = c.args.buffer.now in
     let s = take c.args.len buffer in
     let edge = c.args.edge in

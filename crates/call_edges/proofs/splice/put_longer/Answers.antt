@@ -14,103 +14,103 @@ use Rattle.call_edges.proofs.splice.put_longer.Goals as goal
 pub overflow_mul-at : goal.overflow_mul-at
 overflow_mul-at c =
     let at : ℕ =
-        4 * c.args.chart.nodes + 2 * c.args.place in
+    4 * c.args.chart.nodes + 2 * c.args.place in
     let fits : Room c.args.s.now c.args.chart at =
-        let ((passes, counts), placed, long) = c.requires in
+    let ((passes, counts), placed, long) = c.requires in
     rw counts (room c.args.s.now passes c.args.place (rw placed (place-most c.args.s.now _ (laid _ passes) _ _))) in
     omega (arith, fits.nodes)
 
 pub overflow_mul-at-2 : goal.overflow_mul-at-2
 overflow_mul-at-2 c =
     let at : ℕ =
-        4 * c.args.chart.nodes + 2 * c.args.place in
+    4 * c.args.chart.nodes + 2 * c.args.place in
     let fits : Room c.args.s.now c.args.chart at =
-        let ((passes, counts), placed, long) = c.requires in
+    let ((passes, counts), placed, long) = c.requires in
     rw counts (room c.args.s.now passes c.args.place (rw placed (place-most c.args.s.now _ (laid _ passes) _ _))) in
     omega (arith, fits.whole, fits.most)
 
 pub overflow_add-at : goal.overflow_add-at
 overflow_add-at c =
     let at : ℕ =
-        4 * c.args.chart.nodes + 2 * c.args.place in
+    4 * c.args.chart.nodes + 2 * c.args.place in
     let fits : Room c.args.s.now c.args.chart at =
-        let ((passes, counts), placed, long) = c.requires in
+    let ((passes, counts), placed, long) = c.requires in
     rw counts (room c.args.s.now passes c.args.place (rw placed (place-most c.args.s.now _ (laid _ passes) _ _))) in
     omega (arith, fits.whole, fits.most)
 
 pub slice_bounds-put_part-end : goal.slice_bounds-put_part-end
 slice_bounds-put_part-end c =
     let at : ℕ =
-        4 * c.args.chart.nodes + 2 * c.args.place in
+    4 * c.args.chart.nodes + 2 * c.args.place in
     let fits : Room c.args.s.now c.args.chart at =
-        let ((passes, counts), placed, long) = c.requires in
+    let ((passes, counts), placed, long) = c.requires in
     rw counts (room c.args.s.now passes c.args.place (rw placed (place-most c.args.s.now _ (laid _ passes) _ _))) in
     let front : length (take at c.args.s.now) ≡ at =
-        let f = fits in length-take-le at c.args.s.now (omega arith) in
+    let f = fits in length-take-le at c.args.s.now (omega arith) in
     sym front
 
 pub put_part-requires : goal.put_part-requires
 put_part-requires c =
     let at : ℕ =
-        4 * c.args.chart.nodes + 2 * c.args.place in
+    4 * c.args.chart.nodes + 2 * c.args.place in
     let fits : Room c.args.s.now c.args.chart at =
-        let ((passes, counts), placed, long) = c.requires in
+    let ((passes, counts), placed, long) = c.requires in
     rw counts (room c.args.s.now passes c.args.place (rw placed (place-most c.args.s.now _ (laid _ passes) _ _))) in
     let front : length (take at c.args.s.now) ≡ at =
-        let f = fits in length-take-le at c.args.s.now (omega arith) in
+    let f = fits in length-take-le at c.args.s.now (omega arith) in
     let f = fits in omega (arith, front)
 
 pub put_byte-requires : goal.put_byte-requires
 put_byte-requires c =
     let at : ℕ =
-        4 * c.args.chart.nodes + 2 * c.args.place in
+    4 * c.args.chart.nodes + 2 * c.args.place in
     let fits : Room c.args.s.now c.args.chart at =
-        let ((passes, counts), placed, long) = c.requires in
+    let ((passes, counts), placed, long) = c.requires in
     rw counts (room c.args.s.now passes c.args.place (rw placed (place-most c.args.s.now _ (laid _ passes) _ _))) in
     let f = fits in omega arith
 
 pub overflow_add-at-2 : goal.overflow_add-at-2
 overflow_add-at-2 c =
     let at : ℕ =
-        4 * c.args.chart.nodes + 2 * c.args.place in
+    4 * c.args.chart.nodes + 2 * c.args.place in
     let fits : Room c.args.s.now c.args.chart at =
-        let ((passes, counts), placed, long) = c.requires in
+    let ((passes, counts), placed, long) = c.requires in
     rw counts (room c.args.s.now passes c.args.place (rw placed (place-most c.args.s.now _ (laid _ passes) _ _))) in
     let f = fits in omega arith
 
 pub put_byte-requires-2 : goal.put_byte-requires-2
 put_byte-requires-2 c =
     let at : ℕ =
-        4 * c.args.chart.nodes + 2 * c.args.place in
+    4 * c.args.chart.nodes + 2 * c.args.place in
     let fits : Room c.args.s.now c.args.chart at =
-        let ((passes, counts), placed, long) = c.requires in
+    let ((passes, counts), placed, long) = c.requires in
     rw counts (room c.args.s.now passes c.args.place (rw placed (place-most c.args.s.now _ (laid _ passes) _ _))) in
     let f = fits in omega arith
 
 pub overflow_add-at-3 : goal.overflow_add-at-3
 overflow_add-at-3 c =
     let at : ℕ =
-        4 * c.args.chart.nodes + 2 * c.args.place in
+    4 * c.args.chart.nodes + 2 * c.args.place in
     let fits : Room c.args.s.now c.args.chart at =
-        let ((passes, counts), placed, long) = c.requires in
+    let ((passes, counts), placed, long) = c.requires in
     rw counts (room c.args.s.now passes c.args.place (rw placed (place-most c.args.s.now _ (laid _ passes) _ _))) in
     let f = fits in omega arith
 
 pub overflow_add-chart : goal.overflow_add-chart
 overflow_add-chart c =
     let at : ℕ =
-        4 * c.args.chart.nodes + 2 * c.args.place in
+    4 * c.args.chart.nodes + 2 * c.args.place in
     let fits : Room c.args.s.now c.args.chart at =
-        let ((passes, counts), placed, long) = c.requires in
+    let ((passes, counts), placed, long) = c.requires in
     rw counts (room c.args.s.now passes c.args.place (rw placed (place-most c.args.s.now _ (laid _ passes) _ _))) in
     let f = fits in omega arith
 
 pub put_rest-requires : goal.put_rest-requires
 put_rest-requires c =
     let at : ℕ =
-        4 * c.args.chart.nodes + 2 * c.args.place in
+    4 * c.args.chart.nodes + 2 * c.args.place in
     let fits : Room c.args.s.now c.args.chart at =
-        let ((passes, counts), placed, long) = c.requires in
+    let ((passes, counts), placed, long) = c.requires in
     rw counts (room c.args.s.now passes c.args.place (rw placed (place-most c.args.s.now _ (laid _ passes) _ _))) in
     let f = fits in
     (f.whole, omega arith, rw c.with_edges.ensures (f.edition, f.nodes, omega arith, f.constructs))
@@ -118,12 +118,12 @@ put_rest-requires c =
 pub returns : goal.returns
 returns c =
     let at : ℕ =
-        4 * c.args.chart.nodes + 2 * c.args.place in
+    4 * c.args.chart.nodes + 2 * c.args.place in
     let fits : Room c.args.s.now c.args.chart at =
-        let ((passes, counts), placed, long) = c.requires in
+    let ((passes, counts), placed, long) = c.requires in
     rw counts (room c.args.s.now passes c.args.place (rw placed (place-most c.args.s.now _ (laid _ passes) _ _))) in
     let front : length (take at c.args.s.now) ≡ at =
-        let f = fits in length-take-le at c.args.s.now (omega arith) in
+    let f = fits in length-take-le at c.args.s.now (omega arith) in
     let s = c.args.s.now in
     let edge = c.args.edge in
     let f = fits in

@@ -13,9 +13,9 @@ use Rattle.call_edges.proofs.splice.put_shorter.Goals as goal
 pub overflow_mul-at : goal.overflow_mul-at
 overflow_mul-at c =
     let at : ℕ =
-        4 * c.args.chart.nodes + 2 * c.args.place in
+    4 * c.args.chart.nodes + 2 * c.args.place in
     let fits : Room c.args.s.now c.args.chart (4 * c.args.chart.nodes + 2 * (c.args.place + 1)) =
-        let ((passes, counts), below, long) = c.requires in
+    let ((passes, counts), below, long) = c.requires in
     let most : c.args.place + 1 ≤ c.args.chart.edges = omega arith in
     rw counts (room c.args.s.now passes (c.args.place + 1) (rw counts at most)) in
     let f = fits in omega arith
@@ -23,9 +23,9 @@ overflow_mul-at c =
 pub overflow_mul-at-2 : goal.overflow_mul-at-2
 overflow_mul-at-2 c =
     let at : ℕ =
-        4 * c.args.chart.nodes + 2 * c.args.place in
+    4 * c.args.chart.nodes + 2 * c.args.place in
     let fits : Room c.args.s.now c.args.chart (4 * c.args.chart.nodes + 2 * (c.args.place + 1)) =
-        let ((passes, counts), below, long) = c.requires in
+    let ((passes, counts), below, long) = c.requires in
     let most : c.args.place + 1 ≤ c.args.chart.edges = omega arith in
     rw counts (room c.args.s.now passes (c.args.place + 1) (rw counts at most)) in
     let f = fits in omega arith
@@ -33,9 +33,9 @@ overflow_mul-at-2 c =
 pub overflow_add-at : goal.overflow_add-at
 overflow_add-at c =
     let at : ℕ =
-        4 * c.args.chart.nodes + 2 * c.args.place in
+    4 * c.args.chart.nodes + 2 * c.args.place in
     let fits : Room c.args.s.now c.args.chart (4 * c.args.chart.nodes + 2 * (c.args.place + 1)) =
-        let ((passes, counts), below, long) = c.requires in
+    let ((passes, counts), below, long) = c.requires in
     let most : c.args.place + 1 ≤ c.args.chart.edges = omega arith in
     rw counts (room c.args.s.now passes (c.args.place + 1) (rw counts at most)) in
     let f = fits in omega arith
@@ -43,9 +43,9 @@ overflow_add-at c =
 pub overflow_sub-size : goal.overflow_sub-size
 overflow_sub-size c =
     let at : ℕ =
-        4 * c.args.chart.nodes + 2 * c.args.place in
+    4 * c.args.chart.nodes + 2 * c.args.place in
     let fits : Room c.args.s.now c.args.chart (4 * c.args.chart.nodes + 2 * (c.args.place + 1)) =
-        let ((passes, counts), below, long) = c.requires in
+    let ((passes, counts), below, long) = c.requires in
     let most : c.args.place + 1 ≤ c.args.chart.edges = omega arith in
     rw counts (room c.args.s.now passes (c.args.place + 1) (rw counts at most)) in
     let f = fits in omega arith
@@ -53,33 +53,33 @@ overflow_sub-size c =
 pub slice_bounds-put_part-end : goal.slice_bounds-put_part-end
 slice_bounds-put_part-end c =
     let at : ℕ =
-        4 * c.args.chart.nodes + 2 * c.args.place in
+    4 * c.args.chart.nodes + 2 * c.args.place in
     let fits : Room c.args.s.now c.args.chart (4 * c.args.chart.nodes + 2 * (c.args.place + 1)) =
-        let ((passes, counts), below, long) = c.requires in
+    let ((passes, counts), below, long) = c.requires in
     let most : c.args.place + 1 ≤ c.args.chart.edges = omega arith in
     rw counts (room c.args.s.now passes (c.args.place + 1) (rw counts at most)) in
     let front : length (take at c.args.s.now) ≡ at =
-        let f = fits in length-take-le at c.args.s.now (omega arith) in
+    let f = fits in length-take-le at c.args.s.now (omega arith) in
     sym front
 
 pub put_part-requires : goal.put_part-requires
 put_part-requires c =
     let at : ℕ =
-        4 * c.args.chart.nodes + 2 * c.args.place in
+    4 * c.args.chart.nodes + 2 * c.args.place in
     let fits : Room c.args.s.now c.args.chart (4 * c.args.chart.nodes + 2 * (c.args.place + 1)) =
-        let ((passes, counts), below, long) = c.requires in
+    let ((passes, counts), below, long) = c.requires in
     let most : c.args.place + 1 ≤ c.args.chart.edges = omega arith in
     rw counts (room c.args.s.now passes (c.args.place + 1) (rw counts at most)) in
     let front : length (take at c.args.s.now) ≡ at =
-        let f = fits in length-take-le at c.args.s.now (omega arith) in
+    let f = fits in length-take-le at c.args.s.now (omega arith) in
     let f = fits in omega (arith, front)
 
 pub overflow_add-at-2 : goal.overflow_add-at-2
 overflow_add-at-2 c =
     let at : ℕ =
-        4 * c.args.chart.nodes + 2 * c.args.place in
+    4 * c.args.chart.nodes + 2 * c.args.place in
     let fits : Room c.args.s.now c.args.chart (4 * c.args.chart.nodes + 2 * (c.args.place + 1)) =
-        let ((passes, counts), below, long) = c.requires in
+    let ((passes, counts), below, long) = c.requires in
     let most : c.args.place + 1 ≤ c.args.chart.edges = omega arith in
     rw counts (room c.args.s.now passes (c.args.place + 1) (rw counts at most)) in
     let f = fits in omega arith
@@ -87,9 +87,9 @@ overflow_add-at-2 c =
 pub put_rest-requires : goal.put_rest-requires
 put_rest-requires c =
     let at : ℕ =
-        4 * c.args.chart.nodes + 2 * c.args.place in
+    4 * c.args.chart.nodes + 2 * c.args.place in
     let fits : Room c.args.s.now c.args.chart (4 * c.args.chart.nodes + 2 * (c.args.place + 1)) =
-        let ((passes, counts), below, long) = c.requires in
+    let ((passes, counts), below, long) = c.requires in
     let most : c.args.place + 1 ≤ c.args.chart.edges = omega arith in
     rw counts (room c.args.s.now passes (c.args.place + 1) (rw counts at most)) in
     let f = fits in
@@ -98,9 +98,9 @@ put_rest-requires c =
 pub put_byte-requires : goal.put_byte-requires
 put_byte-requires c =
     let at : ℕ =
-        4 * c.args.chart.nodes + 2 * c.args.place in
+    4 * c.args.chart.nodes + 2 * c.args.place in
     let fits : Room c.args.s.now c.args.chart (4 * c.args.chart.nodes + 2 * (c.args.place + 1)) =
-        let ((passes, counts), below, long) = c.requires in
+    let ((passes, counts), below, long) = c.requires in
     let most : c.args.place + 1 ≤ c.args.chart.edges = omega arith in
     rw counts (room c.args.s.now passes (c.args.place + 1) (rw counts at most)) in
     let f = fits in
@@ -109,9 +109,9 @@ put_byte-requires c =
 pub put_byte-requires-2 : goal.put_byte-requires-2
 put_byte-requires-2 c =
     let at : ℕ =
-        4 * c.args.chart.nodes + 2 * c.args.place in
+    4 * c.args.chart.nodes + 2 * c.args.place in
     let fits : Room c.args.s.now c.args.chart (4 * c.args.chart.nodes + 2 * (c.args.place + 1)) =
-        let ((passes, counts), below, long) = c.requires in
+    let ((passes, counts), below, long) = c.requires in
     let most : c.args.place + 1 ≤ c.args.chart.edges = omega arith in
     rw counts (room c.args.s.now passes (c.args.place + 1) (rw counts at most)) in
     let f = fits in
@@ -120,13 +120,13 @@ put_byte-requires-2 c =
 pub returns : goal.returns
 returns c =
     let at : ℕ =
-        4 * c.args.chart.nodes + 2 * c.args.place in
+    4 * c.args.chart.nodes + 2 * c.args.place in
     let fits : Room c.args.s.now c.args.chart (4 * c.args.chart.nodes + 2 * (c.args.place + 1)) =
-        let ((passes, counts), below, long) = c.requires in
+    let ((passes, counts), below, long) = c.requires in
     let most : c.args.place + 1 ≤ c.args.chart.edges = omega arith in
     rw counts (room c.args.s.now passes (c.args.place + 1) (rw counts at most)) in
     let front : length (take at c.args.s.now) ≡ at =
-        let f = fits in length-take-le at c.args.s.now (omega arith) in
+    let f = fits in length-take-le at c.args.s.now (omega arith) in
     λ x y placed.
     let s = c.args.s.now in
     let f = fits in
