@@ -15,7 +15,7 @@ use Rattle.lists.specs.Mask.{Has, has-none}
 use Rattle.lists.specs.Bits.{has}
 use Rattle.chart.specs.Region.{critical, Region}
 use Rattle.theory_answers.specs.Answer.{is_in}
-use Rattle.theory_answers.specs.AnswerLaws.{in-of}
+use Rattle.theory_answers.proofs.AnswerLaws.{in-of}
 use Rattle.theory_answers.specs.Numbers.{asked}
 use Rattle.theory_answers.specs.declared.Size.{Size}
 use Rattle.theory_calls.specs.Locks.{is_critical, in_named, some_pair, needed, ever_needed, lock_byte}

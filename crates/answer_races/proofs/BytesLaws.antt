@@ -19,7 +19,7 @@ use Rattle.answer_constructs.specs.Marks.{Marks}
 use Rattle.answer_pairs.specs.Rules.{profile_at}
 use Rattle.theory_calls.specs.Access.{total, access_at, bad_accesses}
 use Rattle.theory_calls.specs.Races.{race, races}
-use Rattle.theory_calls.specs.RaceLaws.{whole-accesses, good-access}
+use Rattle.theory_calls.proofs.RaceLaws.{whole-accesses, good-access}
 use Rattle.answer_names.specs.Names.{Names}
 use Rattle.answer_races.specs.Bytes.{by_line}
 use Rattle.answer_races.proofs.Filled.{filled-tab}

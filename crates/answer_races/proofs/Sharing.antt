@@ -7,7 +7,7 @@ use Rattle.lists.specs.Common.{common, common-test}
 use Rattle.chart.specs.Region.{Region}
 use Rattle.chart.specs.WellFormed.{WellFormed}
 use Rattle.theory_calls.specs.Races.{share_name}
-use Rattle.theory_calls.specs.RaceLaws.{share-named}
+use Rattle.theory_calls.proofs.RaceLaws.{share-named}
 use Rattle.answer_names.specs.Names.{NamesAt}
 
 pub share-by : {R : Region} → WellFormed R → (a b : ℕ) {m n : ℕ} → NamesAt R a m → NamesAt R b n → share_name R a b ≡ common m n

@@ -11,7 +11,7 @@ use Rattle.chart.specs.Region.{Region}
 use Rattle.chart.specs.Checked.{reading}
 use Rattle.chart.proofs.Records.{nodes-length}
 use Rattle.theory_calls.specs.Access.{access_at}
-use Rattle.theory_calls.specs.RaceLaws.{whole-accesses, few-accesses}
+use Rattle.theory_calls.proofs.RaceLaws.{whole-accesses, few-accesses}
 use Rattle.answer_constructs.proofs.Past.{rows-past}
 use Rattle.answer_races.proofs.BytesLaws.{fields_fit, all-pairs}
 use Rattle.answer_races.proofs.bytes.put_races.Goals as goal
