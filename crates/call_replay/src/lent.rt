@@ -1,5 +1,5 @@
 // The replay over records that a caller lends (02, Note 11). What decides anything is in the replay by value (module `run`): the two functions over
-// a slice of records, which are proved by walks of their code, only hand it on and store what it gives.
+// a slice of records only hand it on and store what it gives.
 ghost use Rattle.std.specs.Prelude.{◌≡◌, ◌≤◌, ◌<◌, length, get_or};
 ghost use Rattle.theory_traces.specs.Call.{replay_answer, records_left, sheet_left, values_of};
 ghost use Rattle.theory_traces.specs.Correct.{ReplayCorrect};
@@ -8,7 +8,7 @@ ghost use Rattle.call_replay.specs.Stored.{blank, stored};
 use crate::run::{Team, run};
 use theory_traces::{Replayed, Thread};
 
-// The record of thread t. This function and the next take a team apart, so that no walk has to.
+// The record of thread t.
 fn record_of(team: Team, t: usize) -> Thread
     requires { t < 8 }
     ensures { result ≡ get_or team.threads t blank }

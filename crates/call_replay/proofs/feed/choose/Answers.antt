@@ -28,7 +28,7 @@ returns-then-not-leads c =
     λ R P T L g.
     let x = c.node_of.ensures in
     let edge = ap (λ (n : ℕ). R.edge n c.args.v) (sym (x ∙ L.state.node 0 (omega arith))) ∙ T.edge _ c.args.v (omega (arith, x, L.state.byte 0 (omega arith))) c.requires.5 ∙ sym c.leads.ensures in
-    (after-by (fed-choose R c.args.m P c.args.t c.args.v g ∙ choose-off R c.args.m P c.args.t c.args.v (edge ∙ not-true _ c.if-not-leads.true)) (forbidden L), kept_same _ _)
+    (after-by (fed-choose R c.args.m P c.args.t c.args.v g ∙ choose-off R c.args.m P c.args.t c.args.v (edge ∙ c.if-not-leads.true)) (forbidden L), kept_same _ _)
 
 pub overflow_add-team : goal.overflow_add-team
 overflow_add-team c = omega (arith, c.requires.3.pending, c.requires.3.fewer, c.requires.4)
@@ -72,7 +72,7 @@ returns-then-pending-m c =
     let marked = c.mark_state.ensures in
     let sheet = sheet-size (sym n) L.marks in (
       after-by
-          (fed-choose R c.args.m P c.args.t c.args.v g ∙ choose-last R c.args.m P c.args.t c.args.v (c.if-t-pending.false ∙ L.pending) (edge ∙ not-false _ c.if-not-leads.false) last)
+          (fed-choose R c.args.m P c.args.t c.args.v g ∙ choose-last R c.args.m P c.args.t c.args.v (c.if-t-pending.false ∙ L.pending) (edge ∙ c.if-not-leads.false) last)
           (fed (playing-reached P.met _ (omega (arith, L.fewer)) to c.release.ensures.team_after (sheet-size n (marked.0 _ P.met to sheet)))),
       kept-size _ n marked.1,
     )
@@ -87,7 +87,7 @@ returns c =
     let edge = ap (λ (n : ℕ). R.edge n c.args.v) (sym (x ∙ L.state.node 0 (omega arith))) ∙ T.edge _ c.args.v (omega (arith, x, L.state.byte 0 (omega arith))) c.requires.5 ∙ sym c.leads.ensures in
     let more : length P.chosen + 1 ≡ c.args.m → ⊥ = λ e. c.if-pending-m.false (ap (λ (k : ℕ). k + 1) L.pending ∙ e) in (
       after-by
-          (fed-choose R c.args.m P c.args.t c.args.v g ∙ choose-next R c.args.m P c.args.t c.args.v (c.if-t-pending.false ∙ L.pending) (edge ∙ not-false _ c.if-not-leads.false) more)
+          (fed-choose R c.args.m P c.args.t c.args.v g ∙ choose-next R c.args.m P c.args.t c.args.v (c.if-t-pending.false ∙ L.pending) (edge ∙ c.if-not-leads.false) more)
           (fed (playing-chosen L c.requires.4 _ c.args.v L.pending g c.requires.5 more _ refl)),
       kept_same _ _,
     )

@@ -22,15 +22,15 @@ pub returns-then-not-is_allowed : goal.returns-then-not-is_allowed
 returns-then-not-is_allowed c =
     λ R P T L g.
     let e = c.decide-effect.ensures.of_states R P.state T L.state in
-    (after-by (fed-none R c.args.m P c.args.t c.args.v g (ap allowed (sym e) ∙ sym c.is_allowed.ensures ∙ not-true _ c.if-not-is_allowed.true)) (forbidden L), kept_same _ _)
+    (after-by (fed-none R c.args.m P c.args.t c.args.v g (ap allowed (sym e) ∙ sym c.is_allowed.ensures ∙ c.if-not-is_allowed.true)) (forbidden L), kept_same _ _)
 
 pub apply-requires : goal.apply-requires
 apply-requires c =
     let (R, P, T, L, few, low, room) = c.requires.ready in
     let e = c.decide-effect.ensures.of_states R P.state T L.state in
-    let al = ap allowed (sym e) ∙ sym c.is_allowed.ensures ∙ not-false _ c.if-not-is_allowed.false in
+    let al = ap allowed (sym e) ∙ sym c.is_allowed.ensures ∙ c.if-not-is_allowed.false in
     let less : c.args.t < 8 = omega (arith, allowed-in R c.args.m P c.args.t c.args.v al, few) in
-    (P.state, L.state, less, low, c.decide-effect.ensures.numbered, λ c l. c.requires.by_index c.args.t c less l)
+    (P.state, L.state, less, low, c.decide-effect.ensures.numbered, λ k l. c.requires.by_index c.args.t k less l)
 
 pub at-requires : goal.at-requires
 at-requires c = (c.requires.ready.2.long, omega arith)
@@ -39,7 +39,7 @@ pub mark_thread-requires : goal.mark_thread-requires
 mark_thread-requires c =
     let (R, P, T, L, few, low, room) = c.requires.ready in
     let e = c.decide-effect.ensures.of_states R P.state T L.state in
-    let al = ap allowed (sym e) ∙ sym c.is_allowed.ensures ∙ not-false _ c.if-not-is_allowed.false in
+    let al = ap allowed (sym e) ∙ sym c.is_allowed.ensures ∙ c.if-not-is_allowed.false in
     let n = c.at.ensures ∙ sym T.nodes in (
       (shows-past 784 0 (omega arith) (omega arith) (c.apply.ensures P.state L.state)).long,
       few,
@@ -54,7 +54,7 @@ pub returns : goal.returns
 returns c =
     λ R P T L g.
     let e = c.decide-effect.ensures.of_states R P.state T L.state in
-    let al = ap allowed (sym e) ∙ sym c.is_allowed.ensures ∙ not-false _ c.if-not-is_allowed.false in
+    let al = ap allowed (sym e) ∙ sym c.is_allowed.ensures ∙ c.if-not-is_allowed.false in
     let S = applied P.state c.args.t c.args.v (sym e) (c.apply.ensures P.state L.state) in
     let S' = shows-past 784 0 (omega arith) (omega arith) S in
     let n = c.at.ensures ∙ sym T.nodes in

@@ -14,9 +14,9 @@ shape_of-out c = c.mark-2.ensures.kept.long ∙ c.mark.ensures.kept.long
 
 pub returns : goal.returns
 returns c =
-    let one = (c.mark.ensures.by_index, c.mark.ensures.kept) in
-    let two = (c.mark-2.ensures.by_index, c.mark-2.ensures.kept) in (
+    let one = c.mark.ensures in
+    let two = c.mark-2.ensures in (
       (λ σ met S H. sheet-pair met σ c.args.t c.args.k c.requires.3 (c.node_of-a.ensures ∙ S.node c.args.t c.requires.1)
-          (c.node_of-b.ensures ∙ S.node c.args.k c.requires.2) (two.0 _ (one.0 met H))),
-      kept_then one.1 two.1,
+          (c.node_of-b.ensures ∙ S.node c.args.k c.requires.2) (two.by_index _ (one.by_index met H))),
+      kept_then one.kept two.kept,
     )

@@ -12,15 +12,14 @@ use Rattle.call_replay.proofs.Meetings.{next-below, next-other, round-first, rou
 use Rattle.call_replay.proofs.pairs_met.mark_thread.Goals as goal
 
 pub loop-k-init : goal.loop-k-init
-loop-k-init c =
-    (
-      omega arith,
-      omega (arith, c.requires.2),
-      (
-        (λ σ met S H. sheet-same (λ x y. sym (ap (λ (u : Bool). met x y || u) (round-first c.args.m c.args.t c.requires.2 σ x y) ∙ or-false (met x y))) H),
-        kept_same _ _,
-      ),
-    )
+loop-k-init c = (
+  omega arith,
+  omega (arith, c.requires.2),
+  (
+    (λ σ met S H. sheet-same (λ x y. sym (ap (λ (u : Bool). met x y || u) (round-first c.args.m c.args.t c.requires.2 σ x y) ∙ or-false (met x y))) H),
+    kept_same _ _,
+  ),
+)
 
 pub next_thread-requires : goal.next_thread-requires
 next_thread-requires c = (c.requires.1, c.requires.2, omega arith)

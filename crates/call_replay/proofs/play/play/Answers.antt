@@ -39,7 +39,7 @@ bounds-trace-i-in-loop-i c = omega (arith, c.loop-i.invariant.1)
 
 pub feed-requires : goal.feed-requires
 feed-requires c =
-    let (P, e, (L, (f, k))) = c.loop-i.invariant.2 c.requires.0 c.requires.1 c.requires.2 in record { ready = (c.requires.0, P, c.requires.1, L, c.requires.3, c.wide-v.ensures.1, omega (arith, c.requires.4, k.long)); by_index = λ t c i j. omega (arith, L.state.count t c i j, f t c, c.loop-i.invariant.1) }
+    let (P, e, (L, (f, kept))) = c.loop-i.invariant.2 c.requires.0 c.requires.1 c.requires.2 in record { ready = (c.requires.0, P, c.requires.1, L, c.requires.3, c.wide-v.ensures.1, omega (arith, c.requires.4, kept.long)); by_index = λ t k i j. omega (arith, L.state.count t k i j, f t k, c.loop-i.invariant.1) }
 
 pub shape_of-out-then-not-feed : goal.shape_of-out-then-not-feed
 shape_of-out-then-not-feed c =
@@ -53,7 +53,7 @@ returns-then-not-feed c =
     let (P, e, (L, (f, k))) = c.loop-i.invariant.2 R T B in
     let A = c.feed.ensures R P T L in
     let same = fed-at R c.args.m P c.wide-t.ensures.0 c.wide-v.ensures.0 in
-    let (o, L') = after_none A.0 (not-true _ c.if-not-feed.true) in
+    let (o, L') = after_none A.0 (c.if-not-feed.true) in
     let stop = stays R c.args.m c.args.trace.now P c.loop-i.i (suc c.loop-i.i) (length c.args.trace.now / 2) (omega (arith, c.loop-i.invariant.1, c.loop-i-test.true)) (halts R c.args.m c.args.trace.now c.loop-i.i P e (same ∙ o)) in
     rw stop (refl, L', kept_then k A.1)
 
@@ -64,17 +64,16 @@ pub loop-i-smaller : goal.loop-i-smaller
 loop-i-smaller c = omega arith
 
 pub loop-i-preserved : goal.loop-i-preserved
-loop-i-preserved c =
-    (
-      omega arith,
-      c.loop-i.invariant.1,
-      λ R T B.
-          let (P, e, (L, (f, k))) = c.loop-i.invariant.2 R T B in
-          let A = c.feed.ensures R P T L in
-          let same = fed-at R c.args.m P c.wide-t.ensures.0 c.wide-v.ensures.0 in
-          let (Q, o, L') = after-some A.0 (not-false _ c.if-not-feed.false) in
-          rw (add-one c.loop-i.i) (Q, goes_on R c.args.m c.args.trace.now c.loop-i.i P Q e (same ∙ o), (L', (few-feed R c.args.m c.loop-i.i P f _ _ Q o, kept_then k A.1))),
-    )
+loop-i-preserved c = (
+  omega arith,
+  c.loop-i.invariant.1,
+  λ R T B.
+      let (P, e, (L, (f, k))) = c.loop-i.invariant.2 R T B in
+      let A = c.feed.ensures R P T L in
+      let same = fed-at R c.args.m P c.wide-t.ensures.0 c.wide-v.ensures.0 in
+      let (Q, o, L') = after-some A.0 (c.if-not-feed.false) in
+      rw (add-one c.loop-i.i) (Q, goes_on R c.args.m c.args.trace.now c.loop-i.i P Q e (same ∙ o), (L', (few-feed R c.args.m c.loop-i.i P f _ _ Q o, kept_then k A.1))),
+)
 
 pub at_finish-requires : goal.at_finish-requires
 at_finish-requires c =

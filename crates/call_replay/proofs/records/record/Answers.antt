@@ -40,14 +40,13 @@ pub loop-c-smaller : goal.loop-c-smaller
 loop-c-smaller c = omega arith
 
 pub loop-c-preserved : goal.loop-c-preserved
-loop-c-preserved c =
-    (
-      omega arith,
-      length-set c.loop-c.counts c.loop-c.c _ ∙ c.loop-c.invariant.1,
-      length-set c.loop-c.true c.loop-c.c _ ∙ c.loop-c.invariant.2,
-      stored (λ j v. v ≡ get_or c.args.team.now (97 * c.args.t + 1 + j) 0) c.loop-c.counts c.loop-c.c _ (omega (arith, c.loop-c.invariant.1)) c.count_of.ensures c.loop-c.invariant.3,
-      stored (λ j v. v ≡ get_or c.args.team.now (97 * c.args.t + 49 + j) 0) c.loop-c.true c.loop-c.c _ (omega (arith, c.loop-c.invariant.2)) c.taken_of.ensures c.loop-c.invariant.4,
-    )
+loop-c-preserved c = (
+  omega arith,
+  length-set c.loop-c.counts c.loop-c.c _ ∙ c.loop-c.invariant.1,
+  length-set c.loop-c.taken c.loop-c.c _ ∙ c.loop-c.invariant.2,
+  stored (λ j v. v ≡ get_or c.args.team.now (97 * c.args.t + 1 + j) 0) c.loop-c.counts c.loop-c.c _ (omega (arith, c.loop-c.invariant.1)) c.count_of.ensures c.loop-c.invariant.3,
+  stored (λ j v. v ≡ get_or c.args.team.now (97 * c.args.t + 49 + j) 0) c.loop-c.taken c.loop-c.c _ (omega (arith, c.loop-c.invariant.2)) c.taken_of.ensures c.loop-c.invariant.4,
+)
 
 pub node_of-requires : goal.node_of-requires
 node_of-requires c = (c.requires.0, c.requires.1)
@@ -64,5 +63,5 @@ returns c =
       mod-eq_of_lt low,
       S.node c.args.t c.requires.1,
       tab-is 0 48 (σ.encounters c.args.t) c.loop-c.counts c.loop-c.invariant.1 (λ j k. c.loop-c.invariant.3 j (omega arith) ∙ S.count c.args.t j c.requires.1 k),
-      tab-is 0 48 (λ c. mask_of (σ.taken c.args.t c) 48) c.loop-c.true c.loop-c.invariant.2 (λ j k. c.loop-c.invariant.4 j (omega arith) ∙ S.taken c.args.t j c.requires.1 k),
+      tab-is 0 48 (λ k. mask_of (σ.taken c.args.t k) 48) c.loop-c.taken c.loop-c.invariant.2 (λ j k. c.loop-c.invariant.4 j (omega arith) ∙ S.taken c.args.t j c.requires.1 k),
     )

@@ -30,12 +30,11 @@ pub loop-t-smaller : goal.loop-t-smaller
 loop-t-smaller c = omega arith
 
 pub loop-t-preserved : goal.loop-t-preserved
-loop-t-preserved c =
-    (
-      omega arith,
-      length-set c.loop-t.threads c.loop-t.t _ ∙ c.loop-t.invariant.1,
-      λ σ S. stored_at unknown (record_of σ) c.loop-t.threads c.loop-t.t _ (omega (arith, c.loop-t.invariant.1)) (c.record.ensures σ S) (c.loop-t.invariant.2 σ S),
-    )
+loop-t-preserved c = (
+  omega arith,
+  length-set c.loop-t.threads c.loop-t.t _ ∙ c.loop-t.invariant.1,
+  λ σ S. stored_at unknown (record_of σ) c.loop-t.threads c.loop-t.t _ (omega (arith, c.loop-t.invariant.1)) (c.record.ensures σ S) (c.loop-t.invariant.2 σ S),
+)
 
 pub returns : goal.returns
 returns c =

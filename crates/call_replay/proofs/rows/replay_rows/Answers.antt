@@ -22,64 +22,64 @@ use Rattle.call_replay.proofs.rows.replay_rows.Goals as goal
 pub mark_state-requires : goal.mark_state-requires
 mark_state-requires c =
     let R : Region =
-        reading c.args.s.now c.args.chart in
-    let tabled : Tabled R c.fill_table.last.1.1.0 =
-        c.fill_table.ensures in
-    let shown : Shows (initial R) c.set_team.last.1.0 =
-        c.set_team.ensures.shows R tabled in
+    reading c.args.s.now c.args.chart in
+    let tabled : Tabled R c.fill_table.new.table =
+    c.fill_table.ensures in
+    let shown : Shows (initial R) c.set_team.new.team =
+    c.set_team.ensures.shows R tabled in
     (shown.long, c.requires.2, omega (arith, c.requires.3, c.clear.ensures.0))
 
 -- where the state before the first entry is marked
 pub play-requires : goal.play-requires
 play-requires c =
     let R : Region =
-        reading c.args.s.now c.args.chart in
-    let tabled : Tabled R c.fill_table.last.1.1.0 =
-        c.fill_table.ensures in
-    let shown : Shows (initial R) c.set_team.last.1.0 =
-        c.set_team.ensures.shows R tabled in
+    reading c.args.s.now c.args.chart in
+    let tabled : Tabled R c.fill_table.new.table =
+    c.fill_table.ensures in
+    let shown : Shows (initial R) c.set_team.new.team =
+    c.set_team.ensures.shows R tabled in
     let nodes : R.nodes ≡ c.args.chart.nodes =
-        nodes-length _ c.args.chart c.requires.0.laid in
-    let begins : Playing R c.args.m c.args.rows (begun R c.args.m) c.set_team.last.1.0 c.mark_state.new.out =
-        playing-begun R c.requires.1 shown c.set_team.ensures.team_after
+    nodes-length _ c.args.chart c.requires.0.laid in
+    let begins : Playing R c.args.m c.args.rows (begun R c.args.m) c.set_team.new.team c.mark_state.new.out =
+    playing-begun R c.requires.1 shown c.set_team.ensures.team_after
     (sheet-size (sym nodes) (c.mark_state.ensures.0 (initial R) (λ a b. false) shown (sheet-blank _ c.args.rows c.clear.ensures.1))) in
     let kept : Kept (c.args.rows.count * R.nodes) c.args.out.now c.mark_state.new.out =
-        kept-size c.args.rows.count (sym nodes) (kept_then (kept-cleared c.clear.ensures.0 c.clear.ensures.2) c.mark_state.ensures.1) in
+    kept-size c.args.rows.count (sym nodes) (kept_then (kept-cleared c.clear.ensures.0 c.clear.ensures.2) c.mark_state.ensures.1) in
     let room : c.args.rows.count * R.nodes ≤ length c.args.out.now =
-        subst (λ (n : ℕ). c.args.rows.count * n ≤ length c.args.out.now) (sym nodes) c.requires.3 in
+    subst (λ (n : ℕ). c.args.rows.count * n ≤ length c.args.out.now) (sym nodes) c.requires.3 in
     (R, tabled, begins, c.requires.2, omega (arith, room, kept.long))
 
 pub shape_of-out : goal.shape_of-out
 shape_of-out c =
     let R : Region =
-        reading c.args.s.now c.args.chart in
-    let tabled : Tabled R c.fill_table.last.1.1.0 =
-        c.fill_table.ensures in
-    let shown : Shows (initial R) c.set_team.last.1.0 =
-        c.set_team.ensures.shows R tabled in
+    reading c.args.s.now c.args.chart in
+    let tabled : Tabled R c.fill_table.new.table =
+    c.fill_table.ensures in
+    let shown : Shows (initial R) c.set_team.new.team =
+    c.set_team.ensures.shows R tabled in
     let nodes : R.nodes ≡ c.args.chart.nodes =
-        nodes-length _ c.args.chart c.requires.0.laid in
-    let begins : Playing R c.args.m c.args.rows (begun R c.args.m) c.set_team.last.1.0 c.mark_state.new.out =
-        playing-begun R c.requires.1 shown c.set_team.ensures.team_after
+    nodes-length _ c.args.chart c.requires.0.laid in
+    let begins : Playing R c.args.m c.args.rows (begun R c.args.m) c.set_team.new.team c.mark_state.new.out =
+    playing-begun R c.requires.1 shown c.set_team.ensures.team_after
     (sheet-size (sym nodes) (c.mark_state.ensures.0 (initial R) (λ a b. false) shown (sheet-blank _ c.args.rows c.clear.ensures.1))) in
     let kept : Kept (c.args.rows.count * R.nodes) c.args.out.now c.mark_state.new.out =
-        kept-size c.args.rows.count (sym nodes) (kept_then (kept-cleared c.clear.ensures.0 c.clear.ensures.2) c.mark_state.ensures.1) in
+    kept-size c.args.rows.count (sym nodes) (kept_then (kept-cleared c.clear.ensures.0 c.clear.ensures.2) c.mark_state.ensures.1) in
     (c.play.ensures R tabled begins).2.long ∙ kept.long
 
 pub returns : goal.returns
 returns c =
     let R : Region =
-        reading c.args.s.now c.args.chart in
-    let tabled : Tabled R c.fill_table.last.1.1.0 =
-        c.fill_table.ensures in
-    let shown : Shows (initial R) c.set_team.last.1.0 =
-        c.set_team.ensures.shows R tabled in
+    reading c.args.s.now c.args.chart in
+    let tabled : Tabled R c.fill_table.new.table =
+    c.fill_table.ensures in
+    let shown : Shows (initial R) c.set_team.new.team =
+    c.set_team.ensures.shows R tabled in
     let nodes : R.nodes ≡ c.args.chart.nodes =
-        nodes-length _ c.args.chart c.requires.0.laid in
-    let begins : Playing R c.args.m c.args.rows (begun R c.args.m) c.set_team.last.1.0 c.mark_state.new.out =
-        playing-begun R c.requires.1 shown c.set_team.ensures.team_after
+    nodes-length _ c.args.chart c.requires.0.laid in
+    let begins : Playing R c.args.m c.args.rows (begun R c.args.m) c.set_team.new.team c.mark_state.new.out =
+    playing-begun R c.requires.1 shown c.set_team.ensures.team_after
     (sheet-size (sym nodes) (c.mark_state.ensures.0 (initial R) (λ a b. false) shown (sheet-blank _ c.args.rows c.clear.ensures.1))) in
     let kept : Kept (c.args.rows.count * R.nodes) c.args.out.now c.mark_state.new.out =
-        kept-size c.args.rows.count (sym nodes) (kept_then (kept-cleared c.clear.ensures.0 c.clear.ensures.2) c.mark_state.ensures.1) in
+    kept-size c.args.rows.count (sym nodes) (kept_then (kept-cleared c.clear.ensures.0 c.clear.ensures.2) c.mark_state.ensures.1) in
     let (answer, left, rest) = c.play.ensures R tabled begins in
     record { result_value = answer; fact = left; fact_2 = kept_then kept rest }

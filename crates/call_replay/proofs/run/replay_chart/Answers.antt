@@ -8,6 +8,8 @@ use Rattle.call_replay.proofs.run.replay_chart.Goals as goal
 
 pub returns : goal.returns
 returns c =
-    let (answer, (left, kept)) = (c.replay_rows-answer.ensures.result_value, (c.replay_rows-answer.ensures.fact, c.replay_rows-answer.ensures.fact_2)) in
+    let answer = c.replay_rows-answer.ensures.result_value in
+    let left = c.replay_rows-answer.ensures.fact in
+    let kept = c.replay_rows-answer.ensures.fact_2 in
     let made = c.team_of.ensures in
     record { fact = (made.2 ∙ answer, made.1, made.0 _ left.state); out_after = sheet-content (nodes-length _ c.args.chart c.requires.0.laid) c.requires.3 kept left.marks }

@@ -32,4 +32,5 @@ pub returns-in-Marked : goal.returns-in-Marked
 returns-in-Marked c =
     let h = sym c.enter.ensures.value ∙ c.in-Marked.is in
     let named = ap (λ (k : Chart). k.region) (entered-counts _ _ _ h) in
-    rw (sym named) at (c.run_chart.ensures.answer_value, (c.run_chart.ensures.out_after, (c.run_chart.ensures.counts, c.run_chart.ensures.records)))
+    let r = c.run_chart.ensures in
+    record { answer_value = rw named r.answer_value; out_after = rw named r.out_after; counts = rw named r.counts; records = rw named r.records }

@@ -56,5 +56,5 @@ returns c =
     let n = nodes-length _ c.args.chart A.laid in
     let room = subst (λ (k : ℕ). k * k ≤ length c.args.out.now) (sym n) c.if-out-n.false in
     let h = none-refused c.args.s.now c.args.chart.region c.args.trace.now c.args.m c.args.out.now passes (sym c.bad_trace.ensures ∙ c.if-bad_trace.false) room in
-    let r = (c.replay_chart.ensures.fact, c.replay_chart.ensures.out_after) in
-    rw h (r.0.0, (r.1, (r.0.1, λ g. r.0.2)))
+    let r = c.replay_chart.ensures.fact in
+    rw h (record { answer_value = r.0; out_after = c.replay_chart.ensures.out_after; counts = r.1; records = λ g. r.2 })

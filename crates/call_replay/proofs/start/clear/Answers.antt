@@ -21,13 +21,12 @@ pub loop-i-smaller : goal.loop-i-smaller
 loop-i-smaller c = omega arith
 
 pub loop-i-preserved : goal.loop-i-preserved
-loop-i-preserved c =
-    (
-      omega arith,
-      length-set c.loop-i.out c.loop-i.i 0 ∙ c.loop-i.invariant.1,
-      stored (λ j v. v ≡ 0) c.loop-i.out c.loop-i.i 0 (omega (arith, c.requires, c.loop-i.invariant.1)) refl c.loop-i.invariant.2,
-      λ j h. get_or-set_other c.loop-i.out c.loop-i.i j 0 0 (λ e. omega arith) ∙ c.loop-i.invariant.3 j h,
-    )
+loop-i-preserved c = (
+  omega arith,
+  length-set c.loop-i.out c.loop-i.i 0 ∙ c.loop-i.invariant.1,
+  stored (λ j v. v ≡ 0) c.loop-i.out c.loop-i.i 0 (omega (arith, c.requires, c.loop-i.invariant.1)) refl c.loop-i.invariant.2,
+  λ j h. get_or-set_other c.loop-i.out c.loop-i.i j 0 0 (λ e. omega arith) ∙ c.loop-i.invariant.3 j h,
+)
 
 pub shape_of-out : goal.shape_of-out
 shape_of-out c = c.loop-i.invariant.1
