@@ -6,7 +6,7 @@ use Rattle.program_io.proofs.Sheet.{in-sheet}
 use Rattle.program_io.proofs.lines.nodes.Given as goal
 
 abbrev pub invariant-loop-x : goal.invariant-loop-x
-invariant-loop-x l = Unit
+invariant-loop-x g l = Unit {0}
 
 abbrev pub decreases-loop-x : goal.decreases-loop-x
-decreases-loop-x l = l.n - l.x
+decreases-loop-x g l = l.n - l.x

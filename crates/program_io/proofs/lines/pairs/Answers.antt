@@ -6,7 +6,7 @@ use borrow.Author.Rules.{rules}
 use Rattle.program_io.proofs.lines.pairs.Goals as goal
 
 pub overflow_add-a : goal.overflow_add-a
-overflow_add-a c = omega arith
+overflow_add-a g c = omega arith
 
 pub loop-a-smaller : goal.loop-a-smaller
-loop-a-smaller c = omega arith
+loop-a-smaller g c = omega arith

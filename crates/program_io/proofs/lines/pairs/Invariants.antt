@@ -5,7 +5,7 @@ use borrow.Author.Rules.{rules}
 use Rattle.program_io.proofs.lines.pairs.Given as goal
 
 abbrev pub invariant-loop-a : goal.invariant-loop-a
-invariant-loop-a l = Unit
+invariant-loop-a g l = Unit {0}
 
 abbrev pub decreases-loop-a : goal.decreases-loop-a
-decreases-loop-a l = l.n - l.a
+decreases-loop-a g l = l.n - l.a

@@ -7,16 +7,16 @@ use Rattle.program_io.proofs.Sheet.{in-sheet}
 use Rattle.program_io.proofs.lines.pairs_of.Goals as goal
 
 pub overflow_mul-answer : goal.overflow_mul-answer
-overflow_mul-answer c = omega (arith, in-sheet _ _ _ c.requires.1 c.loop-b-test.true c.requires.0)
+overflow_mul-answer g c = omega (arith, in-sheet _ _ _ c.requires.1 c.loop-b-test.true c.requires.0)
 
 pub overflow_add-answer : goal.overflow_add-answer
-overflow_add-answer c = omega (arith, in-sheet _ _ _ c.requires.1 c.loop-b-test.true c.requires.0)
+overflow_add-answer g c = omega (arith, in-sheet _ _ _ c.requires.1 c.loop-b-test.true c.requires.0)
 
 pub bounds-answers-a : goal.bounds-answers-a
-bounds-answers-a c = omega (arith, in-sheet _ _ _ c.requires.1 c.loop-b-test.true c.requires.0)
+bounds-answers-a g c = omega (arith, in-sheet _ _ _ c.requires.1 c.loop-b-test.true c.requires.0)
 
 pub overflow_add-b : goal.overflow_add-b
-overflow_add-b c = omega arith
+overflow_add-b g c = omega arith
 
 pub loop-b-smaller : goal.loop-b-smaller
-loop-b-smaller c = omega arith
+loop-b-smaller g c = omega arith

@@ -6,7 +6,7 @@ use Rattle.program_io.proofs.Sheet.{in-sheet}
 use Rattle.program_io.proofs.lines.pairs_of.Given as goal
 
 abbrev pub invariant-loop-b : goal.invariant-loop-b
-invariant-loop-b l = Unit
+invariant-loop-b g l = Unit {0}
 
 abbrev pub decreases-loop-b : goal.decreases-loop-b
-decreases-loop-b l = l.n - l.b
+decreases-loop-b g l = l.n - l.b

@@ -4,7 +4,7 @@ use borrow.Author.Rules.{rules}
 use Rattle.replay_trace.proofs.lines.met.Given as goal
 
 abbrev pub invariant-loop-a : goal.invariant-loop-a
-invariant-loop-a l = Unit {0}
+invariant-loop-a g l = Unit {0}
 
 abbrev pub decreases-loop-a : goal.decreases-loop-a
-decreases-loop-a l = l.n - l.a
+decreases-loop-a g l = l.n - l.a

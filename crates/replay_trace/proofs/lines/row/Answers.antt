@@ -7,10 +7,10 @@ use borrow.Author.Rules.{rules}
 use Rattle.replay_trace.proofs.lines.row.Goals as goal
 
 pub overflow_mul-a : goal.overflow_mul-a
-overflow_mul-a c = omega (arith, row_room c.args.a c.args.n c.requires.1, square c.requires.0)
+overflow_mul-a g c = omega (arith, row_room c.args.a c.args.n c.requires.1, square c.requires.0)
 
 pub overflow_add-a : goal.overflow_add-a
-overflow_add-a c = omega (arith, row_room c.args.a c.args.n c.requires.1, square c.requires.0)
+overflow_add-a g c = omega (arith, row_room c.args.a c.args.n c.requires.1, square c.requires.0)
 
 pub bounds-out-a : goal.bounds-out-a
-bounds-out-a c = omega (arith, row_room c.args.a c.args.n c.requires.1, square c.requires.0)
+bounds-out-a g c = omega (arith, row_room c.args.a c.args.n c.requires.1, square c.requires.0)

@@ -6,7 +6,7 @@ use borrow.Author.Rules.{rules}
 use Rattle.replay_trace.proofs.lines.row.Given as goal
 
 abbrev pub invariant-loop-b : goal.invariant-loop-b
-invariant-loop-b l = Unit {0}
+invariant-loop-b g l = Unit {0}
 
 abbrev pub decreases-loop-b : goal.decreases-loop-b
-decreases-loop-b l = l.n - l.b
+decreases-loop-b g l = l.n - l.b

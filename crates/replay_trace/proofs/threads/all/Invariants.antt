@@ -4,7 +4,7 @@ use borrow.Author.Rules.{rules}
 use Rattle.replay_trace.proofs.threads.all.Given as goal
 
 abbrev pub invariant-loop-t : goal.invariant-loop-t
-invariant-loop-t l = Unit {0}
+invariant-loop-t g l = Unit {0}
 
 abbrev pub decreases-loop-t : goal.decreases-loop-t
-decreases-loop-t l = l.n - l.t
+decreases-loop-t g l = l.n - l.t

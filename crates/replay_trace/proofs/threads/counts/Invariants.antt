@@ -4,7 +4,7 @@ use borrow.Author.Rules.{rules}
 use Rattle.replay_trace.proofs.threads.counts.Given as goal
 
 abbrev pub invariant-loop-c : goal.invariant-loop-c
-invariant-loop-c l = Unit {0}
+invariant-loop-c g l = Unit {0}
 
 abbrev pub decreases-loop-c : goal.decreases-loop-c
-decreases-loop-c l = 48 - c
+decreases-loop-c g l = 48 - l.c

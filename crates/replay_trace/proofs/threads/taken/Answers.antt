@@ -6,7 +6,4 @@ use borrow.Author.Rules.{rules}
 use Rattle.replay_trace.proofs.threads.taken.Goals as goal
 
 pub has-requires : goal.has-requires
-has-requires c = omega arith
-
-slice-aggregate-number : tie.Need-slice-aggregate-number invariant-loop decreases-loop
-slice-aggregate-number c = search rules
+has-requires g c = omega arith

@@ -5,7 +5,7 @@ use borrow.Author.Rules.{rules}
 use Rattle.replay_trace.proofs.threads.taken.Given as goal
 
 abbrev pub invariant-loop-x : goal.invariant-loop-x
-invariant-loop-x l = Unit {0}
+invariant-loop-x g l = Unit {0}
 
 abbrev pub decreases-loop-x : goal.decreases-loop-x
-decreases-loop-x l = 48 - x
+decreases-loop-x g l = 48 - l.x
