@@ -20,19 +20,19 @@ pub returns-in-Unfinished : goal.returns-in-Unfinished
 returns-in-Unfinished c =
     let other : is_ended c.replay_rows.result ≡ false
     → false ≡ is_witness (reading c.args.s.now c.args.chart) c.args.size c.args.trace.now c.args.a c.args.b =
-        λ h. not-ended (reading c.args.s.now c.args.chart) c.args.size c.args.trace.now c.args.a c.args.b c.replay_rows.ensures.result_value h in
+    λ h. not-ended (reading c.args.s.now c.args.chart) c.args.size c.args.trace.now c.args.a c.args.b c.replay_rows.ensures.result_value h in
     other (ap is_ended c.in-Unfinished.is)
 
 pub returns-in-Forbidden : goal.returns-in-Forbidden
 returns-in-Forbidden c =
     let other : is_ended c.replay_rows.result ≡ false
     → false ≡ is_witness (reading c.args.s.now c.args.chart) c.args.size c.args.trace.now c.args.a c.args.b =
-        λ h. not-ended (reading c.args.s.now c.args.chart) c.args.size c.args.trace.now c.args.a c.args.b c.replay_rows.ensures.result_value h in
+    λ h. not-ended (reading c.args.s.now c.args.chart) c.args.size c.args.trace.now c.args.a c.args.b c.replay_rows.ensures.result_value h in
     other (ap is_ended c.in-Forbidden.is)
 
 pub returns-in-Refused : goal.returns-in-Refused
 returns-in-Refused c =
     let other : is_ended c.replay_rows.result ≡ false
     → false ≡ is_witness (reading c.args.s.now c.args.chart) c.args.size c.args.trace.now c.args.a c.args.b =
-        λ h. not-ended (reading c.args.s.now c.args.chart) c.args.size c.args.trace.now c.args.a c.args.b c.replay_rows.ensures.result_value h in
+    λ h. not-ended (reading c.args.s.now c.args.chart) c.args.size c.args.trace.now c.args.a c.args.b c.replay_rows.ensures.result_value h in
     other (ap is_ended c.in-Refused.is)

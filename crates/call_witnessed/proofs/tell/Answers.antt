@@ -24,7 +24,7 @@ pub returns-then-bad_node : goal.returns-then-bad_node
 unfolding answered_by numbers_row first_of
 returns-then-bad_node c =
     let R : Region =
-        reading c.args.s.now c.args.chart in
+    reading c.args.s.now c.args.chart in
     rw (or_left (bad_number R c.args.a) (bad_number R c.args.b) (sym c.bad_node.ensures ∙ c.if-bad_node.true))
 
 pub bad_node-requires-2 : goal.bad_node-requires-2
@@ -34,7 +34,7 @@ pub returns-then-bad_node-2 : goal.returns-then-bad_node-2
 unfolding answered_by numbers_row first_of
 returns-then-bad_node-2 c =
     let R : Region =
-        reading c.args.s.now c.args.chart in
+    reading c.args.s.now c.args.chart in
     rw (or_right (bad_number R c.args.a) (bad_number R c.args.b) (sym c.bad_node-2.ensures ∙ c.if-bad_node-2.true))
 
 -- past the tests both numbers are those of nodes that a claim may name, and the trace decides
@@ -42,21 +42,21 @@ pub returns-then-bad_trace : goal.returns-then-bad_trace
 unfolding answered_by numbers_row first_of
 returns-then-bad_trace c =
     let R : Region =
-        reading c.args.s.now c.args.chart in
+    reading c.args.s.now c.args.chart in
     let good-b : bad_number R c.args.b ≡ false =
-        sym c.bad_node-2.ensures ∙ c.if-bad_node-2.false in
+    sym c.bad_node-2.ensures ∙ c.if-bad_node-2.false in
     let numbers : (bad_number R c.args.a || bad_number R c.args.b) ≡ false =
-        neither-or (bad_number R c.args.a) (bad_number R c.args.b) (sym c.bad_node.ensures ∙ c.if-bad_node.false) good-b in
+    neither-or (bad_number R c.args.a) (bad_number R c.args.b) (sym c.bad_node.ensures ∙ c.if-bad_node.false) good-b in
     rw (numbers, ← c.bad_trace.ensures, c.if-bad_trace.true)
 
 pub is_witness-requires : goal.is_witness-requires
 is_witness-requires c =
     let R : Region =
-        reading c.args.s.now c.args.chart in
+    reading c.args.s.now c.args.chart in
     let good-b : bad_number R c.args.b ≡ false =
-        sym c.bad_node-2.ensures ∙ c.if-bad_node-2.false in
+    sym c.bad_node-2.ensures ∙ c.if-bad_node-2.false in
     let below-b : c.args.b < c.args.chart.nodes =
-        omega (arith, (good-number R c.args.b (well-formed _ c.args.chart c.requires) good-b).0, nodes-length _ c.args.chart c.requires.laid) in
+    omega (arith, (good-number R c.args.b (well-formed _ c.args.chart c.requires) good-b).0, nodes-length _ c.args.chart c.requires.laid) in
     let (least, most) = whole-trace _ _ (sym c.bad_trace.ensures ∙ c.if-bad_trace.false) in
     (c.requires, least, most, below-b)
 
@@ -64,20 +64,20 @@ pub returns-then-is_witness : goal.returns-then-is_witness
 unfolding answered_by numbers_row first_of told
 returns-then-is_witness c =
     let R : Region =
-        reading c.args.s.now c.args.chart in
+    reading c.args.s.now c.args.chart in
     let good-b : bad_number R c.args.b ≡ false =
-        sym c.bad_node-2.ensures ∙ c.if-bad_node-2.false in
+    sym c.bad_node-2.ensures ∙ c.if-bad_node-2.false in
     let numbers : (bad_number R c.args.a || bad_number R c.args.b) ≡ false =
-        neither-or (bad_number R c.args.a) (bad_number R c.args.b) (sym c.bad_node.ensures ∙ c.if-bad_node.false) good-b in
+    neither-or (bad_number R c.args.a) (bad_number R c.args.b) (sym c.bad_node.ensures ∙ c.if-bad_node.false) good-b in
     rw (numbers, ← c.bad_trace.ensures, c.if-bad_trace.false, ← c.is_witness.ensures, c.if-is_witness.true)
 
 pub returns : goal.returns
 unfolding answered_by numbers_row first_of told
 returns c =
     let R : Region =
-        reading c.args.s.now c.args.chart in
+    reading c.args.s.now c.args.chart in
     let good-b : bad_number R c.args.b ≡ false =
-        sym c.bad_node-2.ensures ∙ c.if-bad_node-2.false in
+    sym c.bad_node-2.ensures ∙ c.if-bad_node-2.false in
     let numbers : (bad_number R c.args.a || bad_number R c.args.b) ≡ false =
-        neither-or (bad_number R c.args.a) (bad_number R c.args.b) (sym c.bad_node.ensures ∙ c.if-bad_node.false) good-b in
+    neither-or (bad_number R c.args.a) (bad_number R c.args.b) (sym c.bad_node.ensures ∙ c.if-bad_node.false) good-b in
     rw (numbers, ← c.bad_trace.ensures, c.if-bad_trace.false, ← c.is_witness.ensures, c.if-is_witness.false)
