@@ -107,7 +107,7 @@ fn followed(s: &[u8], kind: u8, block: Extent) -> Extent
 }
 
 // A block in braces, where `depth` more braces may be open.
-#[cycle(block_braced_item)]
+#[cycle(reader)]
 pub fn braced(s: &[u8], at: usize, depth: usize) -> Extent
     ensures within { Within (at + 2) (length s.now) result }
     ensures by_index { (fuel : ℕ) → length s.now - at < fuel → result ≡ braced_extent fuel s.now depth at }
@@ -125,7 +125,7 @@ pub fn braced(s: &[u8], at: usize, depth: usize) -> Extent
 }
 
 // An item.
-#[cycle(block_braced_item)]
+#[cycle(reader)]
 pub fn item(s: &[u8], at: usize, depth: usize) -> Extent
     requires { at < length s.now }
     ensures within { Within at (length s.now) result × Beyond at result }
@@ -159,7 +159,7 @@ pub fn item(s: &[u8], at: usize, depth: usize) -> Extent
 }
 
 // Items up to a closing brace or the end.
-#[cycle(block_braced_item)]
+#[cycle(reader)]
 pub fn block(s: &[u8], at: usize, depth: usize) -> Extent
     requires { at ≤ length s.now }
     ensures within { Within at (length s.now) result }

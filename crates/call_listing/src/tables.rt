@@ -45,7 +45,7 @@ pub fn ahead(s: &[u8], at: usize, k: usize, t: usize) -> usize
 }
 
 // A loop: its head, and its block, which leads back.
-#[cycle(fill_block_fill_branch_fill_construct_fill_item_fill_loop)]
+#[cycle(tables)]
 fn fill_loop(s: &[u8], spot: Spot, nodes: &mut [u8], edges: &mut [u8], parts: &mut [u8]) -> usize
     requires { (get_or s.now spot.at 0 ≡ loop_letter) × ((n : ℕ) × Takes s.now spot n) × Room spot nodes.old edges.old parts.old }
     ensures { FilledItem s.now spot result nodes.old edges.old parts.old nodes.new edges.new parts.new }
@@ -80,7 +80,7 @@ fn fill_loop(s: &[u8], spot: Spot, nodes: &mut [u8], edges: &mut [u8], parts: &m
 }
 
 // A branch of n nodes: its node, two blocks, its join.
-#[cycle(fill_block_fill_branch_fill_construct_fill_item_fill_loop)]
+#[cycle(tables)]
 fn fill_branch(
     s: &[u8],
     spot: Spot,
@@ -168,7 +168,7 @@ fn put_end(spot: Spot, n: usize, k: usize, edge: usize, nodes: &mut [u8], edges:
 }
 
 // A construct of n nodes: its begin, its block, its end, and the barrier that follows it, where there is one.
-#[cycle(fill_block_fill_branch_fill_construct_fill_item_fill_loop)]
+#[cycle(tables)]
 fn fill_construct(
     s: &[u8],
     spot: Spot,
@@ -220,7 +220,7 @@ fn fill_construct(
 }
 
 // The item of n nodes at a spot; the node that follows it is the spot's. How many edges there are then.
-#[cycle(fill_block_fill_branch_fill_construct_fill_item_fill_loop)]
+#[cycle(tables)]
 fn fill_item(
     s: &[u8],
     spot: Spot,
@@ -272,7 +272,7 @@ fn fill_item(
 }
 
 // The block at a spot, item by item. How many edges there are then.
-#[cycle(fill_block_fill_branch_fill_construct_fill_item_fill_loop)]
+#[cycle(tables)]
 pub fn fill_block(
     s: &[u8],
     spot: Spot,

@@ -26,9 +26,9 @@ put_chart-requires c =
       c.requires.1,
       (omega arith, omega (arith, small.nodes-fit), omega (arith, full.edges_few), small.constructs-fit),
       (
-        omega (arith, small.nodes-fit, c.node_table-2-1.given),
-        omega (arith, full.edges_few, c.edge_table-2-1.given),
-        omega (arith, small.constructs-fit, c.part_table-2-1.given),
+        omega (arith, small.nodes-fit),
+        omega (arith, full.edges_few),
+        omega (arith, small.constructs-fit),
       ),
     )
 

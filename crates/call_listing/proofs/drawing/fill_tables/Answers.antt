@@ -41,8 +41,8 @@ fill_block-all-requires c =
         parts-fit = omega (arith, small.construct-count, small.constructs-fit);
       },
       (
-        omega (arith, c.requires.1, c.nodes-1.given),
-        omega (arith, c.requires.2, c.edges-1.given),
+        omega (arith, c.requires.1),
+        omega (arith, c.requires.2),
         omega (arith, c.requires.3),
         omega (arith, small.nodes-fit),
         omega (arith, cell.edges_few),
@@ -53,7 +53,7 @@ pub put_record-requires : goal.put_record-requires
 put_record-requires c =
     let a = c.args in
     let small = c.requires.0.1 in
-    omega (arith, c.requires.1, small.nodes-fit, c.nodes-1.given, c.nodes-2-1.given)
+    omega (arith, c.requires.1, small.nodes-fit)
 
 pub returns : goal.returns
 returns c =

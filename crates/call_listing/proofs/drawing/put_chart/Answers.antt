@@ -15,7 +15,7 @@ pub slice_bounds-put_part-end : goal.slice_bounds-put_part-end
 slice_bounds-put_part-end c =
     let known : let a = c.args in let n = 4 * a.chart.nodes in let m = 2 * a.chart.edges in let k = 4 * a.chart.constructs in
     (length (take n a.nodes.now) ≡ n) × (length (take m a.edges.now) ≡ m) × (length (take k a.parts.now) ≡ k) × (n + m + k + 16 ≤ length a.out.now) =
-        let a = c.args in
+    let a = c.args in
     let (long, small, (fn, fe, fc)) = c.requires in
     (length-take-le _ a.nodes.now fn, length-take-le _ a.edges.now fe, length-take-le _ a.parts.now fc, omega (arith, long, small.1, small.2, small.3)) in
     sym known.0
@@ -24,7 +24,7 @@ pub put_part-requires : goal.put_part-requires
 put_part-requires c =
     let known : let a = c.args in let n = 4 * a.chart.nodes in let m = 2 * a.chart.edges in let k = 4 * a.chart.constructs in
     (length (take n a.nodes.now) ≡ n) × (length (take m a.edges.now) ≡ m) × (length (take k a.parts.now) ≡ k) × (n + m + k + 16 ≤ length a.out.now) =
-        let a = c.args in
+    let a = c.args in
     let (long, small, (fn, fe, fc)) = c.requires in
     (length-take-le _ a.nodes.now fn, length-take-le _ a.edges.now fe, length-take-le _ a.parts.now fc, omega (arith, long, small.1, small.2, small.3)) in
     let (n, m, k, fits) = known in omega (arith, n, fits)
@@ -33,7 +33,7 @@ pub slice_bounds-put_part-end-2 : goal.slice_bounds-put_part-end-2
 slice_bounds-put_part-end-2 c =
     let known : let a = c.args in let n = 4 * a.chart.nodes in let m = 2 * a.chart.edges in let k = 4 * a.chart.constructs in
     (length (take n a.nodes.now) ≡ n) × (length (take m a.edges.now) ≡ m) × (length (take k a.parts.now) ≡ k) × (n + m + k + 16 ≤ length a.out.now) =
-        let a = c.args in
+    let a = c.args in
     let (long, small, (fn, fe, fc)) = c.requires in
     (length-take-le _ a.nodes.now fn, length-take-le _ a.edges.now fe, length-take-le _ a.parts.now fc, omega (arith, long, small.1, small.2, small.3)) in
     sym known.1
@@ -42,16 +42,16 @@ pub put_part-requires-2 : goal.put_part-requires-2
 put_part-requires-2 c =
     let known : let a = c.args in let n = 4 * a.chart.nodes in let m = 2 * a.chart.edges in let k = 4 * a.chart.constructs in
     (length (take n a.nodes.now) ≡ n) × (length (take m a.edges.now) ≡ m) × (length (take k a.parts.now) ≡ k) × (n + m + k + 16 ≤ length a.out.now) =
-        let a = c.args in
+    let a = c.args in
     let (long, small, (fn, fe, fc)) = c.requires in
     (length-take-le _ a.nodes.now fn, length-take-le _ a.edges.now fe, length-take-le _ a.parts.now fc, omega (arith, long, small.1, small.2, small.3)) in
-    let (n, m, k, fits) = known in omega (arith, m, fits, c.out-1.given)
+    let (n, m, k, fits) = known in omega (arith, m, fits)
 
 pub slice_bounds-put_part-end-3 : goal.slice_bounds-put_part-end-3
 slice_bounds-put_part-end-3 c =
     let known : let a = c.args in let n = 4 * a.chart.nodes in let m = 2 * a.chart.edges in let k = 4 * a.chart.constructs in
     (length (take n a.nodes.now) ≡ n) × (length (take m a.edges.now) ≡ m) × (length (take k a.parts.now) ≡ k) × (n + m + k + 16 ≤ length a.out.now) =
-        let a = c.args in
+    let a = c.args in
     let (long, small, (fn, fe, fc)) = c.requires in
     (length-take-le _ a.nodes.now fn, length-take-le _ a.edges.now fe, length-take-le _ a.parts.now fc, omega (arith, long, small.1, small.2, small.3)) in
     sym known.2
@@ -60,20 +60,20 @@ pub put_part-requires-3 : goal.put_part-requires-3
 put_part-requires-3 c =
     let known : let a = c.args in let n = 4 * a.chart.nodes in let m = 2 * a.chart.edges in let k = 4 * a.chart.constructs in
     (length (take n a.nodes.now) ≡ n) × (length (take m a.edges.now) ≡ m) × (length (take k a.parts.now) ≡ k) × (n + m + k + 16 ≤ length a.out.now) =
-        let a = c.args in
+    let a = c.args in
     let (long, small, (fn, fe, fc)) = c.requires in
     (length-take-le _ a.nodes.now fn, length-take-le _ a.edges.now fe, length-take-le _ a.parts.now fc, omega (arith, long, small.1, small.2, small.3)) in
     let (n, m, k, fits) = known in
-    omega (arith, k, fits, c.out-1.given, c.out-2-1.given)
+    omega (arith, k, fits)
 
 pub put_trailer-requires : goal.put_trailer-requires
 put_trailer-requires c =
     let known : let a = c.args in let n = 4 * a.chart.nodes in let m = 2 * a.chart.edges in let k = 4 * a.chart.constructs in
     (length (take n a.nodes.now) ≡ n) × (length (take m a.edges.now) ≡ m) × (length (take k a.parts.now) ≡ k) × (n + m + k + 16 ≤ length a.out.now) =
-        let a = c.args in
+    let a = c.args in
     let (long, small, (fn, fe, fc)) = c.requires in
     (length-take-le _ a.nodes.now fn, length-take-le _ a.edges.now fe, length-take-le _ a.parts.now fc, omega (arith, long, small.1, small.2, small.3)) in
-    (omega (arith, known.3, c.out-1.given, c.out-2-1.given, c.out-3-1.given), c.requires.1)
+    (omega (arith, known.3), c.requires.1)
 
 pub returns : goal.returns
 returns c =

@@ -18,15 +18,13 @@ returns-in-Stopped c =
 
 pub returns-then-next-s : goal.returns-then-next-s
 returns-then-next-s c =
-    let g = c.next-1.given in
     let s = c.args.s.now in
-    let here : UpTo g.0.0 g.0.1.0 g.0.1.1.0 ≡ ending s (UpTo g.0.0 g.0.1.0 g.0.1.1.0) =
-    rw (eq-eqb g.0.0 (length s) c.if-next-s.true) in
-    here ∙ ap (ending s) (sym g.1 ∙ c.block.ensures.by_index (suc (length s)) (omega arith)) ∙ whole-extent s
+    let here : UpTo c.in-UpTo.next c.in-UpTo.nodes c.in-UpTo.constructs ≡ ending s (UpTo c.in-UpTo.next c.in-UpTo.nodes c.in-UpTo.constructs) =
+    rw (eq-eqb c.in-UpTo.next (length s) c.if-next-s.true) in
+    here ∙ ap (ending s) (sym c.in-UpTo.is ∙ c.block.ensures.by_index (suc (length s)) (omega arith)) ∙ whole-extent s
 
 pub returns-else-next-s : goal.returns-else-next-s
 returns-else-next-s c =
-    let g = c.next-1.given in
     let s = c.args.s.now in
-    let here : refused 14 ≡ ending s (UpTo g.0.0 g.0.1.0 g.0.1.1.0) = rw (ne_eqb g.0.0 (length s) c.if-next-s.false) in
-    here ∙ ap (ending s) (sym g.1 ∙ c.block.ensures.by_index (suc (length s)) (omega arith)) ∙ whole-extent s
+    let here : refused 14 ≡ ending s (UpTo c.in-UpTo.next c.in-UpTo.nodes c.in-UpTo.constructs) = rw (ne_eqb c.in-UpTo.next (length s) c.if-next-s.false) in
+    here ∙ ap (ending s) (sym c.in-UpTo.is ∙ c.block.ensures.by_index (suc (length s)) (omega arith)) ∙ whole-extent s
