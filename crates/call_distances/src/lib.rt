@@ -48,9 +48,8 @@ fn write_distances(s: &[u8], chart: Chart, levels: &[u8; Chart::NODES], out: &mu
     requires { Accepted s.now chart × Levels forward (reading s.now chart) levels.now }
     ensures result_value { let size = length (distances_result (reading s.now chart)) in
         result ≡ written_by (output_rows [] (length out.old) size []) size }
-    ensures* out_after { λ _.
-        let result = distances_result (reading s.now chart) in
-        ⌜ out.new ≡ left_by (output_rows [] (length out.old) (length result) []) result out.old ⌝ }
+    ensures out_after { let result = distances_result (reading s.now chart) in
+        out.new ≡ left_by (output_rows [] (length out.old) (length result) []) result out.old }
 {
     match room_for(chart.nodes, out.len()) {
         Written::Refused(refusal) => Written::Refused(refusal),

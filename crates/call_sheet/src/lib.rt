@@ -33,10 +33,9 @@ fn write_sheet(
     ensures result_value { let R = reading s.now chart in
         let bytes = length (sheet_of R (answer_for R size)) in
         result ≡ written_by (output_rows [] (length out.old) bytes (size_rows size)) bytes }
-    ensures* out_after { λ _.
-        let R = reading s.now chart in
+    ensures out_after { let R = reading s.now chart in
         let result = sheet_of R (answer_for R size) in
-        ⌜ out.new ≡ left_by (output_rows [] (length out.old) (length result) (size_rows size)) result out.old ⌝ }
+        out.new ≡ left_by (output_rows [] (length out.old) (length result) (size_rows size)) result out.old }
 {
     let n = chart.nodes;
     match room_sized(n * n, out.len(), size) {

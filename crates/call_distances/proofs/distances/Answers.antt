@@ -22,11 +22,14 @@ pub returns-in-Refused : goal.returns-in-Refused
 returns-in-Refused c =
     let s = c.args.s.now in
     let p = c.args.region in
-    refused-before (region_rows s p) [] _ (distances_result (region_of p (decode s))) c.args.out.now _ (entered-refused _ _ _ (sym c.enter.ensures.value ∙ c.in let p = -Refused.is)) in record { value = p.0; out_after = p.1 }
+    let both = refused-before (region_rows s p) [] _ (distances_result (region_of p (decode s))) c.args.out.now _ (entered-refused _ _ _ (sym c.enter.ensures.value ∙ c.in-Refused.is)) in
+    record { value = both.0; out_after = both.1 }
 
 pub returns-in-Marked : goal.returns-in-Marked
 returns-in-Marked c =
     let s = c.args.s.now in
     let h = sym c.enter.ensures.value ∙ c.in-Marked.is in
-    let named = sym (ap (λ (chart : Chart). chart.region) (entered-counts _ _ _ h)) in let p = passed-named (region_rows s c.args.region) [] (λ (p : ℕ). distances_result (region_of p (decode s))) c.args.out.now named (entered-marked _ _ _ h)
-    c.write_distances.ensures.result_value c.write_distances.ensures.out_after in record { value = p.0; out_after = p.1 }
+    let named = sym (ap (λ (chart : Chart). chart.region) (entered-counts _ _ _ h)) in
+    let both = passed-named (region_rows s c.args.region) [] (λ (p : ℕ). distances_result (region_of p (decode s))) c.args.out.now named (entered-marked _ _ _ h)
+    c.write_distances.ensures.result_value c.write_distances.ensures.out_after in
+    record { value = both.0; out_after = both.1 }

@@ -21,14 +21,14 @@ pub returns-in-Refused : goal.returns-in-Refused
 unfolding distances_result
 returns-in-Refused c =
     let R : Region =
-        reading c.args.s.now c.args.chart in
+    reading c.args.s.now c.args.chart in
     let nodes : R.nodes ≡ c.args.chart.nodes =
-        nodes-length _ c.args.chart c.requires.0.laid in
+    nodes-length _ c.args.chart c.requires.0.laid in
     let size : length (distances_result R) ≡ c.args.chart.nodes =
-        tab-length R.nodes (distance_byte R) ∙ nodes in
+    tab-length R.nodes (distance_byte R) ∙ nodes in
     let answers : let n = length (distances_result R) in
     c.room_for.result ≡ written_by (output_rows [] (length c.args.out.now) n []) n =
-        rw size c.room_for.ensures in
+    rw size c.room_for.ensures in
     let h = c.in-Refused.is in
     record { result_value = sym h ∙ answers; out_after = kept _ _ (distances_result R) _ (sym answers ∙ h) }
 
@@ -36,13 +36,13 @@ pub returns-in-Bytes : goal.returns-in-Bytes
 unfolding distances_result
 returns-in-Bytes c =
     let R : Region =
-        reading c.args.s.now c.args.chart in
+    reading c.args.s.now c.args.chart in
     let nodes : R.nodes ≡ c.args.chart.nodes =
-        nodes-length _ c.args.chart c.requires.0.laid in
+    nodes-length _ c.args.chart c.requires.0.laid in
     let size : length (distances_result R) ≡ c.args.chart.nodes =
-        tab-length R.nodes (distance_byte R) ∙ nodes in
+    tab-length R.nodes (distance_byte R) ∙ nodes in
     let answers : let n = length (distances_result R) in
     c.room_for.result ≡ written_by (output_rows [] (length c.args.out.now) n []) n =
-        rw size c.room_for.ensures in
+    rw size c.room_for.ensures in
     let h = c.in-Bytes.is in
     record { result_value = sym h ∙ answers; out_after = c.fill_distances.ensures R nodes c.load_closed.ensures c.requires.1 ∙ put _ _ (distances_result R) _ (sym answers ∙ h) }

@@ -28,12 +28,16 @@ pub returns-in-Refused : goal.returns-in-Refused
 returns-in-Refused c =
     let s = c.args.s.now in
     let p = c.args.region in
-    let n = refused-some _ (read_for (counts_of s) p) _ (sym c.survey.ensures.value ∙ c.in-Refused.is) in let p = refused-before (region_rows s p) (size_rows c.args.size) _ (locks_result (region_of p (decode s)) c.args.size) c.args.out.now _ n in record { value = p.0; out_after = p.1 }
+    let n = refused-some _ (read_for (counts_of s) p) _ (sym c.survey.ensures.value ∙ c.in-Refused.is) in
+    let both = refused-before (region_rows s p) (size_rows c.args.size) _ (locks_result (region_of p (decode s)) c.args.size) c.args.out.now _ n in
+    record { value = both.0; out_after = both.1 }
 
 pub returns-in-Passed : goal.returns-in-Passed
 returns-in-Passed c =
     let s = c.args.s.now in
     let p = c.args.region in
     let n = passed_none _ (read_for (counts_of s) p) _ (sym c.survey.ensures.value ∙ c.in-Passed.is) in
-    let named = sym (ap (λ (chart : Chart). chart.region) n.1) in let p = passed-named (region_rows s p) (size_rows c.args.size) (λ (q : ℕ). locks_result (region_of q (decode s)) c.args.size) c.args.out.now named n.0
-    c.write_locks.ensures.result_value c.write_locks.ensures.out_after in record { value = p.0; out_after = p.1 }
+    let named = sym (ap (λ (chart : Chart). chart.region) n.1) in
+    let both = passed-named (region_rows s p) (size_rows c.args.size) (λ (q : ℕ). locks_result (region_of q (decode s)) c.args.size) c.args.out.now named n.0
+    c.write_locks.ensures.result_value c.write_locks.ensures.out_after in
+    record { value = both.0; out_after = both.1 }

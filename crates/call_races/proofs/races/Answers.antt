@@ -21,11 +21,14 @@ pub returns-in-Refused : goal.returns-in-Refused
 returns-in-Refused c =
     let s = c.args.s.now in
     let p = c.args.region in
-    chart-refused s p c.args.accesses.now c.args.out.now _
-    (refused-some _ (read_for (counts_of s) p) _ (sym c.survey.ensures.value ∙ c.in let p = -Refused.is)) in record { value = p.0; out_after = p.1 }
+    let both = chart-refused s p c.args.accesses.now c.args.out.now _
+    (refused-some _ (read_for (counts_of s) p) _ (sym c.survey.ensures.value ∙ c.in-Refused.is)) in
+    record { value = both.0; out_after = both.1 }
 
 pub returns-in-Passed : goal.returns-in-Passed
 returns-in-Passed c =
     let s = c.args.s.now in
     let p = c.args.region in
-    let n = passed_none _ (read_for (counts_of s) p) _ (sym c.survey.ensures.value ∙ c.in-Passed.is) in let p = chart-passed s p c.args.accesses.now c.args.out.now (sym (ap (λ (chart : Chart). chart.region) n.1)) n.0 c.write_races.ensures.result_value c.write_races.ensures.out_after in record { value = p.0; out_after = p.1 }
+    let n = passed_none _ (read_for (counts_of s) p) _ (sym c.survey.ensures.value ∙ c.in-Passed.is) in
+    let both = chart-passed s p c.args.accesses.now c.args.out.now (sym (ap (λ (chart : Chart). chart.region) n.1)) n.0 c.write_races.ensures.result_value c.write_races.ensures.out_after in
+    record { value = both.0; out_after = both.1 }

@@ -23,7 +23,8 @@ pub returns-then-bad_accesses : goal.returns-then-bad_accesses
 returns-then-bad_accesses c =
     let read : Region =
         reading c.args.s.now c.args.chart in
-    let p = list-refused read c.args.accesses.now c.args.out.now (sym c.bad_accesses.ensures ∙ c.if-bad_accesses.true) in record { result_value = p.0; out_after = p.1 }
+    let both = list-refused read c.args.accesses.now c.args.out.now (sym c.bad_accesses.ensures ∙ c.if-bad_accesses.true) in
+    record { result_value = both.0; out_after = both.1 }
 
 pub overflow_mul-n : goal.overflow_mul-n
 unfolding total

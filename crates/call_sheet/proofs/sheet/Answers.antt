@@ -28,7 +28,9 @@ pub returns-in-Refused : goal.returns-in-Refused
 returns-in-Refused c =
     let s = c.args.s.now in
     let p = c.args.region in
-    let n = refused-some _ (read_for (counts_of s) p) _ (sym c.survey.ensures.value ∙ c.in-Refused.is) in let p = refused-before (region_rows s p) (size_rows c.args.size) _ (sheet_result s p c.args.size) c.args.out.now _ n in record { value = p.0; out_after = p.1 }
+    let n = refused-some _ (read_for (counts_of s) p) _ (sym c.survey.ensures.value ∙ c.in-Refused.is) in
+    let both = refused-before (region_rows s p) (size_rows c.args.size) _ (sheet_result s p c.args.size) c.args.out.now _ n in
+    record { value = both.0; out_after = both.1 }
 
 pub returns-in-Passed : goal.returns-in-Passed
 returns-in-Passed c =
@@ -36,5 +38,6 @@ returns-in-Passed c =
     let p = c.args.region in
     let n = passed_none _ (read_for (counts_of s) p) _ (sym c.survey.ensures.value ∙ c.in-Passed.is) in
     let named = sym (ap (λ (chart : Chart). chart.region) n.1) in
-    passed-named (region_rows s p) (size_rows c.args.size) (λ (q : ℕ). let R = region_of q (decode s) in let p = sheet R (answer_for R c.args.size)) c.args.out.now named n.0
-    c.write_sheet.ensures.result_value c.write_sheet.ensures.out_after in record { value = p.0; out_after = p.1 }
+    let both = passed-named (region_rows s p) (size_rows c.args.size) (λ (q : ℕ). let R = region_of q (decode s) in sheet R (answer_for R c.args.size)) c.args.out.now named n.0
+    c.write_sheet.ensures.result_value c.write_sheet.ensures.out_after in
+    record { value = both.0; out_after = both.1 }

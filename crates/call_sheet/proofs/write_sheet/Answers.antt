@@ -26,10 +26,10 @@ fill_sheet-requires c =
 pub returns-in-Refused : goal.returns-in-Refused
 returns-in-Refused c =
     let result : List ℕ =
-        let R = reading c.args.s.now c.args.chart in
+    let R = reading c.args.s.now c.args.chart in
     sheet R (answer_for R c.args.size) in
     let answers : c.room_sized.result ≡ written_by (output_rows [] (length c.args.out.now) (length result) (size_rows c.args.size)) (length result) =
-        let R = reading c.args.s.now c.args.chart in
+    let R = reading c.args.s.now c.args.chart in
     rw (sheet-length R (answer_for R c.args.size) ∙ ap (λ (k : ℕ). k * k) (nodes-length _ c.args.chart c.requires.0.laid)) c.room_sized.ensures in
     let h = c.in-Refused.is in
     record { result_value = sym h ∙ answers; out_after = kept _ _ result c.args.out.now (sym answers ∙ h) }
@@ -37,10 +37,10 @@ returns-in-Refused c =
 pub returns-in-Bytes : goal.returns-in-Bytes
 returns-in-Bytes c =
     let result : List ℕ =
-        let R = reading c.args.s.now c.args.chart in
+    let R = reading c.args.s.now c.args.chart in
     sheet R (answer_for R c.args.size) in
     let answers : c.room_sized.result ≡ written_by (output_rows [] (length c.args.out.now) (length result) (size_rows c.args.size)) (length result) =
-        let R = reading c.args.s.now c.args.chart in
+    let R = reading c.args.s.now c.args.chart in
     rw (sheet-length R (answer_for R c.args.size) ∙ ap (λ (k : ℕ). k * k) (nodes-length _ c.args.chart c.requires.0.laid)) c.room_sized.ensures in
     let h = c.in-Bytes.is in
     record { result_value = sym h ∙ answers; out_after = c.fill_sheet.ensures ∙ put _ _ result c.args.out.now (sym answers ∙ h) }

@@ -36,12 +36,11 @@ loop-b-smaller c = omega arith
 
 pub loop-b-preserved : goal.loop-b-preserved
 unfolding phase
-loop-b-preserved c =
-    (
-      omega arith,
-      omega (arith, c.ones-sum.ensures.1),
-      λ R q t S E. rw c.ones-sum.ensures.0 (pairs-more R _ _ _ (c.loop-b.invariant.2 R q t S E) (c.unite.ensures R q S E c.loop-b.b (omega arith) (omega arith))),
-    )
+loop-b-preserved c = (
+  omega arith,
+  omega (arith, c.ones-sum.ensures.1),
+  λ R q t S E. rw c.ones-sum.ensures.0 (pairs-more R _ _ _ (c.loop-b.invariant.2 R q t S E) (c.unite.ensures R q S E c.loop-b.b (omega arith) (omega arith))),
+)
 
 pub returns : goal.returns
 unfolding phase_count

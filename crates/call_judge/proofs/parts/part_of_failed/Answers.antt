@@ -21,4 +21,4 @@ returns-else-j-i c =
 
 pub returns-in_default : goal.returns-in_default
 unfolding picked part_of place_of
-returns-in_default c = rw (not-failed _ c.in-Failed.keys2) c.part_from-in_default.ensures
+returns-in_default c = rw (not-failed _ c.in_default.not-Failed) c.part_from-in_default.ensures

@@ -22,7 +22,7 @@ pub returns-then-bad_node : goal.returns-then-bad_node
 unfolding answered numbers_row first_of
 returns-then-bad_node c =
     let R : Region =
-        reading c.args.s.now c.args.chart in
+    reading c.args.s.now c.args.chart in
     rw (or_left (bad_number R c.args.a) (bad_number R c.args.b) (sym c.bad_node.ensures ∙ c.if-bad_node.true))
 
 pub bad_node-requires-2 : goal.bad_node-requires-2
@@ -32,7 +32,7 @@ pub returns-then-bad_node-2 : goal.returns-then-bad_node-2
 unfolding answered numbers_row first_of
 returns-then-bad_node-2 c =
     let R : Region =
-        reading c.args.s.now c.args.chart in
+    reading c.args.s.now c.args.chart in
     rw (or_right (bad_number R c.args.a) (bad_number R c.args.b) (sym c.bad_node-2.ensures ∙ c.if-bad_node-2.true))
 
 -- past the tests both numbers are those of nodes that a claim may name, and the size decides
@@ -40,13 +40,13 @@ pub returns-then-bad_size : goal.returns-then-bad_size
 unfolding answered numbers_row first_of
 returns-then-bad_size c =
     let R : Region =
-        reading c.args.s.now c.args.chart in
+    reading c.args.s.now c.args.chart in
     let good-a : bad_number R c.args.a ≡ false =
-        sym c.bad_node.ensures ∙ c.if-bad_node.false in
+    sym c.bad_node.ensures ∙ c.if-bad_node.false in
     let good-b : bad_number R c.args.b ≡ false =
-        sym c.bad_node-2.ensures ∙ c.if-bad_node-2.false in
+    sym c.bad_node-2.ensures ∙ c.if-bad_node-2.false in
     let rest : first_of (numbers_row R c.args.a c.args.b ∷ size_rows c.args.size) ≡ first_of (size_rows c.args.size) =
-        rw (neither-or (bad_number R c.args.a) (bad_number R c.args.b) good-a good-b) in
+    rw (neither-or (bad_number R c.args.a) (bad_number R c.args.b) good-a good-b) in
     rw (rest, c.bad_size.ensures, c.if-bad_size.true)
 
 pub sets_for-requires : goal.sets_for-requires
@@ -55,15 +55,15 @@ sets_for-requires c = c.requires.0
 pub pair-number-requires : goal.pair-number-requires
 pair-number-requires c =
     let R : Region =
-        reading c.args.s.now c.args.chart in
+    reading c.args.s.now c.args.chart in
     let good-a : bad_number R c.args.a ≡ false =
-        sym c.bad_node.ensures ∙ c.if-bad_node.false in
+    sym c.bad_node.ensures ∙ c.if-bad_node.false in
     let good-b : bad_number R c.args.b ≡ false =
-        sym c.bad_node-2.ensures ∙ c.if-bad_node-2.false in
+    sym c.bad_node-2.ensures ∙ c.if-bad_node-2.false in
     let below-a : c.args.a < R.nodes =
-        (good-number R c.args.a c.requires.1.well-formed good-a).0 in
+    (good-number R c.args.a c.requires.1.well-formed good-a).0 in
     let below-b : c.args.b < R.nodes =
-        (good-number R c.args.b c.requires.1.well-formed good-b).0 in
+    (good-number R c.args.b c.requires.1.well-formed good-b).0 in
     let M = c.requires.1 in
     (omega (arith, M.few, below-a), omega (arith, M.few, below-b))
 
@@ -71,16 +71,17 @@ pub returns : goal.returns
 unfolding answered numbers_row first_of
 returns c =
     let R : Region =
-        reading c.args.s.now c.args.chart in
+    reading c.args.s.now c.args.chart in
     let good-a : bad_number R c.args.a ≡ false =
-        sym c.bad_node.ensures ∙ c.if-bad_node.false in
+    sym c.bad_node.ensures ∙ c.if-bad_node.false in
     let good-b : bad_number R c.args.b ≡ false =
-        sym c.bad_node-2.ensures ∙ c.if-bad_node-2.false in
+    sym c.bad_node-2.ensures ∙ c.if-bad_node-2.false in
     let below-a : c.args.a < R.nodes =
-        (good-number R c.args.a c.requires.1.well-formed good-a).0 in
+    (good-number R c.args.a c.requires.1.well-formed good-a).0 in
     let below-b : c.args.b < R.nodes =
-        (good-number R c.args.b c.requires.1.well-formed good-b).0 in
+    (good-number R c.args.b c.requires.1.well-formed good-b).0 in
     let rest : first_of (numbers_row R c.args.a c.args.b ∷ size_rows c.args.size) ≡ first_of (size_rows c.args.size) =
-        rw (neither-or (bad_number R c.args.a) (bad_number R c.args.b) good-a good-b) in
-    let (Z, same) = (c.sets_for.ensures.sized, c.sets_for.ensures.kinds_value) in
+    rw (neither-or (bad_number R c.args.a) (bad_number R c.args.b) good-a good-b) in
+    let Z = c.sets_for.ensures.sized in
+    let same = c.sets_for.ensures.kinds_value in
     rw (rest, c.bad_size.ensures, c.if-bad_size.false, ← c.pair-number.ensures R c.args.size (rw same c.requires.1) Z below-a below-b)

@@ -22,7 +22,8 @@ pub returns-in-Refused : goal.returns-in-Refused
 returns-in-Refused c =
     let s = c.args.s.now in
     let p = c.args.region in
-    refused-before (region_rows s p) [] _ (phases_result (region_of p (decode s))) c.args.out.now _ (entered-refused _ _ _ (sym c.enter.ensures.value ∙ c.in let p = -Refused.is)) in record { value = p.0; out_after = p.1 }
+    let both = refused-before (region_rows s p) [] _ (phases_result (region_of p (decode s))) c.args.out.now _ (entered-refused _ _ _ (sym c.enter.ensures.value ∙ c.in-Refused.is)) in
+    record { value = both.0; out_after = both.1 }
 
 pub returns-in-Marked : goal.returns-in-Marked
 returns-in-Marked c =
@@ -31,5 +32,7 @@ returns-in-Marked c =
     let E = c.enter.ensures.entry _ _ c.in-Marked.is in
     let q = nodes-length _ _ E.accepted.laid in
     let same = sym c.enter.ensures.value ∙ c.in-Marked.is in
-    let named = sym (ap (λ (chart : Chart). chart.region) (entered-counts _ _ _ same)) in let p = passed-named (region_rows s p) [] (λ (q : ℕ). phases_result (region_of q (decode s))) c.args.out.now named (entered-marked _ _ _ same)
-    (c.write_phases.ensures.value _ q) (c.write_phases.ensures.of_masks _ q E.has-starts E.has-ends) in record { value = p.0; out_after = p.1 }
+    let named = sym (ap (λ (chart : Chart). chart.region) (entered-counts _ _ _ same)) in
+    let both = passed-named (region_rows s p) [] (λ (q : ℕ). phases_result (region_of q (decode s))) c.args.out.now named (entered-marked _ _ _ same)
+    (c.write_phases.ensures.value _ q) (c.write_phases.ensures.of_masks _ q E.has-starts E.has-ends) in
+    record { value = both.0; out_after = both.1 }

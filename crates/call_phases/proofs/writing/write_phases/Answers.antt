@@ -24,7 +24,7 @@ pub returns-in-Refused : goal.returns-in-Refused
 returns-in-Refused c =
     let answers : (R : Region) → R.nodes ≡ c.args.n
     → c.room_for.result ≡ written_by (output_rows [] (length c.args.out.now) (length (phases_result R)) []) (length (phases_result R)) =
-        λ R q. rw (size R c.args.n q) c.room_for.ensures in
+    λ R q. rw (size R c.args.n q) c.room_for.ensures in
     let h = c.in-Refused.is in
     record { value = (λ R q. sym h ∙ answers R q); of_masks = λ R q S E. kept _ _ (phases_result R) _ (sym (answers R q) ∙ h) }
 
@@ -32,6 +32,6 @@ pub returns-in-Bytes : goal.returns-in-Bytes
 returns-in-Bytes c =
     let answers : (R : Region) → R.nodes ≡ c.args.n
     → c.room_for.result ≡ written_by (output_rows [] (length c.args.out.now) (length (phases_result R)) []) (length (phases_result R)) =
-        λ R q. rw (size R c.args.n q) c.room_for.ensures in
+    λ R q. rw (size R c.args.n q) c.room_for.ensures in
     let h = c.in-Bytes.is in
     record { value = (λ R q. sym h ∙ answers R q); of_masks = λ R q S E. c.fill_phases.ensures R q S E ∙ put _ _ (phases_result R) _ (sym (answers R q) ∙ h) }
