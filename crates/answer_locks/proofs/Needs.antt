@@ -19,7 +19,7 @@ use Rattle.theory_answers.proofs.AnswerLaws.{in-of}
 use Rattle.theory_answers.specs.Numbers.{asked}
 use Rattle.theory_answers.specs.declared.Size.{Size}
 use Rattle.theory_calls.specs.Locks.{is_critical, in_named, some_pair, needed, ever_needed, lock_byte}
-use Rattle.theory_calls.specs.LocksLaws.{critical-of}
+use Rattle.theory_calls.proofs.LocksLaws.{critical-of}
 use Rattle.mark_tables.specs.Tables.{Closed}
 use Rattle.answer_constructs.specs.Marks.{Sized, held_in, Marks}
 use Rattle.answer_constructs.specs.declared.kinds.Sets.{Sets}

@@ -28,7 +28,7 @@ use Rattle.theory_answers.specs.Numbers.{node-asked}
 use Rattle.theory_answers.specs.declared.Size.{Size}
 use Rattle.theory_exact.specs.Constructs.{inside-open}
 use Rattle.theory_calls.specs.Locks.{is_critical, lock_byte, locks_result}
-use Rattle.theory_calls.specs.LocksLaws.{critical-of}
+use Rattle.theory_calls.proofs.LocksLaws.{critical-of}
 use Rattle.mark_tables.specs.Tables.{Accepted, Closed}
 use Rattle.mark_tables.proofs.Accepted.{tables}
 use Rattle.answer_constructs.specs.Marks.{Sized, held_in, Marks}

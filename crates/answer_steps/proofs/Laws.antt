@@ -15,7 +15,7 @@ use Rattle.chart.specs.Region.{Role, plain, barrier, opens, closes, Kind, single
 use Rattle.chart.specs.Scope.{kind_of}
 use Rattle.theory_team.specs.State.{State}
 use Rattle.theory_traces.specs.Tests.{is_kind, is_opening, may_enter, may_pass}
-use Rattle.theory_traces.specs.DecideLaws.{cond_cases}
+use Rattle.theory_traces.proofs.DecideLaws.{cond_cases}
 use Rattle.answer_steps.specs.Tables.{role_by, Tabled}
 
 pub every_more : (n : ℕ) (f : ℕ → Bool) → every n f ≡ true → f n ≡ true → every (n + 1) f ≡ true

@@ -16,7 +16,7 @@ use Rattle.lists.specs.Mask.{Has, Mask, mask_of, mask-of, mask-unique}
 use Rattle.lists.specs.Common.{common, some-bit, and_both as and-bits, both-and as bits-and}
 use Rattle.lists.specs.Range.{every, every-at, any, any_at, at-any}
 use Rattle.lists.specs.Store.{at_set}
-use Rattle.theory_traces.specs.TestsLaws.{own, every_of}
+use Rattle.theory_traces.proofs.TestsLaws.{own, every_of}
 use Rattle.answer_steps.specs.Children.{section_at, ordered_at, sort_at, Children}
 use Rattle.answer_steps.proofs.Filling.{beside_none, beside-more}
 

@@ -12,7 +12,7 @@ use lib.ListN.{length}
 use Rattle.chart.specs.Region.{Region}
 use Rattle.theory_team.specs.State.{State, initial, moved, left, took, released, update}
 use Rattle.theory_traces.specs.Decide.{decide, apply, allowed}
-use Rattle.theory_traces.specs.DecideLaws.{cond_cases}
+use Rattle.theory_traces.proofs.DecideLaws.{cond_cases}
 use Rattle.theory_traces.specs.Replay.{Play, reached, begun, gathered, chosen_now, choose, stepped, feed}
 use Rattle.theory_traces.specs.declared.Effect.{Effect}
 use Rattle.theory_traces.specs.declared.Effect.TheVariants.{None, Moves, Leaves, Takes, TakesNext}

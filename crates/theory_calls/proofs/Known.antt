@@ -23,9 +23,9 @@ use Rattle.theory_answers.specs.Starred.{barrier, plain, begin, end, edge, const
 use Rattle.theory_answers.specs.declared.Size.TheVariants.{Any, Of}
 use Rattle.theory_exact.specs.Barred.{is_barred, is_barred_in}
 use Rattle.theory_exact.specs.Droppable.{Enough, AlwaysEnough}
-use Rattle.theory_exact.proofs.Dropped.{chart-dropped, chart-always-dropped}
+use Rattle.theory_exact.proofs.ChartDropped.{chart-dropped, chart-always-dropped}
 use Rattle.theory_calls.specs.Locks.{is_critical, in_named, some_pair, needed, ever_needed, lock_byte, locks_result}
-use Rattle.theory_calls.specs.LocksLaws.{inside-node, needed_of, ever-needed-of, unneeded-droppable, ever-unneeded-droppable, needed-not-enough, ever-needed-not-enough}
+use Rattle.theory_calls.proofs.LocksLaws.{inside-node, needed_of, ever-needed-of, unneeded-droppable, ever-unneeded-droppable, needed-not-enough, ever-needed-not-enough}
 
 -- A critical of a name below 256.
 abbrev named : ℕ → ℕ → List ℕ

@@ -6,3 +6,4 @@ pub mod RaceLaws
 pub mod RacesCorrectLaws
 pub mod WitnessLaws
 pub mod WitnessedCorrectLaws
+pub mod LocksLaws

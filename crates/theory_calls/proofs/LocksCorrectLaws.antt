@@ -18,7 +18,8 @@ use Rattle.theory_exact.proofs.Dropped.{dropped, always-dropped}
 use Rattle.output.specs.Output.{number_of}
 use Rattle.output.proofs.OutputCorrectLaws.{output-correct, output-only}
 use Rattle.theory_calls.specs.Locks.{is_critical, needed, ever_needed, lock_byte, locks_result, locks_written_for, locks_left_for}
-use Rattle.theory_calls.specs.LocksLaws.{CriticalOf, Needed, EverNeeded, needed-ever, critical-of, inside-node, needed_of, ever-needed-of, unneeded-droppable, ever-unneeded-droppable}
+use Rattle.theory_calls.specs.Needed.{CriticalOf, Needed, EverNeeded}
+use Rattle.theory_calls.proofs.LocksLaws.{needed-ever, critical-of, inside-node, needed_of, ever-needed-of, unneeded-droppable, ever-unneeded-droppable}
 use Rattle.theory_calls.specs.LocksCorrect.{LockBytes, LocksCorrectFor}
 
 -- The byte of a critical, by what runs need.

@@ -1,7 +1,7 @@
 -- The call that tells whether a trace is a witness is correct, and no other number is. A trace that is one shows that Pair's answer is 0, without a size
 -- and with that of the team; and where it is 0 for a team of up to eight, some trace of bytes is one.
 -- Assumes nothing.
-use Rattle.std.specs.Prelude.{◌≡◌, ◌↔◌, Bool, List, [], ◌∷◌, ℕ, zero, ◌%◌, ◌≤◌, ◌<◌, eqb, ltb, ℤ, length, get_or}
+use Rattle.std.specs.Prelude.{◌≡◌, ◌↔◌, Bool, List, [], ◌∷◌, ℕ, ◌%◌, ◌≤◌, ◌<◌, eqb, ltb, ℤ, length, get_or}
 use Rattle.std.proofs.Math.Path.{refl}
 use Rattle.std.proofs.Common.{sym, ◌∙◌, ap, subst, inl, inr, arith, ne_eqb, ltb-false, le-ltb}
 use Rattle.std.proofs.Math.Bool.{true, false}

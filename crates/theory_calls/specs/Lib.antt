@@ -11,7 +11,6 @@ pub mod Access
 pub mod Races
 pub mod Race
 pub mod Locks
-pub mod LocksLaws
 pub mod LockedRun
 pub mod Witness
 pub mod PhasesCorrect
@@ -24,5 +23,6 @@ pub mod NeverMet
 pub mod DistancesCorrect
 pub mod DistancesCorrectLaws
 pub mod RacesCorrect
+pub mod Needed
 pub mod LocksCorrect
 pub mod WitnessedCorrect

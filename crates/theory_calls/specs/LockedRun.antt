@@ -10,7 +10,7 @@ use Rattle.lists.specs.Range.{any, count, first}
 use Rattle.lists.specs.Tab.{tab}
 use Rattle.chart.specs.Format.{outside, field, node_of, edge_of, construct_of, construct_width, construct_bytes, trailer_of, records, last_trailer, decode, node_at, edge_at, construct_at}
 use Rattle.chart.specs.Scope.{critical_byte, kind_of, lies_in, scope, encloses, parent_of, lies_at, scope_at}
-use Rattle.chart.specs.Region.{Role, plain, barrier, opens, closes, Kind, critical, Region}
+use Rattle.chart.specs.Region.{Role, plain, barrier, opens, closes, critical, Region}
 use Rattle.chart.specs.Nested.{is_parallel, region_at, counts_in, lies_within, kept_in, role_in}
 use Rattle.chart.specs.Nesting.{may_enclose, encloses_near, same_critical, excluded, wrongly_above, misplaced, misnested}
 use Rattle.chart.specs.Reading.{edge_in, inside_at, frame_of, region_of}
@@ -21,7 +21,7 @@ use Rattle.theory_paths.specs.Admission.{cut_off, bad_paths, admit_rows, bad_reg
 use Rattle.theory_paths.specs.AdmissionLaws.{admitted-well-formed}
 use Rattle.theory_team.specs.State.{State, initial, update, moved, left, released}
 use Rattle.theory_team.specs.Step.{MayMove, MayEnter, move, enter, one, release}
-use Rattle.theory_team.specs.Run.{Run, done, step, now, later, ConcurrentIn}
+use Rattle.theory_team.specs.Run.{Run, done, step, now, later}
 use Rattle.theory_team.specs.Locks.{InCritical, Unlocked, LockedIn}
 use Rattle.theory_answers.specs.Starred.{chart_s, in_row}
 

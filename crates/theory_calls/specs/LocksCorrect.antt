@@ -12,7 +12,7 @@ use Rattle.theory_answers.specs.declared.Size.TheVariants.{Any, Of}
 use Rattle.theory_exact.specs.Droppable.{Enough, AlwaysEnough}
 use Rattle.output.specs.Output.{output_rows}
 use Rattle.output.specs.OutputCorrect.{OutputCorrect}
-use Rattle.theory_calls.specs.LocksLaws.{CriticalOf, Needed, EverNeeded}
+use Rattle.theory_calls.specs.Needed.{CriticalOf, Needed, EverNeeded}
 
 -- A byte for each construct.
 pub record LockBytes (R : Region) (size : Size) (new : List ℕ) : Type 0 where

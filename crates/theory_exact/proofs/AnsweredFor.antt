@@ -9,13 +9,9 @@ use Rattle.theory_paths.specs.Path.{Open}
 use Rattle.theory_paths.specs.Connected.{Connected}
 use Rattle.theory_paths.specs.Admission.{AdmittedIn}
 use Rattle.theory_paths.specs.AdmissionLaws.{admitted-well-formed, admitted-connected}
-use Rattle.theory_team.specs.Run.{ConcurrentIn, Concurrent}
-use Rattle.theory_answers.specs.Answer.{answer, answer_in, answer_for}
-use Rattle.theory_answers.proofs.AnswerLaws.{answer-unexcluded}
-use Rattle.theory_answers.proofs.SizeLaws.{answer-in}
+use Rattle.theory_answers.specs.Answer.{answer_for}
 use Rattle.theory_answers.specs.declared.Size.{Size}
 use Rattle.theory_answers.specs.declared.Size.TheVariants.{Any, Of}
-use Rattle.theory_exact.proofs.Exactness.{exactness-in, exactness}
 use Rattle.theory_exact.specs.Answered.{ConcurrentFor}
 use Rattle.theory_exact.proofs.AnsweredLaws.{answer-exact, size_exact}
 

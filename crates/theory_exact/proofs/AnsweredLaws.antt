@@ -1,22 +1,15 @@
 -- The theorem for the answer of all teams, and of teams of one size.
 -- Assumes nothing.
-use Rattle.std.specs.Prelude.{◌≡◌, ◌↔◌, List, ℕ}
-use Rattle.chart.specs.Format.{decode}
+use Rattle.std.specs.Prelude.{◌≡◌, ◌↔◌, ℕ}
 use Rattle.chart.specs.Region.{Region}
-use Rattle.chart.specs.Reading.{region_of}
 use Rattle.chart.specs.WellFormed.{WellFormed}
 use Rattle.theory_paths.specs.Path.{Open}
 use Rattle.theory_paths.specs.Connected.{Connected}
-use Rattle.theory_paths.specs.Admission.{AdmittedIn}
-use Rattle.theory_paths.specs.AdmissionLaws.{admitted-well-formed, admitted-connected}
 use Rattle.theory_team.specs.Run.{ConcurrentIn, Concurrent}
-use Rattle.theory_answers.specs.Answer.{answer, answer_in, answer_for}
+use Rattle.theory_answers.specs.Answer.{answer, answer_in}
 use Rattle.theory_answers.proofs.AnswerLaws.{answer-unexcluded}
 use Rattle.theory_answers.proofs.SizeLaws.{answer-in}
-use Rattle.theory_answers.specs.declared.Size.{Size}
-use Rattle.theory_answers.specs.declared.Size.TheVariants.{Any, Of}
 use Rattle.theory_exact.proofs.Exactness.{exactness-in, exactness}
-use Rattle.theory_exact.specs.Answered.{ConcurrentFor}
 
 module _ {R : Region} (W : WellFormed R) (C : Connected R) {a b : ℕ} (oa : Open R a) (ob : Open R b) where
   pub answer-exact : (answer R a b ≡ 0) ↔ Concurrent R a b

@@ -1,18 +1,14 @@
 -- Locks that can be dropped, all at once: if every critical that does not lock is droppable, the locks that are left are enough, in finished runs; and
 -- in every run, where no pair needs "no common end".
 -- Assumes nothing.
-use Rattle.std.specs.Prelude.{◌≡◌, refl, ◌⊎◌, ◌≢◌, Bool, true, false, List, ℕ, ◌<◌}
+use Rattle.std.specs.Prelude.{◌≡◌, refl, ◌⊎◌, ◌≢◌, Bool, true, false, ℕ, ◌<◌}
 use Rattle.std.proofs.Common.{sym, ◌∙◌, inl, inr}
 use Rattle.std.proofs.Math.Path.{subst}
 use Rattle.lists.specs.Truth.{truth}
-use Rattle.chart.specs.Format.{decode}
 use Rattle.chart.specs.Region.{Region}
-use Rattle.chart.specs.Reading.{region_of}
 use Rattle.chart.specs.WellFormed.{WellFormed}
 use Rattle.theory_paths.specs.Path.{Open}
 use Rattle.theory_paths.specs.Connected.{Connected}
-use Rattle.theory_paths.specs.Admission.{AdmittedIn}
-use Rattle.theory_paths.specs.AdmissionLaws.{admitted-well-formed, admitted-connected}
 use Rattle.theory_team.specs.State.{State, initial}
 use Rattle.theory_team.specs.Run.{Run, StateOf, ConcurrentIn}
 use Rattle.theory_team.specs.Meets.{Meets, meets-concurrent}
@@ -78,12 +74,3 @@ module _ {R : Region} (W : WellFormed R) (C : Connected R) (locks : ℕ → Bool
       met : (size : Size) → Fits size m → {x y : ℕ} → Meets R m x y → MeetsFor R size x y
       met Any z M = (m, M)
       met (Of n) z {x} {y} M = subst (λ (k : ℕ). Meets R k x y) (sym z) M
-
--- The same of each region of an admitted chart's bytes.
-pub chart-dropped : (s : List ℕ) (p : ℕ) → AdmittedIn s p → (locks : ℕ → Bool) (size : Size)
-    → Unlocking (region_of p (decode s)) locks (Droppable (region_of p (decode s)) size) → Enough (region_of p (decode s)) size locks
-chart-dropped s p admitted locks size = dropped (admitted-well-formed s p admitted) (admitted-connected s p admitted) locks size
-
-pub chart-always-dropped : (s : List ℕ) (p : ℕ) → AdmittedIn s p → (locks : ℕ → Bool) (size : Size)
-    → Unlocking (region_of p (decode s)) locks (AlwaysDroppable (region_of p (decode s)) size) → AlwaysEnough (region_of p (decode s)) size locks
-chart-always-dropped s p admitted locks size = always-dropped (admitted-well-formed s p admitted) (admitted-connected s p admitted) locks size

@@ -3,23 +3,23 @@
 -- rules but "no common end".
 -- Assumes nothing.
 use Rattle.std.proofs.Common.{sym, subst, inl, inr, arith}
-use Rattle.std.specs.Prelude.{◌⊎◌, ◌≢◌, ◌↔◌, ℕ, suc, ◌+◌, ◌≤◌, ◌<◌}
+use Rattle.std.specs.Prelude.{◌⊎◌, ◌≢◌, ℕ, suc, ◌≤◌, ◌<◌}
 use Rattle.std.proofs.Math.Decide.{ℕ_discrete}
 use Rattle.chart.specs.Region.{master, Region}
 use Rattle.chart.specs.WellFormed.{WellFormed}
 use Rattle.theory_paths.specs.Path.{Open}
 use Rattle.theory_paths.specs.Connected.{Connected}
-use Rattle.theory_team.specs.Run.{ConcurrentIn, Concurrent}
-use Rattle.theory_team.specs.Meets.{Meets, concurrent-meets}
+use Rattle.theory_team.specs.Run.{ConcurrentIn}
+use Rattle.theory_team.specs.Meets.{concurrent-meets}
 use Rattle.theory_team.proofs.Laws.{two-threads}
 use Rattle.theory_answers.specs.Unexcluded.{HasThreads, Unexcluded}
 use Rattle.theory_exact.specs.Barred.{Unbarred, unexcluded-unbarred}
 use Rattle.theory_exact.specs.Nesting.{Within, Without, within}
 use Rattle.theory_exact.specs.Invariant.{MasterOf}
-use Rattle.theory_exact.proofs.Unmet.{met-two, met-has-a, met-has-b, met-unbarred}
+use Rattle.theory_exact.proofs.Unmet.{met-has-a, met-has-b}
 use Rattle.theory_exact.proofs.Sound.{sound}
 use Rattle.theory_exact.specs.Rendezvous.{Chosen}
-use Rattle.theory_exact.specs.Complete.{meet, complete}
+use Rattle.theory_exact.specs.Complete.{complete}
 
 module _ {R : Region} (W : WellFormed R) where
   pub its-master : {x : ℕ} (h : Within R master x) → MasterOf R (R.thread h.0) x

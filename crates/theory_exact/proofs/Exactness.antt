@@ -1,24 +1,19 @@
 -- Exactness, of teams of m threads and of all: two open nodes are unexcluded exactly when they are concurrent; the same of meetings in any run.
 -- Assumes nothing.
-use Rattle.std.proofs.Common.{sym, subst, inl, inr, arith}
-use Rattle.std.specs.Prelude.{◌⊎◌, ◌≢◌, ◌↔◌, ℕ, suc, ◌+◌, ◌≤◌, ◌<◌}
-use Rattle.std.proofs.Math.Decide.{ℕ_discrete}
+use Rattle.std.proofs.Common.{arith}
+use Rattle.std.specs.Prelude.{◌↔◌, ℕ, ◌+◌, ◌≤◌}
 use Rattle.chart.specs.Region.{master, Region}
 use Rattle.chart.specs.WellFormed.{WellFormed}
 use Rattle.theory_paths.specs.Path.{Open}
 use Rattle.theory_paths.specs.Connected.{Connected}
 use Rattle.theory_team.specs.Run.{ConcurrentIn, Concurrent}
-use Rattle.theory_team.specs.Meets.{Meets, concurrent-meets}
-use Rattle.theory_team.proofs.Laws.{two-threads}
+use Rattle.theory_team.specs.Meets.{Meets}
 use Rattle.theory_answers.specs.Unexcluded.{HasThreads, Unexcluded}
-use Rattle.theory_exact.specs.Barred.{Unbarred, unexcluded-unbarred}
-use Rattle.theory_exact.specs.Nesting.{Within, Without, within}
-use Rattle.theory_exact.specs.Invariant.{MasterOf}
+use Rattle.theory_exact.specs.Barred.{Unbarred}
+use Rattle.theory_exact.specs.Nesting.{within}
 use Rattle.theory_exact.proofs.Unmet.{met-two, met-has-a, met-has-b, met-unbarred}
-use Rattle.theory_exact.proofs.Sound.{sound}
-use Rattle.theory_exact.specs.Rendezvous.{Chosen}
-use Rattle.theory_exact.specs.Complete.{meet, complete}
-use Rattle.theory_exact.proofs.Exact.{its-master, chosen, size_for, soundness, completeness}
+use Rattle.theory_exact.specs.Complete.{meet}
+use Rattle.theory_exact.proofs.Exact.{chosen, size_for, soundness, completeness}
 
 module _ {R : Region} (W : WellFormed R) (C : Connected R) {a b : ℕ} (oa : Open R a) (ob : Open R b) where
   -- teams of m threads

@@ -1,6 +1,7 @@
 pub mod AnsweredFor
 pub mod AnsweredLaws
 pub mod BarredLaws
+pub mod ChartDropped
 pub mod Dropped
 pub mod Exact
 pub mod Exactness

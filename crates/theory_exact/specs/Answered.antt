@@ -1,19 +1,9 @@
 -- The theorem for the answer: it is 0 exactly when the nodes are concurrent, in some team where no size is given, and in a team of the size where
 -- one is. Then the same of each region of an admitted chart's bytes.
 -- Assumes nothing.
-use Rattle.std.specs.Prelude.{◌≡◌, ◌↔◌, List, ℕ}
-use Rattle.chart.specs.Format.{decode}
+use Rattle.std.specs.Prelude.{ℕ}
 use Rattle.chart.specs.Region.{Region}
-use Rattle.chart.specs.Reading.{region_of}
-use Rattle.chart.specs.WellFormed.{WellFormed}
-use Rattle.theory_paths.specs.Path.{Open}
-use Rattle.theory_paths.specs.Connected.{Connected}
-use Rattle.theory_paths.specs.Admission.{AdmittedIn}
-use Rattle.theory_paths.specs.AdmissionLaws.{admitted-well-formed, admitted-connected}
 use Rattle.theory_team.specs.Run.{ConcurrentIn, Concurrent}
-use Rattle.theory_answers.specs.Answer.{answer, answer_in, answer_for}
-use Rattle.theory_answers.proofs.AnswerLaws.{answer-unexcluded}
-use Rattle.theory_answers.proofs.SizeLaws.{answer-in}
 use Rattle.theory_answers.specs.declared.Size.{Size}
 use Rattle.theory_answers.specs.declared.Size.TheVariants.{Any, Of}
 

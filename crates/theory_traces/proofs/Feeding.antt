@@ -13,7 +13,7 @@ use Rattle.chart.specs.WellFormed.{WellFormed}
 use Rattle.theory_team.specs.State.{State, released}
 use Rattle.theory_team.specs.Step.{ThreadStep}
 use Rattle.theory_team.proofs.Laws.{no-barrier}
-use Rattle.theory_traces.specs.DecideLaws.{step-decided}
+use Rattle.theory_traces.proofs.DecideLaws.{step-decided}
 use Rattle.theory_traces.specs.Legal.{Gathered, Chooses}
 use Rattle.theory_traces.specs.Replay.{Play, reached, chosen_now, choose, stepped, feed}
 use Rattle.theory_traces.proofs.ReplayLaws.{gathered-of}

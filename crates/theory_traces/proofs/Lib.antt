@@ -7,3 +7,5 @@ pub mod LegalLaws
 pub mod Recorded
 pub mod ReplayLaws
 pub mod Unfinished
+pub mod TestsLaws
+pub mod DecideLaws

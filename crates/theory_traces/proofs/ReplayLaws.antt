@@ -26,9 +26,9 @@ use Rattle.theory_answers.specs.Answer.{answer, answer_in}
 use Rattle.theory_exact.specs.Runs.{append, append-state}
 use Rattle.theory_exact.proofs.AnsweredLaws.{answer-exact, size_exact}
 use Rattle.theory_traces.specs.Legal.{thread_at, target_at, Gathered, Together}
-use Rattle.theory_traces.specs.TestsLaws.{own, every_of}
+use Rattle.theory_traces.proofs.TestsLaws.{own, every_of}
 use Rattle.theory_traces.specs.Decide.{decide, apply, allowed}
-use Rattle.theory_traces.specs.DecideLaws.{cond_cases, decided-step}
+use Rattle.theory_traces.proofs.DecideLaws.{cond_cases, decided-step}
 use Rattle.theory_traces.specs.Replay.{together, Play, reached, begun, gathered, chosen_now, choose, stepped, feed, Progress, going, stopped, onward, next, progress, replayed, at_finish, outcome_of, play_of}
 use Rattle.theory_traces.specs.declared.Effect.{Effect}
 use Rattle.theory_traces.specs.declared.Replayed.TheVariants.{Finished as Ended}

@@ -1,5 +1,5 @@
 -- The team rules as a decision: what a step of a thread to a node does to the state, or that the rules forbid it. The thread and the node
--- determine it. That this is what the rules say is in specs/DecideLaws.antt.
+-- determine it. That this is what the rules say is in proofs/DecideLaws.antt.
 -- Assumes nothing.
 use Rattle.std.specs.Prelude.{Bool, true, false, ◌&&◌, ◌||◌, cond, ℕ, suc, ltb, eqb}
 use Rattle.chart.specs.Region.{Role, plain, barrier, opens, closes, loop, sections, section, Region}

@@ -1,4 +1,4 @@
--- The team rules as tests: each computes what the rule of like name in crate theory_team asks. That it does is in specs/TestsLaws.antt.
+-- The team rules as tests: each computes what the rule of like name in crate theory_team asks. That it does is in proofs/TestsLaws.antt.
 -- Assumes nothing.
 use Rattle.std.specs.Prelude.{Bool, true, false, ◌&&◌, ◌||◌, not, ℕ, suc, leb, eqb}
 use Rattle.lists.specs.Truth.{is}

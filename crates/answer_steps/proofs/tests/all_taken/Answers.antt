@@ -12,7 +12,7 @@ use Rattle.lists.specs.Mask.{Has, has-none, or_cases, or_left, or_right}
 use Rattle.lists.specs.Range.{every, every-at}
 use Rattle.chart.specs.Region.{Region}
 use Rattle.theory_team.specs.State.{State}
-use Rattle.theory_traces.specs.TestsLaws.{own, every_of}
+use Rattle.theory_traces.proofs.TestsLaws.{own, every_of}
 use Rattle.theory_traces.specs.Tests.{is_untaken, is_section_of, all_taken}
 use Rattle.answer_steps.specs.Tables.{Tabled, Shows, untaken_by, TakenIn}
 use Rattle.answer_steps.proofs.Laws.{every_more, every-fails}

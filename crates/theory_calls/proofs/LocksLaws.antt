@@ -35,25 +35,7 @@ use Rattle.theory_exact.proofs.Unmet.{MeetsFor}
 use Rattle.theory_exact.proofs.MetLaws.{meets-exact}
 use Rattle.theory_exact.specs.Droppable.{Droppable, AlwaysDroppable, Fits, Enough, AlwaysEnough}
 use Rattle.theory_calls.specs.Locks.{opening, is_critical, in_named, some_pair, needed, ever_needed}
-
--- c is a critical of the region: its begin opens it there.
-abbrev pub CriticalOf : Region → ℕ → Type 0
-CriticalOf R c = (R.kind c ≡ critical) × (R.role (R.begin c) ≡ opens c)
-
--- A node inside c and a node inside a critical of c's name that have P.
-pub record Pair (R : Region) (P : ℕ → ℕ → Type 0) (c : ℕ) : Type 0 where
-  pub x : ℕ
-  pub y : ℕ
-  pub in_c : R.inside x c ≡ true
-  pub in-named : InCritical R y (R.name c)
-  pub has : P x y
-
--- Some finished run, of a team of the size or of any team, has two threads at such nodes together; and some run, finished or not.
-abbrev pub Needed : Region → Size → ℕ → Type 0
-Needed R size c = Pair R (ConcurrentFor R size) c
-
-abbrev pub EverNeeded : Region → Size → ℕ → Type 0
-EverNeeded R size c = Pair R (MeetsFor R size) c
+use Rattle.theory_calls.specs.Needed.{CriticalOf, Pair, Needed, EverNeeded}
 
 -- What a finished run needs, some run needs.
 pub needed-ever : {R : Region} {c : ℕ} (size : Size) → Needed R size c → EverNeeded R size c

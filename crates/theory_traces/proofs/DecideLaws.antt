@@ -11,7 +11,7 @@ use Rattle.chart.specs.WellFormed.{WellFormed}
 use Rattle.theory_team.specs.State.{State, moved, left}
 use Rattle.theory_team.specs.Step.{Untaken, AllTaken, MayEnter, MayPass, MayMove, ThreadStep, move, enter, pass, again, take, take_next}
 use Rattle.theory_traces.specs.Tests.{is_kind, is_untaken, may_enter, may_pass, may_leave}
-use Rattle.theory_traces.specs.TestsLaws.{own, kind-of, untaken-of, enter-of, pass_of, leave-of}
+use Rattle.theory_traces.proofs.TestsLaws.{own, kind-of, untaken-of, enter-of, pass_of, leave-of}
 use Rattle.theory_traces.specs.Decide.{taking, from_begin, from_end, from_node, decide, apply, allowed}
 use Rattle.theory_traces.specs.declared.Effect.{Effect}
 use Rattle.theory_traces.specs.declared.Effect.TheVariants.{None, Moves, Leaves, Takes, TakesNext}
