@@ -12,11 +12,10 @@ use Rattle.theory_calls.specs.declared.Verdict.TheVariants.{Passed, Failed, Refu
 use Rattle.call_judge.specs.Two.{failed_at}
 
 -- what the code has found no failure in has none
-pub not-failed : (v : Verdict) → (tag_of the_type v ≡ 0) ⊎ (tag_of the_type v ≡ 2) → failed_at v ≡ none
+pub not-failed : (v : Verdict) → ((index : ℕ) → v ≡ Failed index → ⊥) → failed_at v ≡ none
 unfolding failed_at
 not-failed Passed h = refl
-not-failed (Failed index) (inl h) = absurd (omega (arith, h))
-not-failed (Failed index) (inr h) = absurd (omega (arith, h))
+not-failed (Failed index) h = absurd (h index refl)
 not-failed (Refused refusal) h = refl
 
 pub at-start : (p : ℕ × ℕ) → ◌≡◌ {A = ℕ × ℕ} (p.0, 0 + p.1) p

@@ -15,4 +15,4 @@ returns-in-Failed c = rw c.in-Failed.is c.part_from.ensures
 
 pub returns-in_default : goal.returns-in_default
 unfolding picked part_of place_of
-returns-in_default c = rw (not-failed _ c.in_default.not-Failed) (refl, at-start c.args.x.ptr)
+returns-in_default c = rw (not-failed _ c.in_default.not-Failed) (refl, at-start c.args.x.ref_ptr)
