@@ -29,4 +29,5 @@ number_of-requires c count h =
 pub returns : goal.returns
 returns c =
     let e : to_z w64 (of_z w64 c.number_of.result) ≡ c.number_of.result = search rules in
-    carried (DistancesCorrect _ _ _) (e ∙ c.number_of.ensures ∙ ap number_of c.distances.ensures.value) c.distances.ensures.out_after (distances-correct _ _ _)
+    let both = carried (DistancesCorrect _ _ _) (e ∙ c.number_of.ensures ∙ ap number_of c.distances.ensures.value) c.distances.ensures.out_after (distances-correct _ _ _) in
+    record { value = both.0; out_after = both.1.0; distances_correct = both.1.1 }

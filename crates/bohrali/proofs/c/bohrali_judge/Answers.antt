@@ -11,4 +11,6 @@ use Rattle.bohrali.proofs.c.bohrali_judge.Goals as goal
 
 pub returns : goal.returns
 returns c =
-    let e : to_z w64 (of_z w64 c.judge.result) ≡ c.judge.result = search rules in let p = told (Correct _ _ _) (e ∙ c.judge.ensures) (correct-any _ _ _) in record { value = p.0; correct = p.1 }
+    let e : to_z w64 (of_z w64 c.judge.result) ≡ c.judge.result = search rules in
+    let both = told (Correct _ _ _) (e ∙ c.judge.ensures) (correct-any _ _ _) in
+    record { value = both.0; correct = both.1 }

@@ -12,4 +12,5 @@ use Rattle.bohrali.proofs.c.bohrali_judge_sized.Goals as goal
 pub returns : goal.returns
 returns c =
     let e : to_z w64 (of_z w64 c.judge.result) ≡ c.judge.result = search rules in
-    told (CorrectIn _ _ _ _) (e ∙ c.judge.ensures) (correct-in let p = _ _ _ _) in record { value = p.0; correct_in = p.1 }
+    let both = told (CorrectIn _ _ _ _) (e ∙ c.judge.ensures) (correct-in _ _ _ _) in
+    record { value = both.0; correct_in = both.1 }

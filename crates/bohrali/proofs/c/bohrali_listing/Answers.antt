@@ -27,4 +27,5 @@ number_of-requires c count h =
 pub returns : goal.returns
 returns c =
     let e : to_z w64 (of_z w64 c.number_of.result) ≡ c.number_of.result = search rules in
-    carried (ListingCorrect _ _) (e ∙ c.number_of.ensures ∙ ap number_of c.listing.ensures.value) c.listing.ensures.out_after (listing-correct _ _)
+    let both = carried (ListingCorrect _ _) (e ∙ c.number_of.ensures ∙ ap number_of c.listing.ensures.value) c.listing.ensures.out_after (listing-correct _ _) in
+    record { value = both.0; out_after = both.1.0; listing_correct = both.1.1 }

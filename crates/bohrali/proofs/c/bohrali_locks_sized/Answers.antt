@@ -12,4 +12,5 @@ use Rattle.bohrali.proofs.c.bohrali_locks_sized.Goals as goal
 pub returns : goal.returns
 returns c =
     let e : to_z w64 (of_z w64 c.locks.result) ≡ c.locks.result = search rules in
-    carried (LocksCorrectIn _ _ _ _) (e ∙ c.locks.ensures.value) c.locks.ensures.out_after (locks-correct _ _ _ _)
+    let both = carried (LocksCorrectIn _ _ _ _) (e ∙ c.locks.ensures.value) c.locks.ensures.out_after (locks-correct _ _ _ _) in
+    record { value = both.0; out_after = both.1.0; locks_correct_in = both.1.1 }

@@ -11,4 +11,6 @@ use Rattle.bohrali.proofs.c.bohrali_pair_sized.Goals as goal
 
 pub returns : goal.returns
 returns c =
-    let e : to_z w64 (of_z w64 c.pair.result) ≡ c.pair.result = search rules in let p = told (PairCorrectIn _ _ _ _ _) (e ∙ c.pair.ensures) (pair-correct _ _ _ _ _) in record { value = p.0; pair_correct_in = p.1 }
+    let e : to_z w64 (of_z w64 c.pair.result) ≡ c.pair.result = search rules in
+    let both = told (PairCorrectIn _ _ _ _ _) (e ∙ c.pair.ensures) (pair-correct _ _ _ _ _) in
+    record { value = both.0; pair_correct_in = both.1 }

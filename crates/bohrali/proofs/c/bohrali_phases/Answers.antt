@@ -29,4 +29,5 @@ number_of-requires c count h =
 pub returns : goal.returns
 returns c =
     let e : to_z w64 (of_z w64 c.number_of.result) ≡ c.number_of.result = search rules in
-    carried (PhasesCorrect _ _ _) (e ∙ c.number_of.ensures ∙ ap number_of c.phases.ensures.value) c.phases.ensures.out_after (phases-correct _ _ _)
+    let both = carried (PhasesCorrect _ _ _) (e ∙ c.number_of.ensures ∙ ap number_of c.phases.ensures.value) c.phases.ensures.out_after (phases-correct _ _ _) in
+    record { value = both.0; out_after = both.1.0; phases_correct = both.1.1 }

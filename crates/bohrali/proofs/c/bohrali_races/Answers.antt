@@ -29,4 +29,5 @@ number_of-requires c count h =
 pub returns : goal.returns
 returns c =
     let e : to_z w64 (of_z w64 c.number_of.result) ≡ c.number_of.result = search rules in
-    carried (RacesCorrect _ _ _ _) (e ∙ c.number_of.ensures ∙ ap number_of c.races.ensures.value) c.races.ensures.out_after (races-correct _ _ _ _)
+    let both = carried (RacesCorrect _ _ _ _) (e ∙ c.number_of.ensures ∙ ap number_of c.races.ensures.value) c.races.ensures.out_after (races-correct _ _ _ _) in
+    record { value = both.0; out_after = both.1.0; races_correct = both.1.1 }

@@ -22,5 +22,6 @@ number_of-requires c count h =
 pub returns : goal.returns
 returns c =
     let e : to_z w64 (of_z w64 c.number_of.result) ≡ c.number_of.result = search rules in
-    carried (RemoveCorrect _ _ _ _) (e ∙ c.number_of.ensures ∙ ap number_of c.remove_edge.ensures.value) c.remove_edge.ensures.buffer_after
-    (remove-correct _ _ _ _)
+    let both = carried (RemoveCorrect _ _ _ _) (e ∙ c.number_of.ensures ∙ ap number_of c.remove_edge.ensures.value) c.remove_edge.ensures.buffer_after
+    (remove-correct _ _ _ _) in
+    record { value = both.0; buffer_after = both.1.0; remove_correct = both.1.1 }

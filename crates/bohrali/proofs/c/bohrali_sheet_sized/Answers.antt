@@ -12,4 +12,5 @@ use Rattle.bohrali.proofs.c.bohrali_sheet_sized.Goals as goal
 pub returns : goal.returns
 returns c =
     let e : to_z w64 (of_z w64 c.sheet.result) ≡ c.sheet.result = search rules in
-    carried (SheetCorrectIn _ _ _ _) (e ∙ c.sheet.ensures.value) c.sheet.ensures.out_after (sheet-correct _ _ _ _)
+    let both = carried (SheetCorrectIn _ _ _ _) (e ∙ c.sheet.ensures.value) c.sheet.ensures.out_after (sheet-correct _ _ _ _) in
+    record { value = both.0; out_after = both.1.0; sheet_correct_in = both.1.1 }
