@@ -31,8 +31,7 @@ fn write_locks(
     requires { Accepted s.now chart × Marks (reading s.now chart) marks.now kinds.now }
     ensures result_value { let bytes = length (locks_result (reading s.now chart) size) in
         result ≡ written_by (output_rows [] (length out.old) bytes (size_rows size)) bytes }
-    ensures out_after {
-        let result = locks_result (reading s.now chart) size in
+    ensures out_after { let result = locks_result (reading s.now chart) size in
         out.new ≡ left_by (output_rows [] (length out.old) (length result) (size_rows size)) result out.old }
 {
     match room_sized(chart.constructs, out.len(), size) {

@@ -32,8 +32,7 @@ fn write_races(
         let list = accesses.now in
         let size = length (races_of R list) in
         result ≡ written_by (output_rows (accesses_row R list ∷ []) (length out.old) size []) size }
-    ensures out_after {
-        let R = reading s.now chart in
+    ensures out_after { let R = reading s.now chart in
         let list = accesses.now in
         let result = races_of R list in
         out.new ≡ left_by (output_rows (accesses_row R list ∷ []) (length out.old) (length result) []) result out.old }

@@ -22,9 +22,9 @@ pub returns-in-Refused : goal.returns-in-Refused
 unfolding locks_result
 returns-in-Refused c =
     let result : List ℕ =
-        locks_result (reading c.args.s.now c.args.chart) c.args.size in
+    locks_result (reading c.args.s.now c.args.chart) c.args.size in
     let answers : c.room_sized.result ≡ written_by (output_rows [] (length c.args.out.now) (length result) (size_rows c.args.size)) (length result) =
-        let R = reading c.args.s.now c.args.chart in
+    let R = reading c.args.s.now c.args.chart in
     rw (tab-length R.constructs (lock_byte R c.args.size) ∙ constructs-length _ c.args.chart c.requires.0.laid) c.room_sized.ensures in
     let h = c.in-Refused.is in
     record { result_value = sym h ∙ answers; out_after = kept _ _ result c.args.out.now (sym answers ∙ h) }
@@ -33,9 +33,9 @@ pub returns-in-Bytes : goal.returns-in-Bytes
 unfolding locks_result
 returns-in-Bytes c =
     let result : List ℕ =
-        locks_result (reading c.args.s.now c.args.chart) c.args.size in
+    locks_result (reading c.args.s.now c.args.chart) c.args.size in
     let answers : c.room_sized.result ≡ written_by (output_rows [] (length c.args.out.now) (length result) (size_rows c.args.size)) (length result) =
-        let R = reading c.args.s.now c.args.chart in
+    let R = reading c.args.s.now c.args.chart in
     rw (tab-length R.constructs (lock_byte R c.args.size) ∙ constructs-length _ c.args.chart c.requires.0.laid) c.room_sized.ensures in
     let h = c.in-Bytes.is in
     record { result_value = sym h ∙ answers; out_after = c.put_locks.ensures ∙ put _ _ result c.args.out.now (sym answers ∙ h) }

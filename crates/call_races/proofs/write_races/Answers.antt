@@ -22,7 +22,7 @@ use Rattle.call_races.proofs.write_races.Goals as goal
 pub returns-then-bad_accesses : goal.returns-then-bad_accesses
 returns-then-bad_accesses c =
     let read : Region =
-        reading c.args.s.now c.args.chart in
+    reading c.args.s.now c.args.chart in
     let both = list-refused read c.args.accesses.now c.args.out.now (sym c.bad_accesses.ensures ∙ c.if-bad_accesses.true) in
     record { result_value = both.0; out_after = both.1 }
 
@@ -30,24 +30,23 @@ pub overflow_mul-n : goal.overflow_mul-n
 unfolding total
 overflow_mul-n c =
     let read : Region =
-        reading c.args.s.now c.args.chart in
+    reading c.args.s.now c.args.chart in
     let good : bad_accesses read c.args.accesses.now ≡ false =
-        sym c.bad_accesses.ensures ∙ c.if-bad_accesses.false in
+    sym c.bad_accesses.ensures ∙ c.if-bad_accesses.false in
     let few : length c.args.accesses.now / 4 ≤ 1024 =
-        few-accesses read c.args.accesses.now good in
+    few-accesses read c.args.accesses.now good in
     let n = length c.args.accesses.now / 4 in omega (arith, few-pairs n few)
 
 pub put_races-requires : goal.put_races-requires
 unfolding pair_count total
 put_races-requires c =
     let read : Region =
-        reading c.args.s.now c.args.chart in
+    reading c.args.s.now c.args.chart in
     let good : bad_accesses read c.args.accesses.now ≡ false =
-        sym c.bad_accesses.ensures ∙ c.if-bad_accesses.false in
+    sym c.bad_accesses.ensures ∙ c.if-bad_accesses.false in
     let answers : let size = length (races read c.args.accesses.now) in
     c.room_for.result ≡ written_by (output_rows [] (length c.args.out.now) size []) size =
-        rw (races-length read c.args.accesses.now) c.room_for.ensures in
-    (
+    rw (races-length read c.args.accesses.now) c.room_for.ensures in (
       c.requires.0,
       c.requires.1,
       good,
@@ -58,12 +57,12 @@ pub returns-in-Refused : goal.returns-in-Refused
 unfolding pair_count total
 returns-in-Refused c =
     let read : Region =
-        reading c.args.s.now c.args.chart in
+    reading c.args.s.now c.args.chart in
     let good : bad_accesses read c.args.accesses.now ≡ false =
-        sym c.bad_accesses.ensures ∙ c.if-bad_accesses.false in
+    sym c.bad_accesses.ensures ∙ c.if-bad_accesses.false in
     let answers : let size = length (races read c.args.accesses.now) in
     c.room_for.result ≡ written_by (output_rows [] (length c.args.out.now) size []) size =
-        rw (races-length read c.args.accesses.now) c.room_for.ensures in
+    rw (races-length read c.args.accesses.now) c.room_for.ensures in
     let list = c.args.accesses.now in
     let h = c.in-Refused.is in
     let p = list-passed read list c.args.out.now good in
@@ -73,12 +72,12 @@ pub returns-in-Bytes : goal.returns-in-Bytes
 unfolding pair_count total
 returns-in-Bytes c =
     let read : Region =
-        reading c.args.s.now c.args.chart in
+    reading c.args.s.now c.args.chart in
     let good : bad_accesses read c.args.accesses.now ≡ false =
-        sym c.bad_accesses.ensures ∙ c.if-bad_accesses.false in
+    sym c.bad_accesses.ensures ∙ c.if-bad_accesses.false in
     let answers : let size = length (races read c.args.accesses.now) in
     c.room_for.result ≡ written_by (output_rows [] (length c.args.out.now) size []) size =
-        rw (races-length read c.args.accesses.now) c.room_for.ensures in
+    rw (races-length read c.args.accesses.now) c.room_for.ensures in
     let list = c.args.accesses.now in
     let h = c.in-Bytes.is in
     let p = list-passed read list c.args.out.now good in

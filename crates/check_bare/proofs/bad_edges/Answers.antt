@@ -7,7 +7,6 @@ use Prim.Native.Nat.{ℕ, ◌+◌, ◌-◌}
 use native.Mathlib.Omega.{arith}
 use lib.Dec.{eqb, leb}
 use borrow.Author.Tests.{eq-eqb, ne_eqb, le-leb, lt-leb}
-use borrow.Author.Rules.{rules}
 use Rattle.lists.specs.Range.{any}
 use Rattle.chart.specs.Format.{decode, edge_at}
 use Rattle.chart.specs.Refusal.{bad_nodes, bad_edges}

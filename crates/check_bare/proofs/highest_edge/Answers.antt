@@ -1,9 +1,8 @@
 -- `check_bare::highest_edge` meets its contract.
 -- Assumes nothing.
 use mathlib.Core.Path.{◌≡◌, subst}
-use Prim.Native.Nat.{ℕ, ◌*◌, ◌-◌, ◌≤◌}
+use Prim.Native.Nat.{ℕ, ◌*◌, ◌-◌}
 use native.Mathlib.Omega.{arith}
-use borrow.Author.Rules.{rules}
 use Rattle.check_bare.specs.Told.{edge_place, Highest}
 use Rattle.check_bare.proofs.Places.{highest-none, highest-more}
 use Rattle.check_bare.proofs.highest_edge.Goals as goal

@@ -1,10 +1,6 @@
 -- The invariants and measures of `check_bare::highest_node`.
-use mathlib.Core.Path.{◌≡◌, subst}
-use Prim.Native.Nat.{ℕ, ◌*◌, ◌-◌, ◌≤◌}
-use native.Mathlib.Omega.{arith}
-use borrow.Author.Rules.{rules}
+use Prim.Native.Nat.{◌-◌, ◌≤◌}
 use Rattle.check_bare.specs.Told.{node_place, Highest}
-use Rattle.check_bare.proofs.Places.{highest-none, highest-more}
 use Rattle.check_bare.proofs.highest_node.Given as goal
 
 abbrev pub invariant-loop-k : goal.invariant-loop-k

@@ -1,6 +1,5 @@
 -- `check_bare::tell_edge` meets its contract.
 -- Assumes nothing.
-use borrow.Author.Rules.{rules}
 use Rattle.check_bare.proofs.tell_edge.Goals as goal
 
 pub returns : goal.returns

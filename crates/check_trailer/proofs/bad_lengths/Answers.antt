@@ -7,7 +7,6 @@ use Prim.Native.Nat.{ℕ, ◌+◌, ◌*◌, ◌-◌}
 use lib.ListN.{length, drop}
 use lib.Dec.{eqb}
 use borrow.Author.Tests.{eq-eqb, ne_eqb}
-use borrow.Author.Rules.{rules}
 use Rattle.chart.specs.Format.{field, construct_bytes, decode, last_trailer, trailer_of}
 use Rattle.chart.specs.declared.format.Chart.{Chart}
 use Rattle.chart.specs.Checked.{counts_of}

@@ -1,7 +1,6 @@
 -- `check_trailer::bad_marks` meets its contract.
 -- Assumes nothing.
 use mathlib.Core.Path.{sym, ◌∙◌}
-use borrow.Author.Rules.{rules}
 use Rattle.chart.specs.Refusal.{bad_marks}
 use Rattle.chart.specs.Format.{decode, last_trailer, trailer_of}
 use Rattle.chart.proofs.Records.{trailer-field}

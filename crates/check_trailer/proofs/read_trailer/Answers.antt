@@ -3,7 +3,6 @@
 use mathlib.Core.Bool.{Bool}
 use mathlib.Core.Path.{◌≡◌, sym, ap, ◌∙◌}
 use borrow.Author.Tests.{lt-ltb, le-ltb}
-use borrow.Author.Rules.{rules}
 use Rattle.chart.specs.declared.format.Chart.{Chart}
 use Rattle.chart.specs.Checked.{checked_by, counts_of}
 use Rattle.chart.specs.Refusal.{bad_counts, first_of, trailer_rows}

@@ -1,7 +1,6 @@
 -- `chart::cursor::construct_bytes` meets its contract.
 -- Assumes nothing.
 use native.Mathlib.Omega.{arith}
-use borrow.Author.Rules.{rules}
 use borrow.Author.Tests.{eq-eqb, ne_eqb}
 use Rattle.chart.specs.Format.{construct_bytes}
 use Rattle.chart.proofs.cursor.construct_bytes.Goals as goal

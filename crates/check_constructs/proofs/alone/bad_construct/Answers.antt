@@ -2,7 +2,6 @@
 -- Assumes nothing.
 use mathlib.Core.Path.{sym, ◌∙◌}
 use borrow.Author.Tests.{lt-ltb, le-ltb}
-use borrow.Author.Rules.{rules}
 use Rattle.chart.specs.Refusal.{bad_construct}
 use Rattle.check_constructs.proofs.alone.bad_construct.Goals as goal
 

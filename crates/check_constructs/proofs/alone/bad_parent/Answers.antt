@@ -3,7 +3,6 @@
 use Prim.Native.Nat.{◌<◌, ◌≤◌}
 use native.Mathlib.Omega.{arith}
 use borrow.Author.Tests.{lt-ltb, le-ltb}
-use borrow.Author.Rules.{rules}
 use Rattle.check_constructs.proofs.alone.bad_parent.Goals as goal
 
 pub returns-then-wide-c : goal.returns-then-wide-c

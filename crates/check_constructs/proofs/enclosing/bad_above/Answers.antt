@@ -1,6 +1,6 @@
 -- `check_constructs::enclosing::bad_above` meets its contract.
 -- Assumes nothing.
-use mathlib.Core.Bool.{false, not}
+use mathlib.Core.Bool.{false}
 use mathlib.Core.Path.{◌≡◌, sym, ap, subst, ◌∙◌}
 use Prim.Native.Nat.{ℕ, ◌^◌}
 use native.Mathlib.Omega.{arith}
@@ -13,7 +13,6 @@ use Rattle.chart.specs.Scope.{critical_byte}
 use Rattle.chart.proofs.Records.{constructs-length}
 use Rattle.check_constructs.specs.Kinds.{barred_by}
 use Rattle.check_constructs.proofs.KindLaws.{barred-found, names-left}
-use borrow.Author.Rules.{rules}
 use Rattle.check_constructs.proofs.enclosing.bad_above.Goals as goal
 
 pub returns-then-above-barred-ne0 : goal.returns-then-above-barred-ne0

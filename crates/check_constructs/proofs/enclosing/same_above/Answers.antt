@@ -6,7 +6,6 @@ use mathlib.Core.Bool.{false}
 use Prim.Native.Nat.{ℕ, ◌+◌, ◌<◌}
 use native.Mathlib.Omega.{arith}
 use borrow.Author.Tests.{eq-eqb, ne_eqb}
-use borrow.Author.Rules.{rules}
 use Rattle.chart.specs.Scope.{parallel_byte, parent_of}
 use Rattle.chart.specs.Nested.{is_parallel}
 use Rattle.chart.specs.Format.{decode, construct_at}

@@ -1,16 +1,6 @@
 -- The invariants and measures of `check_constructs::enclosing::same_above`.
-use mathlib.Core.Path.{◌≡◌, sym, subst, ◌∙◌}
-use mathlib.Core.Logic.{inl, inr}
-use mathlib.Core.Bool.{false}
-use Prim.Native.Nat.{ℕ, ◌+◌, ◌<◌}
-use native.Mathlib.Omega.{arith}
-use borrow.Author.Tests.{eq-eqb, ne_eqb}
-use borrow.Author.Rules.{rules}
-use Rattle.chart.specs.Scope.{parallel_byte, parent_of}
-use Rattle.chart.specs.Nested.{is_parallel}
-use Rattle.chart.specs.Format.{decode, construct_at}
-use Rattle.chart.proofs.Records.{constructs-length}
-use Rattle.check_constructs.proofs.Ancestors.{Walked, against, parents, place-below, walk_start, walk_more, walk-found, walk_end, height, height-falls}
+use Rattle.chart.specs.Format.{decode}
+use Rattle.check_constructs.proofs.Ancestors.{Walked, height}
 use Rattle.check_constructs.proofs.enclosing.same_above.Given as goal
 
 abbrev pub invariant-loop-p : goal.invariant-loop-p

@@ -1,10 +1,9 @@
 -- `check_constructs::kinds::barred_kinds` meets its contract.
 -- Assumes nothing.
 use mathlib.Core.Path.{◌≡◌, refl, ◌∙◌}
-use Prim.Native.Nat.{ℕ, ◌+◌, ◌-◌, ◌≤◌, ◌<◌}
+use Prim.Native.Nat.{ℕ, ◌+◌}
 use native.Mathlib.Omega.{arith}
-use lib.ListN.{length, get_or, length-set}
-use borrow.Author.Rules.{rules}
+use lib.ListN.{length-set}
 use Rattle.lists.specs.Mask.{mask_of}
 use Rattle.lists.specs.Store.{stored}
 use Rattle.check_constructs.specs.Kinds.{barred_by}

@@ -1,11 +1,8 @@
 -- The invariants and measures of `check_constructs::kinds::barred_kinds`.
-use mathlib.Core.Path.{◌≡◌, refl, ◌∙◌}
+use mathlib.Core.Path.{◌≡◌}
 use Prim.Native.Nat.{ℕ, ◌+◌, ◌-◌, ◌≤◌, ◌<◌}
-use native.Mathlib.Omega.{arith}
-use lib.ListN.{length, get_or, length-set}
-use borrow.Author.Rules.{rules}
+use lib.ListN.{length, get_or}
 use Rattle.lists.specs.Mask.{mask_of}
-use Rattle.lists.specs.Store.{stored}
 use Rattle.check_constructs.specs.Kinds.{barred_by}
 use Rattle.check_constructs.proofs.kinds.barred_kinds.Given as goal
 

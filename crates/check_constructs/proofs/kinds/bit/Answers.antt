@@ -5,7 +5,6 @@ use Prim.Native.Nat.{◌%◌, ◌^◌}
 use native.Mathlib.Omega.{arith}
 use native.Mathlib.Nat.{one-mul}
 use lib.Pow.{shl_exact}
-use borrow.Author.Rules.{rules}
 use Rattle.check_constructs.proofs.kinds.bit.Goals as goal
 
 pub returns : goal.returns

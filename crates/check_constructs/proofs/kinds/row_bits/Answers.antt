@@ -3,14 +3,13 @@
 use mathlib.Core.List.{[]}
 use mathlib.Core.Bool.{Bool, true, false, not, cond}
 use mathlib.Core.Path.{◌≡◌, refl, ap, sym, ◌∙◌}
-use Prim.Native.Nat.{ℕ, ◌+◌, ◌-◌, ◌*◌, ◌%◌, ◌^◌, ◌≤◌, ◌<◌}
+use Prim.Native.Nat.{ℕ, ◌+◌, ◌-◌, ◌*◌, ◌%◌, ◌^◌, ◌<◌}
 use native.Mathlib.Omega.{arith}
 use native.Mathlib.Nat.{one-mul, zero-mul}
 use lib.Bits.{bit_or, or_zero_l}
 use lib.ListN.{get_or}
 use lib.Pow.{shl_exact}
 use mir.Val.{bool_byte}
-use borrow.Author.Rules.{rules}
 use borrow.Author.Tests.{lt-ltb}
 use Rattle.lists.specs.Mask.{mask_of}
 use Rattle.lists.specs.Bits.{mask_next}

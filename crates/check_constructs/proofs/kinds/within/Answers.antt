@@ -1,7 +1,6 @@
 -- `check_constructs::kinds::within` meets its contract.
 -- Assumes nothing.
 use borrow.Author.Tests.{eq-eqb, ne_eqb}
-use borrow.Author.Rules.{rules}
 use Rattle.chart.specs.Scope.{parallel_byte}
 use Rattle.check_constructs.proofs.kinds.within.Goals as goal
 

@@ -3,8 +3,6 @@
 use mathlib.Core.Path.{◌≡◌, refl, sym, ◌∙◌}
 use mathlib.Core.Bool.{Bool, true, false, ◌||◌}
 use lib.ListN.{length}
-use borrow.Author.Tests.{not-true}
-use borrow.Author.Rules.{rules}
 use Rattle.lists.specs.Range.{every, any}
 use Rattle.chart.specs.Format.{Decoded, decode}
 use Rattle.chart.specs.Nesting.{may_enclose, misnested}

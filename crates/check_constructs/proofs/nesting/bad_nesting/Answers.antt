@@ -2,8 +2,8 @@
 -- Assumes nothing.
 use mathlib.Core.Path.{◌≡◌, refl, sym, ap, ◌∙◌}
 use mathlib.Core.List.{List}
-use mathlib.Core.Bool.{Bool, false, ◌||◌}
-use Prim.Native.Nat.{ℕ, ◌≤◌, ◌-◌}
+use mathlib.Core.Bool.{◌||◌}
+use Prim.Native.Nat.{ℕ, ◌≤◌}
 use native.Mathlib.Omega.{arith}
 use lib.ListN.{length}
 use Rattle.lists.specs.Range.{every, any, at-any, any-more, any-or}
@@ -12,7 +12,7 @@ use Rattle.chart.specs.Format.{outside, decode}
 use Rattle.chart.specs.Nesting.{misplaced, misnested}
 use Rattle.chart.specs.Refusal.{bad_alone}
 use Rattle.chart.proofs.Records.{constructs-length}
-use Rattle.check_constructs.specs.Kinds.{KindsFrom, KindAt, NotedTo}
+use Rattle.check_constructs.specs.Kinds.{KindsFrom, KindAt}
 use Rattle.check_constructs.proofs.KindLaws.{noted-none, kinds-none, kind-none}
 use Rattle.check_constructs.proofs.Table.{places, placed}
 use Rattle.check_constructs.proofs.nesting.bad_nesting.Invariants.{bad}

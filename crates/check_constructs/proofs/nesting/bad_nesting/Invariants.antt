@@ -1,19 +1,13 @@
 -- The invariants and measures of `check_constructs::nesting::bad_nesting`.
-use mathlib.Core.Path.{◌≡◌, refl, sym, ap, ◌∙◌}
+use mathlib.Core.Path.{◌≡◌}
 use mathlib.Core.List.{List}
 use mathlib.Core.Bool.{Bool, false, ◌||◌}
 use Prim.Native.Nat.{ℕ, ◌≤◌, ◌-◌}
-use native.Mathlib.Omega.{arith}
-use lib.ListN.{length}
-use Rattle.lists.specs.Range.{every, any, at-any, any-more, any-or}
-use Rattle.lists.specs.Truth.{or-neither}
-use Rattle.chart.specs.Format.{outside, decode}
-use Rattle.chart.specs.Nesting.{misplaced, misnested}
+use Rattle.lists.specs.Range.{any}
+use Rattle.chart.specs.Format.{decode}
+use Rattle.chart.specs.Nesting.{misnested}
 use Rattle.chart.specs.Refusal.{bad_alone}
-use Rattle.chart.proofs.Records.{constructs-length}
 use Rattle.check_constructs.specs.Kinds.{KindsFrom, KindAt, NotedTo}
-use Rattle.check_constructs.proofs.KindLaws.{noted-none, kinds-none, kind-none}
-use Rattle.check_constructs.proofs.Table.{places, placed}
 use Rattle.check_constructs.proofs.nesting.bad_nesting.Given as goal
 
 abbrev pub bad : List ℕ → ℕ → Bool

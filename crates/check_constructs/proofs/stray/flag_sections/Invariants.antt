@@ -1,15 +1,7 @@
 -- The invariants and measures of `check_constructs::stray::flag_sections`.
-use mathlib.Core.Path.{◌≡◌, refl, ap, ◌∙◌}
-use mathlib.Core.Bool.{cond}
-use Prim.Native.Nat.{ℕ, ◌≤◌, ◌-◌}
-use native.Mathlib.Omega.{arith}
-use lib.Dec.{eqb}
-use borrow.Author.Rules.{rules}
-use Rattle.lists.specs.Flags.{as-flag}
+use Prim.Native.Nat.{◌≤◌, ◌-◌}
 use Rattle.chart.specs.Format.{decode}
-use Rattle.chart.specs.Scope.{sections_byte}
 use Rattle.check_constructs.specs.Sections.{SectionsBelow}
-use Rattle.check_constructs.proofs.StrayLaws.{sections-none, sections-more}
 use Rattle.check_constructs.proofs.stray.flag_sections.Given as goal
 
 abbrev pub invariant-loop-c : goal.invariant-loop-c

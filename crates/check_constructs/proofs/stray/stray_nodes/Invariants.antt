@@ -1,18 +1,10 @@
 -- The invariants and measures of `check_constructs::stray::stray_nodes`.
 use mathlib.Core.Bool.{cond}
-use mathlib.Core.Path.{◌≡◌, refl, ap, ◌∙◌}
-use Prim.Native.Nat.{ℕ, ◌≤◌, ◌-◌}
-use native.Mathlib.Omega.{arith}
-use lib.Dec.{ltb}
-use lib.ListN.{length}
-use borrow.Author.Rules.{rules}
-use Rattle.lists.specs.Flags.{as-flag, flag-asks}
+use mathlib.Core.Path.{◌≡◌}
+use Prim.Native.Nat.{◌≤◌, ◌-◌}
 use Rattle.lists.specs.Range.{any}
 use Rattle.chart.specs.Format.{decode}
-use Rattle.chart.specs.Scope.{begin_node}
 use Rattle.chart.specs.Refusal.{stray_node}
-use Rattle.chart.proofs.Records.{nodes-length, constructs-length}
-use Rattle.check_constructs.proofs.StrayLaws.{stray-more}
 use Rattle.check_constructs.proofs.stray.stray_nodes.Given as goal
 
 abbrev pub invariant-loop-x : goal.invariant-loop-x

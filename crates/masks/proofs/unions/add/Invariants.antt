@@ -1,9 +1,5 @@
 -- The invariants and measures of `masks::unions::add`.
-use mathlib.Core.Path.{◌≡◌}
-use Prim.Native.Nat.{◌-◌}
-use native.Mathlib.Omega.{arith}
-use lib.Bits.{and_le_r}
-use Rattle.masks.proofs.Passes.{Adding, adding-none, adding-more, adding-all}
+use Rattle.masks.proofs.Passes.{Adding}
 use Rattle.masks.proofs.unions.add.Given as goal
 
 abbrev pub invariant-loop-rest : goal.invariant-loop-rest

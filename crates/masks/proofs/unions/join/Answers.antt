@@ -4,7 +4,7 @@ use mathlib.Core.Path.{◌≡◌}
 use Prim.Native.Nat.{◌-◌}
 use native.Mathlib.Omega.{arith}
 use lib.Bits.{and_le_r}
-use Rattle.masks.proofs.Passes.{Joining, joining-none, joining-more, joining-all}
+use Rattle.masks.proofs.Passes.{joining-none, joining-more, joining-all}
 use Rattle.masks.proofs.unions.join.Goals as goal
 
 pub loop-rest-init : goal.loop-rest-init

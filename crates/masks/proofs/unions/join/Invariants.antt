@@ -1,9 +1,5 @@
 -- The invariants and measures of `masks::unions::join`.
-use mathlib.Core.Path.{◌≡◌}
-use Prim.Native.Nat.{◌-◌}
-use native.Mathlib.Omega.{arith}
-use lib.Bits.{and_le_r}
-use Rattle.masks.proofs.Passes.{Joining, joining-none, joining-more, joining-all}
+use Rattle.masks.proofs.Passes.{Joining}
 use Rattle.masks.proofs.unions.join.Given as goal
 
 abbrev pub invariant-loop-rest : goal.invariant-loop-rest

@@ -1,6 +1,5 @@
 -- `output::signed::counted` meets its contract.
 -- Assumes nothing.
-use borrow.Author.Rules.{rules}
 use mir.ValLaws.{to_z_pos}
 use mir.Syntax.{w64}
 use Rattle.output.proofs.signed.counted.Goals as goal

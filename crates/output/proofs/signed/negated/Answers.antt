@@ -1,7 +1,6 @@
 -- `output::signed::negated` meets its contract.
 -- Assumes nothing.
 use native.Mathlib.Omega.{arith}
-use borrow.Author.Rules.{rules}
 use Rattle.output.proofs.Negation.{zero-less, negated_fits}
 use mir.ValLaws.{to_z-of_z}
 use mir.Syntax.{w64}

@@ -1,6 +1,5 @@
 -- `chart::cursor::Cursor::filter` meets its contract.
 -- Assumes nothing.
-use borrow.Author.Rules.{rules}
 use borrow.Author.Tests.{eq-eqb, ne_eqb}
 use Rattle.chart.proofs.cursor.Cursor.filter.Goals as goal
 

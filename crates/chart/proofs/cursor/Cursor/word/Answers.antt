@@ -1,7 +1,6 @@
 -- `chart::cursor::Cursor::word` meets its contract.
 -- Assumes nothing.
 use native.Mathlib.Omega.{arith}
-use borrow.Author.Rules.{rules}
 use Rattle.chart.proofs.cursor.Cursor.word.Goals as goal
 
 pub returns : goal.returns

@@ -1,7 +1,6 @@
 -- `chart::format::Chart::read` meets its contract.
 -- Assumes nothing.
 use mathlib.Core.Path.{◌∙◌}
-use borrow.Author.Rules.{rules}
 use Rattle.chart.specs.Checked.{counts_of}
 use Rattle.chart.specs.Format.{decode, last_trailer, trailer_of}
 use Rattle.chart.proofs.Records.{trailer-field}

@@ -1,7 +1,6 @@
 -- `chart::format::Edge::read` meets its contract.
 -- Assumes nothing.
 use mathlib.Core.Path.{◌∙◌}
-use borrow.Author.Rules.{rules}
 use Rattle.chart.proofs.Records.{edge-fields}
 use Rattle.chart.proofs.format.Edge.read.Goals as goal
 
