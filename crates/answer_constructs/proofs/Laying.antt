@@ -3,7 +3,7 @@
 use mathlib.Core.Path.{◌≡◌, refl, sym, ◌∙◌}
 use mathlib.Core.Logic.{inl, inr}
 use mathlib.Core.List.{List}
-use Prim.Native.Nat.{ℕ, ◌+◌, ◌*◌, ◌/◌, ◌%◌, ◌≤◌, ◌<◌}
+use Prim.Native.Nat.{ℕ, ◌+◌, ◌%◌, ◌≤◌, ◌<◌}
 use native.Mathlib.Omega.{arith}
 use native.Mathlib.Decide.{ℕ_discrete, dec_lt}
 use lib.Bits.{bit_and, bit_or}
@@ -23,7 +23,6 @@ use Rattle.mark_tables.specs.Tables.{Accepted}
 use Rattle.answer_constructs.specs.Chains.{Chains, mask_at}
 use Rattle.answer_constructs.specs.Marks.{OfKind}
 use Rattle.answer_constructs.specs.Below.{place_of, Places, LaidOut, HeldBelow}
-use Rattle.answer_constructs.proofs.Facts.{few}
 use Rattle.answer_constructs.proofs.Nodes.{kind-known, number-place, frame-number, plain-held, frame-held}
 
 pub places-none : (D : Decoded) (chains : List ℕ) (inside : ℕ) → Places D chains inside 0 (replicate 128 0)

@@ -11,7 +11,7 @@ use lib.Dec.{eqb}
 use lib.ListN.{length, get_or, replicate}
 use borrow.Author.Tests.{eqb-true}
 use Rattle.lists.specs.Truth.{truth, and_both}
-use Rattle.lists.specs.Bits.{has, has_of}
+use Rattle.lists.specs.Bits.{has_of}
 use Rattle.lists.specs.Store.{zeros}
 use Rattle.masks.specs.Unions.{Added}
 use Rattle.chart.specs.Format.{Construct, construct_at}

@@ -13,7 +13,7 @@ use borrow.Author.Tests.{eq-eqb, ne_eqb, lt-ltb, le-ltb}
 use Rattle.lists.specs.Truth.{false-if}
 use Rattle.lists.specs.Bits.{has, has_of, mask-empty, mask-same}
 use Rattle.lists.specs.Mask.{mask_of}
-use Rattle.chart.specs.Format.{outside, Node, no_node, Decoded, decode, node_at, construct_at}
+use Rattle.chart.specs.Format.{outside, no_node, Decoded, decode, node_at, construct_at}
 use Rattle.chart.specs.Region.{Role, ordered, section, Region}
 use Rattle.chart.specs.Scope.{begin_node, end_node, kind_of, parent_of, lies_in, lies_at}
 use Rattle.chart.specs.Nested.{counts_in}

@@ -1,12 +1,9 @@
 -- Verdicts that are not of failure, and where a whole list stands.
 -- Assumes nothing.
 use mathlib.Core.Path.{◌≡◌, refl}
-use mathlib.Core.Logic.{◌⊎◌, inl, inr}
 use mathlib.Core.Option.{none}
 use Prim.Native.Nat.{ℕ, ◌+◌}
 use native.Mathlib.Omega.{arith}
-use denote.Enum.Declared.{tag_of}
-use Rattle.theory_calls.specs.contracts.Verdict.{the_type}
 use Rattle.theory_calls.specs.declared.Verdict.{Verdict}
 use Rattle.theory_calls.specs.declared.Verdict.TheVariants.{Passed, Failed, Refused}
 use Rattle.call_judge.specs.Two.{failed_at}

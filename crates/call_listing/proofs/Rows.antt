@@ -12,14 +12,12 @@ use lib.ListN.{length}
 use borrow.Author.Tests.{lt-ltb, le-ltb, ltb-false}
 use Rattle.lists.specs.Truth.{bad, or-neither}
 use Rattle.chart.specs.Format.{decode, construct_bytes}
-use Rattle.chart.specs.Refusal.{Row, bad_nodes, bad_constructs, bad_barriers, first_of}
+use Rattle.chart.specs.Refusal.{bad_nodes, bad_constructs, bad_barriers, first_of}
 use Rattle.chart.specs.Checked.{Laid, counts_of}
 use Rattle.chart.specs.declared.format.Chart.{Chart}
 use Rattle.chart.specs.declared.format.Refusal.{Refusal}
 use Rattle.chart.proofs.Accepted.{laid}
-use Rattle.output.specs.Output.{room_row, output_rows, written, written_by, left_by}
-use Rattle.output.specs.declared.Written.{Written}
-use Rattle.output.specs.declared.Written.TheVariants.{Bytes}
+use Rattle.output.specs.Output.{room_row, output_rows, written_by, left_by}
 use Rattle.chart_writing.specs.Trailer.{trailer_for}
 use Rattle.theory_listing.specs.Tree.{Block, node_count, construct_count}
 use Rattle.theory_listing.specs.Grammar.{Read, up_to, stopped, pick, listed}

@@ -6,9 +6,7 @@ use mathlib.Core.Option.{Option, none, some}
 use Prim.Native.Nat.{ℕ, ◌≤◌}
 use native.Mathlib.Omega.{arith}
 use lib.ListN.{length}
-use Rattle.lists.specs.Tab.{tab}
-use Rattle.chart.specs.Refusal.{first_of}
-use Rattle.theory_traces.specs.Call.{replay_rows, record_of, records_by, final, replay_answer, records_left, sheet_left, values_of}
+use Rattle.theory_traces.specs.Call.{record_of, records_by, final, replay_answer, records_left, sheet_left, values_of}
 use Rattle.theory_traces.specs.Correct.{ReplayCorrect}
 use Rattle.theory_traces.proofs.CorrectLaws.{passed-team, replay-correct}
 use Rattle.theory_traces.specs.declared.Replayed.{Replayed}

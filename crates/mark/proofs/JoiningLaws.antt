@@ -8,7 +8,6 @@ use mathlib.Core.List.{List}
 use Prim.Native.Nat.{ℕ, zero, suc, ◌+◌, ◌-◌, ◌^◌, ◌≤◌, ◌<◌}
 use native.Mathlib.Omega.{arith}
 use native.Mathlib.Decide.{ℕ_discrete, dec_lt}
-use native.Mathlib.Numerals.{add-one}
 use lib.Bits.{bit_and, bit_or, or_comm}
 use lib.Count.{ones}
 use lib.Dec.{eqb, ltb}
@@ -27,7 +26,7 @@ use Rattle.chart.specs.WellFormed.{WellFormed}
 use Rattle.theory_paths.specs.Path.{Path, Any, Open}
 use Rattle.theory_paths.specs.PathLaws.{append, carry, reverse, cut-last, From}
 use Rattle.theory_paths.specs.Decide.{no_barrier, no-barrier, barrier-no, any-path, path-any}
-use Rattle.theory_paths.specs.Found.{Reached, Found, Leveled}
+use Rattle.theory_paths.specs.Found.{Reached, Found}
 use Rattle.theory_paths.specs.Admission.{cut_off, bad_paths}
 use Rattle.theory_paths.specs.Phases.{Direction, forward, backward, barriers, barrier_at}
 use Rattle.theory_paths.specs.PhasesLaws.{is-barrier, number-barrier, barrier-number, number-unique}

@@ -4,11 +4,10 @@ use mathlib.Core.Path.{◌≡◌, refl}
 use mathlib.Core.Bool.{Bool, true, false}
 use mathlib.Core.List.{List}
 use Prim.Native.Nat.{ℕ, ◌+◌, ◌-◌, ◌≤◌, ◌<◌}
-use native.Mathlib.Omega.{arith}
 use lib.Bits.{bit_or, or_zero_l}
 use lib.ListN.{length, get_or}
 use Rattle.lists.specs.Mask.{Sub}
-use Rattle.search.specs.Sweep.{Lies, Lists, place, Step, Run, none, Carried, Closed, Kind}
+use Rattle.search.specs.Sweep.{Lies, Lists, place, Step, Run, none, Carried, Kind}
 use Rattle.search.specs.LevelLaws.{nearer, Follows}
 use Rattle.search.specs.Together.{Quietly, Together, Lent, Shut}
 use Rattle.search.proofs.Runs.{masks-kind, levels-kind, or-none, run-swept, run-from, more-at, place-false, carried_on}

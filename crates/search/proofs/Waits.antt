@@ -1,7 +1,7 @@
 -- Nodes that wait pass their masks on: what a visit does, a walk along the edges of one node, and a turn of the ring; when the ring is empty,
 -- the masks are closed.
 -- Assumes nothing.
-use mathlib.Core.Path.{◌≡◌, refl, sym, ap, ◌∙◌, subst}
+use mathlib.Core.Path.{◌≡◌, refl, sym, ◌∙◌}
 use mathlib.Core.Logic.{◌⊎◌, inl, inr, ⊎_elim}
 use mathlib.Core.List.{List, [], ◌∷◌}
 use Prim.Native.Nat.{ℕ, zero, suc, ◌+◌, ◌-◌, ◌%◌, ◌≤◌, ◌<◌}
@@ -12,7 +12,7 @@ use lib.ListN.{length, get_or, set, length-set, replicate, length-replicate}
 use lib.Seq.{get_or-set_same, get_or-set_other}
 use Rattle.lists.specs.Mask.{Sub, or_left, or_right, or-more}
 use Rattle.lists.specs.Store.{at_set, stored, zeros, filled, filled-set, filled-lt, filled-unset, filled-le}
-use Rattle.search.specs.Sweep.{Between, Lies, Carried, start, then, Closed, weight, gap}
+use Rattle.search.specs.Sweep.{Lies, Carried, start, then, Closed, weight, gap}
 use Rattle.search.specs.Waiting.{Upto, Linked, Fits, Full, Visited, same, kept, fresh, Walk, none, more, entry, Waits, Waiting}
 
 -- the weight after a store

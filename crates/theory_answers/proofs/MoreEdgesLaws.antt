@@ -1,12 +1,12 @@
 -- More edges only loosen: a never of the larger chart is a never of the smaller, in each of their regions and for each size of teams.
 -- Assumes nothing.
-use Rattle.std.specs.Prelude.{◌≡◌, ◌≢◌, true, ℕ, length}
+use Rattle.std.specs.Prelude.{◌≡◌, ◌≢◌, ℕ}
 use Rattle.std.proofs.Common.{sym, ◌∙◌, subst, subst₂, inl, inr, arith}
 use Rattle.std.proofs.Math.Bool.{false}
 use mathlib.Core.List.{List, [], ◌∷◌}
 use Rattle.lists.specs.Truth.{and_both, both-and}
 use Rattle.lists.specs.Range.{first-same}
-use Rattle.chart.specs.Format.{Decoded, decode, node_at}
+use Rattle.chart.specs.Format.{Decoded, decode}
 use Rattle.chart.specs.Region.{Kind, Region}
 use Rattle.chart.specs.Scope.{lies_at, scope_at, begin_node, end_node}
 use Rattle.chart.specs.Nested.{kept_in}

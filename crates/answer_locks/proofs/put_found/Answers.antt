@@ -2,7 +2,6 @@
 -- Assumes nothing.
 use mathlib.Core.Path.{refl, ◌∙◌}
 use native.Mathlib.Omega.{arith}
-use borrow.Author.Rules.{rules}
 use Rattle.lists.specs.Store.{zeros}
 use Rattle.chart.proofs.Records.{nodes-length}
 use Rattle.answer_constructs.proofs.Past.{rows-past}

@@ -1,7 +1,6 @@
 -- `answer_locks::put_locks` meets its contract.
 -- Assumes nothing.
 use mathlib.Core.Path.{sym, ◌∙◌}
-use borrow.Author.Rules.{rules}
 use Rattle.answer_locks.proofs.Written.{none-put}
 use Rattle.answer_locks.proofs.put_locks.Goals as goal
 

@@ -1,7 +1,6 @@
 -- `answer_masks::survey` meets its contract: rows 1 to 9 come first, and row 23 never applies to the outermost region.
 -- Assumes nothing.
 use mathlib.Core.Path.{sym, ◌∙◌}
-use borrow.Author.Rules.{rules}
 use Rattle.lists.specs.Truth.{bad}
 use Rattle.chart.specs.Checked.{counts_of, checked_by}
 use Rattle.theory_paths.specs.AdmissionLaws.{outermost-rows}

@@ -1,10 +1,10 @@
 -- `answer_met::gather_names` meets its contract. The loop's invariant: the sets passed are there.
 -- Assumes nothing.
-use mathlib.Core.Path.{◌≡◌, refl, ◌∙◌}
+use mathlib.Core.Path.{refl, ◌∙◌}
 use mathlib.Core.List.{[]}
-use Prim.Native.Nat.{ℕ, ◌*◌, ◌-◌, ◌≤◌, ◌<◌}
+use Prim.Native.Nat.{◌*◌, ◌-◌}
 use native.Mathlib.Omega.{arith}
-use lib.ListN.{length, get_or, length-set, replicate}
+use lib.ListN.{length-set}
 use lib.Seq.{get_or-set_other}
 use Rattle.answer_nodes.specs.Gathered.{Gathered}
 use Rattle.answer_nodes.proofs.Joining.{stored_row, in-each}

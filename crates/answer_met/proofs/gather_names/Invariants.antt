@@ -1,12 +1,9 @@
 -- The invariants and measures of `answer_met::gather_names`.
-use mathlib.Core.Path.{◌≡◌, refl, ◌∙◌}
+use mathlib.Core.Path.{◌≡◌}
 use mathlib.Core.List.{[]}
 use Prim.Native.Nat.{ℕ, ◌*◌, ◌-◌, ◌≤◌, ◌<◌}
-use native.Mathlib.Omega.{arith}
-use lib.ListN.{length, get_or, length-set, replicate}
-use lib.Seq.{get_or-set_other}
+use lib.ListN.{length, get_or, replicate}
 use Rattle.answer_nodes.specs.Gathered.{Gathered}
-use Rattle.answer_nodes.proofs.Joining.{stored_row, in-each}
 use Rattle.answer_met.proofs.gather_names.Given as goal
 
 abbrev pub invariant-loop-w : goal.invariant-loop-w

@@ -1,7 +1,6 @@
 -- `answer_met::met_nodes` meets its contract.
 -- Assumes nothing.
 use Prim.Native.Nat.{◌*◌}
-use borrow.Author.Rules.{rules}
 use Rattle.answer_met.proofs.SetBits.{met-from}
 use Rattle.answer_met.proofs.met_nodes.Goals as goal
 

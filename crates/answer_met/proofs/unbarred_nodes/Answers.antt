@@ -1,7 +1,6 @@
 -- `answer_met::unbarred_nodes` meets its contract.
 -- Assumes nothing.
 use Prim.Native.Nat.{◌*◌}
-use borrow.Author.Rules.{rules}
 use Rattle.answer_met.proofs.SetBits.{unbarred-from}
 use Rattle.answer_met.proofs.unbarred_nodes.Goals as goal
 

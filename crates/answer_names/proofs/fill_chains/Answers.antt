@@ -1,16 +1,14 @@
 -- `answer_names::fill_chains` meets its contract. The loop's invariant: the masks of the constructs passed are there.
 -- Assumes nothing.
 use mathlib.Core.Path.{◌≡◌, sym, subst}
-use Prim.Native.Nat.{◌-◌, ◌≤◌, ◌<◌}
+use Prim.Native.Nat.{◌-◌, ◌<◌}
 use native.Mathlib.Omega.{arith}
 use lib.ListN.{length}
 use Rattle.chart.specs.Format.{decode}
 use Rattle.chart.specs.Scope.{parent_of}
-use Rattle.chart.specs.Checked.{reading}
 use Rattle.chart.proofs.Records.{constructs-length}
 use Rattle.chart.proofs.Tree.{Below}
 use Rattle.answer_constructs.proofs.Constructs.{index_below, parent-lower}
-use Rattle.answer_names.specs.Names.{Chained}
 use Rattle.answer_names.proofs.Peers.{chains-next}
 use Rattle.answer_names.proofs.fill_chains.Goals as goal
 

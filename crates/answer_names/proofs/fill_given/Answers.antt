@@ -1,16 +1,15 @@
 -- `answer_names::fill_given` meets its contract. The loop's invariant: the constructs passed have their masks.
 -- Assumes nothing.
-use mathlib.Core.Path.{◌≡◌, ◌∙◌}
-use Prim.Native.Nat.{ℕ, ◌-◌, ◌≤◌, ◌<◌}
+use mathlib.Core.Path.{◌∙◌}
+use Prim.Native.Nat.{◌-◌}
 use native.Mathlib.Omega.{arith}
-use lib.ListN.{length, get_or, length-set}
+use lib.ListN.{length-set}
 use Rattle.lists.specs.Mask.{Mask}
 use Rattle.lists.specs.Store.{stored}
 use Rattle.chart.specs.Format.{decode}
 use Rattle.chart.specs.Checked.{reading}
 use Rattle.chart.proofs.Records.{constructs-length}
 use Rattle.chart.proofs.RegionFacts.{Counts}
-use Rattle.answer_constructs.specs.Chains.{Known}
 use Rattle.answer_constructs.proofs.Noted.{known-none}
 use Rattle.answer_names.specs.Names.{GivesName}
 use Rattle.answer_names.proofs.fill_given.Goals as goal

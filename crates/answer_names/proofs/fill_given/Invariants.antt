@@ -1,16 +1,12 @@
 -- The invariants and measures of `answer_names::fill_given`.
-use mathlib.Core.Path.{◌≡◌, ◌∙◌}
+use mathlib.Core.Path.{◌≡◌}
 use Prim.Native.Nat.{ℕ, ◌-◌, ◌≤◌, ◌<◌}
-use native.Mathlib.Omega.{arith}
-use lib.ListN.{length, get_or, length-set}
+use lib.ListN.{length, get_or}
 use Rattle.lists.specs.Mask.{Mask}
-use Rattle.lists.specs.Store.{stored}
 use Rattle.chart.specs.Format.{decode}
 use Rattle.chart.specs.Checked.{reading}
-use Rattle.chart.proofs.Records.{constructs-length}
 use Rattle.chart.proofs.RegionFacts.{Counts}
 use Rattle.answer_constructs.specs.Chains.{Known}
-use Rattle.answer_constructs.proofs.Noted.{known-none}
 use Rattle.answer_names.specs.Names.{GivesName}
 use Rattle.answer_names.proofs.fill_given.Given as goal
 

@@ -1,10 +1,10 @@
 -- `answer_names::own_bits` meets its contract. The loop's invariant: the constructs passed have their bits, in their masks and in the one.
 -- Assumes nothing.
 use mathlib.Core.Path.{◌≡◌, refl, ap, ◌∙◌}
-use Prim.Native.Nat.{ℕ, ◌-◌, ◌^◌, ◌≤◌, ◌<◌}
+use Prim.Native.Nat.{◌-◌, ◌^◌, ◌<◌}
 use native.Mathlib.Omega.{arith}
 use lib.Bits.{bit_and}
-use lib.ListN.{length, get_or, length-set}
+use lib.ListN.{get_or, length-set}
 use Rattle.lists.specs.Mask.{mask_of}
 use Rattle.lists.specs.Bits.{has}
 use Rattle.lists.specs.Store.{stored}

@@ -1,13 +1,10 @@
 -- The invariants and measures of `answer_names::own_bits`.
-use mathlib.Core.Path.{◌≡◌, refl, ap, ◌∙◌}
+use mathlib.Core.Path.{◌≡◌}
 use Prim.Native.Nat.{ℕ, ◌-◌, ◌^◌, ◌≤◌, ◌<◌}
-use native.Mathlib.Omega.{arith}
 use lib.Bits.{bit_and}
-use lib.ListN.{length, get_or, length-set}
+use lib.ListN.{length, get_or}
 use Rattle.lists.specs.Mask.{mask_of}
 use Rattle.lists.specs.Bits.{has}
-use Rattle.lists.specs.Store.{stored}
-use Rattle.answer_constructs.proofs.Constructs.{test-next}
 use Rattle.answer_names.proofs.own_bits.Given as goal
 
 abbrev pub invariant-loop-c : goal.invariant-loop-c

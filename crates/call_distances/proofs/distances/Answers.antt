@@ -3,7 +3,6 @@
 use mathlib.Core.Path.{ap, sym, ◌∙◌}
 use mathlib.Core.List.{[]}
 use Prim.Native.Nat.{ℕ}
-use borrow.Author.Rules.{rules}
 use Rattle.chart.specs.Format.{decode}
 use Rattle.chart.specs.Reading.{region_of}
 use Rattle.chart.specs.declared.format.Chart.{Chart}

@@ -1,9 +1,8 @@
 -- `call_distances::fill_distances` meets its contract.
 -- Assumes nothing.
 use mathlib.Core.Path.{◌≡◌, subst}
-use Prim.Native.Nat.{ℕ, ◌-◌, ◌≤◌}
+use Prim.Native.Nat.{ℕ, ◌-◌}
 use native.Mathlib.Omega.{arith}
-use borrow.Author.Rules.{rules}
 use Rattle.call_distances.proofs.Filling.{byte_at, Filled, filled_none, filled_more, filled-all}
 use Rattle.call_distances.proofs.fill_distances.Goals as goal
 

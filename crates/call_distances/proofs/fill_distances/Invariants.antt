@@ -1,9 +1,6 @@
 -- The invariants and measures of `call_distances::fill_distances`.
-use mathlib.Core.Path.{◌≡◌, subst}
-use Prim.Native.Nat.{ℕ, ◌-◌, ◌≤◌}
-use native.Mathlib.Omega.{arith}
-use borrow.Author.Rules.{rules}
-use Rattle.call_distances.proofs.Filling.{byte_at, Filled, filled_none, filled_more, filled-all}
+use Prim.Native.Nat.{◌-◌, ◌≤◌}
+use Rattle.call_distances.proofs.Filling.{byte_at, Filled}
 use Rattle.call_distances.proofs.fill_distances.Given as goal
 
 abbrev pub invariant-loop-x : goal.invariant-loop-x

@@ -5,7 +5,6 @@ use Rattle.chart.specs.Checked.{counts_of, read_for}
 use Rattle.chart.specs.declared.format.Chart.{Chart}
 use Rattle.check_chart.proofs.Outcome.{passed_none, refused-some}
 use Rattle.call_races.proofs.Outcome.{chart-refused, chart-passed}
-use borrow.Author.Rules.{rules}
 use Rattle.call_races.proofs.races.Goals as goal
 
 -- where the function was called

@@ -16,7 +16,6 @@ use Rattle.theory_calls.specs.Races.{races}
 use Rattle.theory_calls.proofs.RaceLaws.{few-accesses, races-length}
 use Rattle.answer_races.proofs.RowsLaws.{few-pairs}
 use Rattle.call_races.proofs.Outcome.{list-refused, list-passed}
-use borrow.Author.Rules.{rules}
 use Rattle.call_races.proofs.write_races.Goals as goal
 
 pub returns-then-bad_accesses : goal.returns-then-bad_accesses

@@ -7,7 +7,6 @@ use Rattle.chart.specs.Checked.{reading}
 use Rattle.chart.proofs.Records.{nodes-length}
 use Rattle.theory_calls.specs.Witness.{is_ended, is_witness}
 use Rattle.call_witnessed.proofs.Told.{row-tells, not-ended}
-use borrow.Author.Rules.{rules}
 use Rattle.call_witnessed.proofs.is_witness.Goals as goal
 
 pub returns-in-Finished : goal.returns-in-Finished

@@ -14,7 +14,6 @@ use Rattle.mark_tables.proofs.Accepted.{well-formed}
 use Rattle.theory_calls.specs.Pair.{numbers_row}
 use Rattle.theory_calls.specs.Witness.{told, answered_by}
 use Rattle.theory_traces.proofs.CorrectLaws.{whole-trace}
-use borrow.Author.Rules.{rules}
 use Rattle.call_witnessed.proofs.tell.Goals as goal
 
 pub bad_node-requires : goal.bad_node-requires

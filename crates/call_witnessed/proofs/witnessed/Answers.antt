@@ -4,7 +4,6 @@ use mathlib.Core.Path.{sym, ◌∙◌, ap}
 use Rattle.chart.specs.declared.format.Chart.{Chart}
 use Rattle.mark_regions.proofs.Entering.{entered-refused, entered-marked, entered-counts}
 use Rattle.call_witnessed.proofs.Told.{told-refused, told-passed}
-use borrow.Author.Rules.{rules}
 use Rattle.call_witnessed.proofs.witnessed.Goals as goal
 
 pub tell-requires : goal.tell-requires

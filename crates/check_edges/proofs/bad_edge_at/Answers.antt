@@ -1,6 +1,5 @@
 -- `check_edges::bad_edge_at` meets its contract.
 -- Assumes nothing.
-use borrow.Author.Rules.{rules}
 use Rattle.check_edges.proofs.bad_edge_at.Goals as goal
 
 pub returns : goal.returns

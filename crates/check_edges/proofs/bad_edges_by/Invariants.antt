@@ -1,11 +1,8 @@
 -- The invariants and measures of `check_edges::bad_edges_by`.
 use mathlib.Core.Bool.{false}
-use mathlib.Core.Path.{◌≡◌, refl, sym, ap, ◌∙◌}
-use Prim.Native.Nat.{ℕ, ◌≤◌, ◌-◌}
-use native.Mathlib.Omega.{arith}
-use lib.ListN.{length}
-use Rattle.lists.specs.Range.{any, at-any, any-more}
-use Rattle.chart.proofs.Records.{edges-length}
+use mathlib.Core.Path.{◌≡◌}
+use Prim.Native.Nat.{◌≤◌, ◌-◌}
+use Rattle.lists.specs.Range.{any}
 use Rattle.chart.specs.Format.{decode}
 use Rattle.check_edges.specs.Tables.{bad_by_itself}
 use Rattle.check_edges.proofs.bad_edges_by.Given as goal

@@ -2,7 +2,6 @@
 -- Assumes nothing.
 use mathlib.Core.Path.{sym, ◌∙◌}
 use native.Mathlib.Omega.{arith}
-use borrow.Author.Rules.{rules}
 use Rattle.chart.specs.Format.{decode}
 use Rattle.chart.proofs.Records.{nodes-length, edges-length}
 use Rattle.check_edges.proofs.Order.{order-bad, order-good}

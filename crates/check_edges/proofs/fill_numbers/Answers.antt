@@ -1,10 +1,9 @@
 -- `check_edges::fill_numbers` meets its contract: after x turns the first x nodes are in the tables.
 -- Assumes nothing.
 use mathlib.Core.Path.{◌≡◌, subst, ◌∙◌}
-use Prim.Native.Nat.{ℕ, ◌≤◌, ◌<◌, ◌-◌}
+use Prim.Native.Nat.{ℕ, ◌<◌, ◌-◌}
 use native.Mathlib.Omega.{arith}
 use lib.ListN.{length}
-use borrow.Author.Rules.{rules}
 use Rattle.chart.specs.Format.{decode}
 use Rattle.chart.specs.Scope.{begin_node, end_node}
 use Rattle.chart.proofs.Reading.{begin, end}

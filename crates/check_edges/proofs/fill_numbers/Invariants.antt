@@ -1,15 +1,8 @@
 -- The invariants and measures of `check_edges::fill_numbers`.
-use mathlib.Core.Path.{◌≡◌, subst, ◌∙◌}
-use Prim.Native.Nat.{ℕ, ◌≤◌, ◌<◌, ◌-◌}
-use native.Mathlib.Omega.{arith}
-use lib.ListN.{length}
-use borrow.Author.Rules.{rules}
+use Prim.Native.Nat.{◌≤◌, ◌-◌}
 use Rattle.chart.specs.Format.{decode}
 use Rattle.chart.specs.Scope.{begin_node, end_node}
-use Rattle.chart.proofs.Reading.{begin, end}
-use Rattle.chart.proofs.Records.{nodes-length}
 use Rattle.check_edges.specs.Tables.{no_leaving, no_arriving, ScopesOf, FilledTo}
-use Rattle.check_edges.proofs.Scopes.{number-scope, scopes-none, scopes-more}
 use Rattle.check_edges.proofs.fill_numbers.Given as goal
 
 abbrev pub invariant-loop-x : goal.invariant-loop-x

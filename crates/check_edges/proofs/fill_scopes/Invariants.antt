@@ -1,16 +1,8 @@
 -- The invariants and measures of `check_edges::fill_scopes`.
-use mathlib.Core.Path.{◌∙◌}
-use Prim.Native.Nat.{◌≤◌, ◌<◌, ◌-◌}
-use native.Mathlib.Omega.{arith}
-use lib.ListN.{length}
-use borrow.Author.Rules.{rules}
+use Prim.Native.Nat.{◌≤◌, ◌-◌}
 use Rattle.chart.specs.Format.{decode}
-use Rattle.chart.specs.Scope.{begin_node, end_node, parent_of}
-use Rattle.chart.proofs.Facts.{frames-fit}
-use Rattle.chart.proofs.Reading.{begin, end}
-use Rattle.chart.proofs.Records.{nodes-length, constructs-length}
+use Rattle.chart.specs.Scope.{begin_node, end_node}
 use Rattle.check_edges.specs.Tables.{no_leaving, no_arriving, ScopesOf, FilledTo}
-use Rattle.check_edges.proofs.Scopes.{filled_more, filled-all}
 use Rattle.check_edges.proofs.fill_scopes.Given as goal
 
 abbrev pub invariant-loop-c : goal.invariant-loop-c

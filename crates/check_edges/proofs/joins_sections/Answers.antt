@@ -1,11 +1,9 @@
 -- `check_edges::joins_sections` meets its contract: after i turns the first i edges are asked.
 -- Assumes nothing.
-use mathlib.Core.Bool.{cond}
 use mathlib.Core.Path.{◌≡◌, refl, ap, ◌∙◌}
-use Prim.Native.Nat.{ℕ, ◌≤◌, ◌-◌}
+use Prim.Native.Nat.{ℕ, ◌-◌}
 use native.Mathlib.Omega.{arith}
 use lib.ListN.{length}
-use borrow.Author.Rules.{rules}
 use Rattle.lists.specs.Flags.{flag-asks}
 use Rattle.lists.specs.Range.{any}
 use Rattle.chart.specs.Format.{decode}

@@ -1,16 +1,10 @@
 -- The invariants and measures of `check_edges::joins_sections`.
 use mathlib.Core.Bool.{cond}
-use mathlib.Core.Path.{◌≡◌, refl, ap, ◌∙◌}
-use Prim.Native.Nat.{ℕ, ◌≤◌, ◌-◌}
-use native.Mathlib.Omega.{arith}
-use lib.ListN.{length}
-use borrow.Author.Rules.{rules}
-use Rattle.lists.specs.Flags.{flag-asks}
+use mathlib.Core.Path.{◌≡◌}
+use Prim.Native.Nat.{◌≤◌, ◌-◌}
 use Rattle.lists.specs.Range.{any}
 use Rattle.chart.specs.Format.{decode}
 use Rattle.chart.specs.Refusal.{joins_sections}
-use Rattle.chart.proofs.Records.{edges-length, constructs-length}
-use Rattle.check_edges.proofs.Sections.{joins-more}
 use Rattle.check_edges.proofs.joins_sections.Given as goal
 
 abbrev pub invariant-loop-i : goal.invariant-loop-i

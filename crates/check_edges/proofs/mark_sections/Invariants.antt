@@ -1,18 +1,8 @@
 -- The invariants and measures of `check_edges::mark_sections`.
-use mathlib.Core.Path.{◌≡◌, ap, subst, ◌∙◌}
-use mathlib.Core.Bool.{cond}
-use Prim.Native.Nat.{ℕ, ◌≤◌, ◌<◌, ◌-◌}
-use native.Mathlib.Omega.{arith}
-use lib.Dec.{eqb}
-use lib.ListN.{length}
-use borrow.Author.Rules.{rules}
-use Rattle.lists.specs.Flags.{as-flag}
+use Prim.Native.Nat.{◌≤◌, ◌-◌}
 use Rattle.chart.specs.Format.{decode}
-use Rattle.chart.specs.Scope.{begin_node, end_node, section_byte}
-use Rattle.chart.proofs.Facts.{frames-fit}
-use Rattle.chart.proofs.Records.{constructs-length}
+use Rattle.chart.specs.Scope.{begin_node, end_node}
 use Rattle.check_edges.specs.Tables.{SectionsTo}
-use Rattle.check_edges.proofs.Sections.{sections-none, sections-more}
 use Rattle.check_edges.proofs.mark_sections.Given as goal
 
 abbrev pub invariant-loop-c : goal.invariant-loop-c

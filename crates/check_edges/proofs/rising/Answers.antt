@@ -1,6 +1,5 @@
 -- `check_edges::rising` meets its contract.
 -- Assumes nothing.
-use borrow.Author.Rules.{rules}
 use Rattle.check_edges.proofs.Scopes.{by_key}
 use Rattle.check_edges.proofs.rising.Goals as goal
 

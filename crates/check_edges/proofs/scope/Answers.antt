@@ -4,7 +4,6 @@ use mathlib.Core.Path.{◌∙◌, ap}
 use Prim.Native.Nat.{ℕ}
 use native.Mathlib.Omega.{arith}
 use borrow.Author.Tests.{eq-eqb, ne_eqb, lt-ltb, le-ltb}
-use borrow.Author.Rules.{rules}
 use Rattle.chart.specs.Scope.{scope_at, scope, lies_in, parent_of}
 use Rattle.chart.specs.Format.{decode, construct_at}
 use Rattle.chart.proofs.Records.{nodes-length, constructs-length}

@@ -1,6 +1,5 @@
 -- `replay_trace::print_replayed` is safe and ends.
 -- Assumes nothing.
-use borrow.Author.Rules.{rules}
 use Rattle.call_replay.proofs.Calls.{count-few}
 use Rattle.replay_trace.proofs.print_replayed.Goals as goal
 

@@ -2,14 +2,13 @@
 -- Assumes nothing.
 use mathlib.Core.Path.{◌≡◌, refl, ap, sym, ◌∙◌}
 use mathlib.Core.Bool.{false}
-use Prim.Native.Nat.{ℕ, ◌-◌, ◌/◌, ◌≤◌}
+use Prim.Native.Nat.{ℕ, ◌-◌, ◌/◌}
 use native.Mathlib.Omega.{arith}
 use lib.ListN.{length}
 use Rattle.lists.specs.Range.{any, at-any, any-more, first-is}
 use Rattle.theory_answers.specs.Answer.{answer_for}
 use Rattle.theory_calls.specs.Claims.{total, is_false}
 use Rattle.theory_calls.specs.Judged.{verdict}
-use Rattle.answer_claims.specs.OfMarks.{OfMarks}
 use Rattle.answer_claims.proofs.list.first_false.Goals as goal
 
 pub loop-k-init : goal.loop-k-init

@@ -1,13 +1,11 @@
 -- The invariants and measures of `answer_claims::list::first_false`.
-use mathlib.Core.Path.{◌≡◌, refl, ap, sym, ◌∙◌}
+use mathlib.Core.Path.{◌≡◌}
 use mathlib.Core.Bool.{false}
-use Prim.Native.Nat.{ℕ, ◌-◌, ◌/◌, ◌≤◌}
-use native.Mathlib.Omega.{arith}
+use Prim.Native.Nat.{◌-◌, ◌/◌, ◌≤◌}
 use lib.ListN.{length}
-use Rattle.lists.specs.Range.{any, at-any, any-more, first-is}
+use Rattle.lists.specs.Range.{any}
 use Rattle.theory_answers.specs.Answer.{answer_for}
-use Rattle.theory_calls.specs.Claims.{total, is_false}
-use Rattle.theory_calls.specs.Judged.{verdict}
+use Rattle.theory_calls.specs.Claims.{is_false}
 use Rattle.answer_claims.specs.OfMarks.{OfMarks}
 use Rattle.answer_claims.proofs.list.first_false.Given as goal
 

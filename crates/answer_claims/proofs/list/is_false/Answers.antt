@@ -2,7 +2,6 @@
 -- Assumes nothing.
 use Prim.Native.Nat.{◌+◌, ◌*◌}
 use native.Mathlib.Omega.{arith}
-use borrow.Author.Rules.{rules}
 use Rattle.theory_calls.specs.Claims.{left, right, is_false}
 use Rattle.theory_calls.proofs.CorrectLaws.{good-numbers}
 use Rattle.answer_claims.proofs.list.is_false.Goals as goal

@@ -1,20 +1,14 @@
 -- `answer_claims::numbers::bad_numbers` meets its contract: after j turns the first j numbers are looked at.
 -- Assumes nothing.
 use mathlib.Core.Path.{◌≡◌, refl, ◌∙◌}
-use mathlib.Core.Bool.{Bool, false}
-use mathlib.Core.List.{List}
-use Prim.Native.Nat.{ℕ, ◌-◌, ◌≤◌, ◌<◌}
+use Prim.Native.Nat.{◌-◌}
 use native.Mathlib.Omega.{arith}
 use native.Mathlib.Numerals.{add-one}
-use lib.ListN.{length, get_or}
-use borrow.Author.Rules.{rules}
+use lib.ListN.{length}
 use Rattle.lists.specs.Range.{any}
-use Rattle.chart.specs.Region.{Region}
 use Rattle.chart.specs.Checked.{reading}
 use Rattle.chart.proofs.Records.{nodes-length}
-use Rattle.theory_answers.specs.Numbers.{bad_number}
 use Rattle.theory_calls.specs.Claims.{bad_numbers}
-use Rattle.answer_claims.proofs.numbers.bad_numbers.Invariants.{is_bad}
 use Rattle.answer_claims.proofs.numbers.bad_numbers.Goals as goal
 
 pub loop-j-init : goal.loop-j-init

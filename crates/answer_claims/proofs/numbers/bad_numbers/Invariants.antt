@@ -1,18 +1,12 @@
 -- The invariants and measures of `answer_claims::numbers::bad_numbers`.
-use mathlib.Core.Path.{◌≡◌, refl, ◌∙◌}
+use mathlib.Core.Path.{◌≡◌}
 use mathlib.Core.Bool.{Bool, false}
 use mathlib.Core.List.{List}
 use Prim.Native.Nat.{ℕ, ◌-◌, ◌≤◌, ◌<◌}
-use native.Mathlib.Omega.{arith}
-use native.Mathlib.Numerals.{add-one}
 use lib.ListN.{length, get_or}
-use borrow.Author.Rules.{rules}
 use Rattle.lists.specs.Range.{any}
 use Rattle.chart.specs.Region.{Region}
-use Rattle.chart.specs.Checked.{reading}
-use Rattle.chart.proofs.Records.{nodes-length}
 use Rattle.theory_answers.specs.Numbers.{bad_number}
-use Rattle.theory_calls.specs.Claims.{bad_numbers}
 use Rattle.answer_claims.proofs.numbers.bad_numbers.Given as goal
 
 abbrev pub is_bad : Region → List ℕ → ℕ → Bool

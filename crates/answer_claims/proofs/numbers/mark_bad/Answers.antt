@@ -1,11 +1,8 @@
 -- `answer_claims::numbers::mark_bad` meets its contract: after x turns the first x nodes are looked at.
 -- Assumes nothing.
 use mathlib.Core.Path.{◌≡◌, subst}
-use Prim.Native.Nat.{ℕ, ◌-◌, ◌≤◌}
+use Prim.Native.Nat.{ℕ, ◌-◌}
 use native.Mathlib.Omega.{arith}
-use Rattle.chart.specs.Region.{Region}
-use Rattle.chart.specs.WellFormed.{WellFormed}
-use Rattle.mark_tables.specs.Tables.{Closed}
 use Rattle.answer_claims.proofs.Marked.{Marked, marked-none, marked_more, marked_all}
 use Rattle.answer_claims.proofs.numbers.mark_bad.Goals as goal
 

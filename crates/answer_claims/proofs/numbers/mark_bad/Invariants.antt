@@ -1,11 +1,10 @@
 -- The invariants and measures of `answer_claims::numbers::mark_bad`.
-use mathlib.Core.Path.{◌≡◌, subst}
-use Prim.Native.Nat.{ℕ, ◌-◌, ◌≤◌}
-use native.Mathlib.Omega.{arith}
+use mathlib.Core.Path.{◌≡◌}
+use Prim.Native.Nat.{◌-◌, ◌≤◌}
 use Rattle.chart.specs.Region.{Region}
 use Rattle.chart.specs.WellFormed.{WellFormed}
 use Rattle.mark_tables.specs.Tables.{Closed}
-use Rattle.answer_claims.proofs.Marked.{Marked, marked-none, marked_more, marked_all}
+use Rattle.answer_claims.proofs.Marked.{Marked}
 use Rattle.answer_claims.proofs.numbers.mark_bad.Given as goal
 
 abbrev pub invariant-loop-x : goal.invariant-loop-x

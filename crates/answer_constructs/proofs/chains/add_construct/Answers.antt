@@ -4,7 +4,6 @@ use mathlib.Core.Path.{sym, ◌∙◌, subst}
 use Prim.Native.Nat.{◌<◌}
 use native.Mathlib.Omega.{arith}
 use lib.ListN.{length}
-use borrow.Author.Rules.{rules}
 use Rattle.chart.specs.Format.{decode}
 use Rattle.chart.specs.Scope.{parent_of}
 use Rattle.chart.proofs.Records.{constructs-length}

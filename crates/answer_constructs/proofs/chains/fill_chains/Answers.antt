@@ -1,12 +1,8 @@
 -- `answer_constructs::chains::fill_chains` meets its contract. The loop's invariant: the masks of the constructs passed are there.
 -- Assumes nothing.
 use mathlib.Core.Path.{◌≡◌}
-use Prim.Native.Nat.{◌≤◌, ◌-◌}
+use Prim.Native.Nat.{◌-◌}
 use native.Mathlib.Omega.{arith}
-use Rattle.chart.specs.Format.{decode}
-use Rattle.chart.specs.Checked.{reading}
-use Rattle.chart.proofs.RegionFacts.{Counts}
-use Rattle.answer_constructs.specs.Chains.{Known, Chains}
 use Rattle.answer_constructs.proofs.Noted.{known-none}
 use Rattle.answer_constructs.proofs.chains.fill_chains.Goals as goal
 

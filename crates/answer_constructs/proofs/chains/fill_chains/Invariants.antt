@@ -1,12 +1,9 @@
 -- The invariants and measures of `answer_constructs::chains::fill_chains`.
-use mathlib.Core.Path.{◌≡◌}
 use Prim.Native.Nat.{◌≤◌, ◌-◌}
-use native.Mathlib.Omega.{arith}
 use Rattle.chart.specs.Format.{decode}
 use Rattle.chart.specs.Checked.{reading}
 use Rattle.chart.proofs.RegionFacts.{Counts}
 use Rattle.answer_constructs.specs.Chains.{Known, Chains}
-use Rattle.answer_constructs.proofs.Noted.{known-none}
 use Rattle.answer_constructs.proofs.chains.fill_chains.Given as goal
 
 abbrev pub invariant-loop-c : goal.invariant-loop-c

@@ -1,8 +1,6 @@
 -- `answer_constructs::chains::gives` meets its contract.
 -- Assumes nothing.
 use mathlib.Core.Path.{sym, ◌∙◌}
-use borrow.Author.Tests.{not-true, not-false}
-use borrow.Author.Rules.{rules}
 use Rattle.answer_constructs.proofs.chains.gives.Goals as goal
 
 pub returns-then-not-has : goal.returns-then-not-has

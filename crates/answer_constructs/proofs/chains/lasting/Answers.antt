@@ -1,7 +1,6 @@
 -- `answer_constructs::chains::lasting` meets its contract.
 -- Assumes nothing.
 use mathlib.Core.Path.{sym, ◌∙◌}
-use borrow.Author.Rules.{rules}
 use Rattle.answer_constructs.specs.Chains.{lasting_bit}
 use Rattle.answer_constructs.proofs.chains.lasting.Goals as goal
 

@@ -1,7 +1,6 @@
 -- `answer_constructs::chains::mask_at` meets its contract.
 -- Assumes nothing.
 use native.Mathlib.Omega.{arith}
-use borrow.Author.Rules.{rules}
 use borrow.Author.Tests.{eq-eqb, ne_eqb}
 use Rattle.answer_constructs.specs.Chains.{mask_at}
 use Rattle.answer_constructs.proofs.chains.mask_at.Goals as goal

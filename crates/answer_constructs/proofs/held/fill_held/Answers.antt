@@ -2,7 +2,6 @@
 -- Assumes nothing.
 use mathlib.Core.Path.{refl}
 use native.Mathlib.Omega.{arith}
-use borrow.Author.Rules.{rules}
 use Rattle.lists.specs.Store.{zeros}
 use Rattle.answer_constructs.proofs.Nodes.{none-held}
 use Rattle.answer_constructs.proofs.Laying.{laid-held}

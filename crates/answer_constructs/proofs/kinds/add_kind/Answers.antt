@@ -1,15 +1,11 @@
 -- `answer_constructs::kinds::add_kind` meets its contract. The loop's invariant: the entries passed are done, and the others are as they were.
 -- Assumes nothing.
 use mathlib.Core.Path.{◌≡◌, refl, ap, ◌∙◌}
-use mathlib.Core.Bool.{cond}
-use Prim.Native.Nat.{ℕ, ◌-◌, ◌^◌, ◌≤◌, ◌<◌}
+use Prim.Native.Nat.{◌-◌}
 use native.Mathlib.Omega.{arith}
-use lib.Bits.{bit_or}
-use lib.Dec.{eqb}
-use lib.ListN.{length, get_or, length-set}
+use lib.ListN.{get_or, length-set}
 use lib.Seq.{get_or-set_other}
 use Rattle.lists.specs.Store.{stored}
-use Rattle.answer_constructs.specs.Chains.{rule_byte}
 use Rattle.answer_constructs.proofs.kinds.add_kind.Invariants.{added}
 use Rattle.answer_constructs.proofs.kinds.add_kind.Goals as goal
 

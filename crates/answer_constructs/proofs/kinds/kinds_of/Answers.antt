@@ -1,13 +1,11 @@
 -- `answer_constructs::kinds::kinds_of` meets its contract. The loop's invariant: the masks have the constructs passed.
 -- Assumes nothing.
 use mathlib.Core.Path.{◌≡◌, refl, ap}
-use Prim.Native.Nat.{ℕ, ◌-◌, ◌≤◌, ◌<◌}
+use Prim.Native.Nat.{ℕ, ◌-◌}
 use native.Mathlib.Omega.{arith}
 use lib.Dec.{eqb}
-use lib.ListN.{length, get_or}
 use Rattle.lists.specs.Mask.{mask_of}
 use Rattle.lists.specs.Store.{zeros}
-use Rattle.chart.specs.Format.{decode}
 use Rattle.answer_constructs.specs.Chains.{rule_byte, is_of}
 use Rattle.answer_constructs.proofs.Constructs.{test-next, of-rule}
 use Rattle.answer_constructs.proofs.kinds.kinds_of.Goals as goal

@@ -1,14 +1,10 @@
 -- The invariants and measures of `answer_constructs::kinds::kinds_of`.
-use mathlib.Core.Path.{◌≡◌, refl, ap}
+use mathlib.Core.Path.{◌≡◌}
 use Prim.Native.Nat.{ℕ, ◌-◌, ◌≤◌, ◌<◌}
-use native.Mathlib.Omega.{arith}
-use lib.Dec.{eqb}
 use lib.ListN.{length, get_or}
 use Rattle.lists.specs.Mask.{mask_of}
-use Rattle.lists.specs.Store.{zeros}
 use Rattle.chart.specs.Format.{decode}
 use Rattle.answer_constructs.specs.Chains.{rule_byte, is_of}
-use Rattle.answer_constructs.proofs.Constructs.{test-next, of-rule}
 use Rattle.answer_constructs.proofs.kinds.kinds_of.Given as goal
 
 abbrev pub invariant-loop-c : goal.invariant-loop-c

@@ -1,12 +1,10 @@
 -- `answer_constructs::members::members_of` meets its contract. The loop's invariant: the mask has the members passed.
 -- Assumes nothing.
 use mathlib.Core.Path.{◌≡◌, refl, sym, subst, ◌∙◌}
-use Prim.Native.Nat.{◌-◌, ◌≤◌}
+use Prim.Native.Nat.{◌-◌}
 use native.Mathlib.Omega.{arith}
 use Rattle.lists.specs.Mask.{mask_of}
-use Rattle.chart.specs.Format.{decode}
 use Rattle.chart.specs.Scope.{parent_of}
-use Rattle.chart.specs.Nested.{counts_in}
 use Rattle.chart.proofs.Records.{constructs-length}
 use Rattle.chart.proofs.Tree.{Below}
 use Rattle.mark_tables.proofs.Accepted.{tables}

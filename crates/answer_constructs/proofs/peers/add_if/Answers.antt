@@ -1,6 +1,5 @@
 -- `answer_constructs::peers::add_if` meets its contract.
 -- Assumes nothing.
-use borrow.Author.Rules.{rules}
 use Rattle.answer_constructs.proofs.peers.add_if.Goals as goal
 
 pub returns-then-holds : goal.returns-then-holds

@@ -1,6 +1,5 @@
 -- `answer_constructs::peers::alike` meets its contract.
 -- Assumes nothing.
-use borrow.Author.Rules.{rules}
 use Rattle.answer_constructs.proofs.peers.alike.Goals as goal
 
 pub returns : goal.returns

@@ -2,7 +2,6 @@
 -- Assumes nothing.
 use mathlib.Core.Path.{◌∙◌}
 use native.Mathlib.Omega.{arith}
-use borrow.Author.Rules.{rules}
 use Rattle.chart.proofs.Records.{constructs-length}
 use Rattle.answer_constructs.proofs.Masters.{all-peers, like-peers}
 use Rattle.answer_constructs.proofs.peers.masters_like.Goals as goal

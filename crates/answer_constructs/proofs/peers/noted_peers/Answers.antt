@@ -4,7 +4,6 @@ use mathlib.Core.Path.{◌≡◌, refl}
 use Prim.Native.Nat.{◌<◌}
 use native.Mathlib.Omega.{arith}
 use lib.ListN.{length}
-use borrow.Author.Rules.{rules}
 use Rattle.chart.specs.Format.{decode}
 use Rattle.chart.proofs.Records.{constructs-length}
 use Rattle.answer_constructs.specs.Chains.{like_mask}

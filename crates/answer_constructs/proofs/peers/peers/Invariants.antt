@@ -1,11 +1,9 @@
 -- The invariants and measures of `answer_constructs::peers::peers`.
-use mathlib.Core.Path.{◌≡◌, refl, ◌∙◌}
+use mathlib.Core.Path.{◌≡◌}
 use Prim.Native.Nat.{◌-◌, ◌≤◌}
-use native.Mathlib.Omega.{arith}
 use Rattle.lists.specs.Mask.{mask_of}
 use Rattle.chart.specs.Format.{decode}
 use Rattle.answer_constructs.specs.Chains.{is_like}
-use Rattle.answer_constructs.proofs.Constructs.{test-next}
 use Rattle.answer_constructs.proofs.peers.peers.Given as goal
 
 abbrev pub invariant-loop-d : goal.invariant-loop-d

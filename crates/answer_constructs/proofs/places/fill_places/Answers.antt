@@ -1,14 +1,12 @@
 -- `answer_constructs::places::fill_places` meets its contract. The loop's invariant: the places of the constructs passed are there.
 -- Assumes nothing.
 use mathlib.Core.Path.{◌≡◌}
-use Prim.Native.Nat.{◌≤◌, ◌<◌, ◌-◌}
+use Prim.Native.Nat.{◌<◌, ◌-◌}
 use native.Mathlib.Omega.{arith}
 use lib.ListN.{length, length-set}
-use borrow.Author.Rules.{rules}
 use Rattle.chart.specs.Format.{decode}
 use Rattle.chart.specs.Scope.{parent_of}
 use Rattle.chart.proofs.Records.{constructs-length}
-use Rattle.answer_constructs.specs.Below.{Places}
 use Rattle.answer_constructs.proofs.Constructs.{parent-lower}
 use Rattle.answer_constructs.proofs.Laying.{places-none, places-more, parent-found}
 use Rattle.answer_constructs.proofs.places.fill_places.Goals as goal

@@ -1,7 +1,6 @@
 -- `answer_constructs::places::find` meets its contract.
 -- Assumes nothing.
 use mathlib.Core.Path.{refl}
-use borrow.Author.Rules.{rules}
 use Rattle.answer_constructs.proofs.places.find.Goals as goal
 
 pub returns : goal.returns

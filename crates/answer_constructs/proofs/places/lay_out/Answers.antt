@@ -1,10 +1,8 @@
 -- `answer_constructs::places::lay_out` meets its contract. The loop's invariant: the nodes passed have their masks.
 -- Assumes nothing.
 use mathlib.Core.Path.{◌≡◌, refl}
-use Prim.Native.Nat.{◌≤◌, ◌-◌}
+use Prim.Native.Nat.{◌-◌}
 use native.Mathlib.Omega.{arith}
-use Rattle.chart.specs.Format.{decode}
-use Rattle.answer_constructs.specs.Below.{LaidOut}
 use Rattle.answer_constructs.proofs.Nodes.{kind-known}
 use Rattle.answer_constructs.proofs.Laying.{laid_more}
 use Rattle.answer_constructs.proofs.places.lay_out.Goals as goal

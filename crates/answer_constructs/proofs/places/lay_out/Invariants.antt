@@ -1,11 +1,7 @@
 -- The invariants and measures of `answer_constructs::places::lay_out`.
-use mathlib.Core.Path.{◌≡◌, refl}
 use Prim.Native.Nat.{◌≤◌, ◌-◌}
-use native.Mathlib.Omega.{arith}
 use Rattle.chart.specs.Format.{decode}
 use Rattle.answer_constructs.specs.Below.{LaidOut}
-use Rattle.answer_constructs.proofs.Nodes.{kind-known}
-use Rattle.answer_constructs.proofs.Laying.{laid_more}
 use Rattle.answer_constructs.proofs.places.lay_out.Given as goal
 
 abbrev pub invariant-loop-x : goal.invariant-loop-x

@@ -1,10 +1,9 @@
 -- `answer_constructs::sizes::missing_of` meets its contract. The loop's invariant: the mask has the constructs passed.
 -- Assumes nothing.
 use mathlib.Core.Path.{◌≡◌, refl, ◌∙◌}
-use Prim.Native.Nat.{◌-◌, ◌≤◌}
+use Prim.Native.Nat.{◌-◌}
 use native.Mathlib.Omega.{arith}
 use Rattle.lists.specs.Mask.{mask_of}
-use Rattle.chart.specs.Format.{decode}
 use Rattle.answer_constructs.specs.Chains.{is_over}
 use Rattle.answer_constructs.proofs.Constructs.{test-next}
 use Rattle.answer_constructs.proofs.sizes.missing_of.Goals as goal

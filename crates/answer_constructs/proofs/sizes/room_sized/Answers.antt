@@ -4,7 +4,6 @@ use mathlib.Core.Path.{◌≡◌, sym, ◌∙◌}
 use mathlib.Core.Bool.{cond}
 use mathlib.Core.List.{[]}
 use mathlib.Core.Option.{none, some}
-use borrow.Author.Rules.{rules}
 use Rattle.chart.specs.Refusal.{first_of}
 use Rattle.theory_answers.specs.Size.{size_rows}
 use Rattle.output.specs.Output.{output_rows}

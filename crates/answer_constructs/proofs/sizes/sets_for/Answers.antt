@@ -1,7 +1,6 @@
 -- `answer_constructs::sizes::sets_for` meets its contract.
 -- Assumes nothing.
 use mathlib.Core.Path.{refl}
-use borrow.Author.Rules.{rules}
 use Rattle.answer_constructs.proofs.Lacked.{over-lacked}
 use Rattle.answer_constructs.proofs.sizes.sets_for.Goals as goal
 

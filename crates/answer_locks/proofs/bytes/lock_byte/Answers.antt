@@ -1,8 +1,6 @@
 -- `answer_locks::bytes::lock_byte` meets its contract.
 -- Assumes nothing.
 use mathlib.Core.Path.{sym, ◌∙◌}
-use borrow.Author.Rules.{rules}
-use borrow.Author.Tests.{not-true, not-false}
 use Rattle.answer_locks.specs.Bytes.{byte_by}
 use Rattle.answer_locks.proofs.bytes.lock_byte.Goals as goal
 

@@ -1,11 +1,11 @@
 -- `answer_locks::bytes::put_bytes` meets its contract. The loop's invariant: the constructs passed have their bytes, and the rest stays.
 -- Assumes nothing.
 use mathlib.Core.Path.{◌≡◌, refl, ◌∙◌}
-use Prim.Native.Nat.{◌-◌, ◌≤◌, ◌<◌}
+use Prim.Native.Nat.{◌-◌, ◌<◌}
 use native.Mathlib.Omega.{arith}
 use lib.ListN.{length, get_or, length-set}
 use Rattle.lists.specs.Store.{at_set, stored}
-use Rattle.answer_locks.specs.Bytes.{byte_by, Put}
+use Rattle.answer_locks.specs.Bytes.{byte_by}
 use Rattle.answer_locks.proofs.bytes.put_bytes.Goals as goal
 
 pub loop-c-init : goal.loop-c-init

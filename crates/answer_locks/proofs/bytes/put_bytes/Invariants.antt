@@ -1,10 +1,6 @@
 -- The invariants and measures of `answer_locks::bytes::put_bytes`.
-use mathlib.Core.Path.{◌≡◌, refl, ◌∙◌}
-use Prim.Native.Nat.{◌-◌, ◌≤◌, ◌<◌}
-use native.Mathlib.Omega.{arith}
-use lib.ListN.{length, get_or, length-set}
-use Rattle.lists.specs.Store.{at_set, stored}
-use Rattle.answer_locks.specs.Bytes.{byte_by, Put}
+use Prim.Native.Nat.{◌-◌, ◌≤◌}
+use Rattle.answer_locks.specs.Bytes.{Put}
 use Rattle.answer_locks.proofs.bytes.put_bytes.Given as goal
 
 abbrev pub invariant-loop-c : goal.invariant-loop-c

@@ -1,12 +1,9 @@
 -- The invariants and measures of `answer_locks::fitting::close_lacking`.
-use mathlib.Core.Path.{◌≡◌, ◌∙◌}
+use mathlib.Core.Path.{◌≡◌}
 use mathlib.Core.Bool.{◌&&◌, not}
 use Prim.Native.Nat.{ℕ, ◌-◌, ◌≤◌, ◌<◌}
-use native.Mathlib.Omega.{arith}
 use lib.Dec.{eqb}
-use lib.ListN.{length, get_or, length-set}
-use borrow.Author.Rules.{rules}
-use Rattle.lists.specs.Store.{stored}
+use lib.ListN.{length, get_or}
 use Rattle.answer_constructs.specs.Marks.{held_in}
 use Rattle.answer_locks.specs.Fitting.{lacking}
 use Rattle.answer_locks.proofs.fitting.close_lacking.Given as goal

@@ -2,7 +2,6 @@
 -- Assumes nothing.
 use mathlib.Core.Path.{sym, ◌∙◌}
 use lib.Dec.{eqb}
-use borrow.Author.Rules.{rules}
 use Rattle.lists.specs.Truth.{and-false, and-true}
 use Rattle.answer_locks.specs.Fitting.{lacking}
 use Rattle.answer_locks.proofs.fitting.shut_flag.Goals as goal

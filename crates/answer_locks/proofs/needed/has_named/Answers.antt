@@ -1,7 +1,6 @@
 -- `answer_locks::needed::has_named` meets its contract.
 -- Assumes nothing.
 use mathlib.Core.Path.{sym, ◌∙◌}
-use borrow.Author.Rules.{rules}
 use Rattle.answer_locks.specs.Search.{has_named}
 use Rattle.answer_locks.proofs.needed.has_named.Goals as goal
 

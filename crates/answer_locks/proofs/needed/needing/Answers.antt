@@ -5,7 +5,7 @@ use Prim.Native.Nat.{◌-◌}
 use native.Mathlib.Omega.{arith}
 use lib.Bits.{and_le_r}
 use Rattle.answer_locks.specs.Search.{has_named}
-use Rattle.answer_locks.proofs.Picking.{Picking, picking-none, picking-more, picking-all}
+use Rattle.answer_locks.proofs.Picking.{picking-none, picking-more, picking-all}
 use Rattle.answer_locks.proofs.needed.needing.Goals as goal
 
 pub loop-rest-init : goal.loop-rest-init

@@ -1,13 +1,11 @@
 -- `answer_locks::needed::search` meets its contract. The loop's invariant: the nodes passed are tried.
 -- Assumes nothing.
 use mathlib.Core.Path.{◌≡◌, subst}
-use mathlib.Core.List.{List}
-use Prim.Native.Nat.{ℕ, ◌-◌, ◌≤◌, ◌<◌}
+use Prim.Native.Nat.{◌-◌, ◌<◌}
 use native.Mathlib.Omega.{arith}
 use lib.ListN.{get_or}
 use Rattle.answer_pairs.specs.declared.rules.Profile.{Profile}
-use Rattle.answer_met.specs.Meets.{Named}
-use Rattle.answer_locks.specs.Search.{Tries, Searched}
+use Rattle.answer_locks.specs.Search.{Tries}
 use Rattle.answer_locks.proofs.Turns.{searched-none, searched-more}
 use Rattle.answer_locks.proofs.needed.search.Goals as goal
 

@@ -1,13 +1,8 @@
 -- The invariants and measures of `answer_locks::needed::search`.
-use mathlib.Core.Path.{◌≡◌, subst}
 use mathlib.Core.List.{List}
-use Prim.Native.Nat.{ℕ, ◌-◌, ◌≤◌, ◌<◌}
-use native.Mathlib.Omega.{arith}
-use lib.ListN.{get_or}
-use Rattle.answer_pairs.specs.declared.rules.Profile.{Profile}
+use Prim.Native.Nat.{ℕ, ◌-◌, ◌≤◌}
 use Rattle.answer_met.specs.Meets.{Named}
-use Rattle.answer_locks.specs.Search.{Tries, Searched}
-use Rattle.answer_locks.proofs.Turns.{searched-none, searched-more}
+use Rattle.answer_locks.specs.Search.{Searched}
 use Rattle.answer_locks.proofs.needed.search.Given as goal
 
 abbrev pub invariant-loop-x : goal.invariant-loop-x

@@ -1,7 +1,6 @@
 -- `answer_locks::needed::skips` meets its contract.
 -- Assumes nothing.
 use mathlib.Core.Path.{refl}
-use borrow.Author.Rules.{rules}
 use Rattle.lists.specs.Truth.{clash}
 use Rattle.answer_locks.specs.Search.{shut, bare, again}
 use Rattle.answer_locks.proofs.needed.skips.Goals as goal

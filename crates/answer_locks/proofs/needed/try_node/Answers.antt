@@ -1,6 +1,5 @@
 -- `answer_locks::needed::try_node` meets its contract: the node is skipped, or tried.
 -- Assumes nothing.
-use borrow.Author.Rules.{rules}
 use Rattle.answer_locks.proofs.Turns.{skip-tries, new-tries}
 use Rattle.answer_locks.proofs.needed.try_node.Goals as goal
 

@@ -1,7 +1,6 @@
 -- `answer_nodes::sets::count_from` meets its contract.
 -- Assumes nothing.
 use native.Mathlib.Omega.{arith}
-use borrow.Author.Rules.{rules}
 use Rattle.answer_nodes.proofs.sets.count_from.Goals as goal
 
 pub returns-then-n-first : goal.returns-then-n-first

@@ -1,12 +1,11 @@
 -- `answer_nodes::sets::gather` meets its contract. The loop's invariant: once the run is added, the sets have the nodes passed.
 -- Assumes nothing.
-use mathlib.Core.Path.{◌≡◌, refl, sym, ◌∙◌}
-use Prim.Native.Nat.{ℕ, ◌-◌, ◌≤◌, ◌<◌}
+use mathlib.Core.Path.{refl, sym, ◌∙◌}
+use Prim.Native.Nat.{◌-◌}
 use native.Mathlib.Omega.{arith}
-use lib.ListN.{length}
 use Rattle.lists.specs.Mask.{mask_of}
 use Rattle.lists.specs.Bits.{mask_next}
-use Rattle.answer_nodes.specs.Gathered.{having, pending}
+use Rattle.answer_nodes.specs.Gathered.{having}
 use Rattle.answer_nodes.proofs.Runs.{none-pending, mask-short, none-having}
 use Rattle.answer_nodes.proofs.sets.gather.Goals as goal
 

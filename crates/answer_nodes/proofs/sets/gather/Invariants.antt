@@ -1,12 +1,9 @@
 -- The invariants and measures of `answer_nodes::sets::gather`.
-use mathlib.Core.Path.{◌≡◌, refl, sym, ◌∙◌}
+use mathlib.Core.Path.{◌≡◌}
 use Prim.Native.Nat.{ℕ, ◌-◌, ◌≤◌, ◌<◌}
-use native.Mathlib.Omega.{arith}
 use lib.ListN.{length}
 use Rattle.lists.specs.Mask.{mask_of}
-use Rattle.lists.specs.Bits.{mask_next}
 use Rattle.answer_nodes.specs.Gathered.{having, pending}
-use Rattle.answer_nodes.proofs.Runs.{none-pending, mask-short, none-having}
 use Rattle.answer_nodes.proofs.sets.gather.Given as goal
 
 abbrev pub invariant-loop-j : goal.invariant-loop-j

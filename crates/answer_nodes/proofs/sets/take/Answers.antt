@@ -1,7 +1,6 @@
 -- `answer_nodes::sets::take` meets its contract.
 -- Assumes nothing.
 use Prim.Native.Nat.{◌^◌}
-use borrow.Author.Rules.{rules}
 use borrow.Author.Tests.{eq-eqb, ne_eqb}
 use Rattle.answer_nodes.proofs.Runs.{joins, starts}
 use Rattle.answer_nodes.proofs.sets.take.Goals as goal

@@ -3,7 +3,6 @@
 use mathlib.Core.Path.{◌≡◌, sym, ◌∙◌}
 use mathlib.Core.Bool.{false}
 use lib.Bits.{bit_or}
-use borrow.Author.Rules.{rules}
 use Rattle.answer_pairs.specs.Rules.{by_size, answer_by, sized-by, lacks-none}
 use Rattle.answer_pairs.proofs.rules.answer_by.Goals as goal
 

@@ -1,6 +1,5 @@
 -- `answer_pairs::rules::pair` meets its contract.
 -- Assumes nothing.
-use borrow.Author.Rules.{rules}
 use Rattle.answer_pairs.specs.Rules.{answer-by}
 use Rattle.answer_pairs.proofs.rules.pair.Goals as goal
 

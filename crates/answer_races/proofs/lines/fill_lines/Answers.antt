@@ -1,11 +1,9 @@
 -- `answer_races::lines::fill_lines` meets its contract. The loop's invariant: the lines passed are there, and what is kept is of some node's masks.
 -- Assumes nothing.
-use mathlib.Core.Path.{◌≡◌, subst, sym, ◌∙◌}
-use mathlib.Core.List.{List, []}
-use Prim.Native.Nat.{ℕ, ◌-◌, ◌≤◌, ◌<◌}
+use mathlib.Core.Path.{subst, sym, ◌∙◌}
+use Prim.Native.Nat.{◌-◌, ◌<◌}
 use native.Mathlib.Omega.{arith}
-use lib.ListN.{length, get_or, length-set}
-use Rattle.answer_pairs.specs.Rules.{profile_at}
+use lib.ListN.{get_or, length-set}
 use Rattle.answer_pairs.specs.declared.rules.Profile.{Profile}
 use Rattle.answer_nodes.proofs.Joining.{stored_row}
 use Rattle.answer_met.specs.Meets.{meets, NodeSet}

@@ -1,12 +1,9 @@
 -- The invariants and measures of `answer_races::lines::fill_lines`.
-use mathlib.Core.Path.{◌≡◌, subst, sym, ◌∙◌}
+use mathlib.Core.Path.{◌≡◌}
 use mathlib.Core.List.{List, []}
 use Prim.Native.Nat.{ℕ, ◌-◌, ◌≤◌, ◌<◌}
-use native.Mathlib.Omega.{arith}
-use lib.ListN.{length, get_or, length-set}
+use lib.ListN.{length, get_or}
 use Rattle.answer_pairs.specs.Rules.{profile_at}
-use Rattle.answer_pairs.specs.declared.rules.Profile.{Profile}
-use Rattle.answer_nodes.proofs.Joining.{stored_row}
 use Rattle.answer_met.specs.Meets.{meets, NodeSet}
 use Rattle.answer_races.specs.Lines.{LineOf}
 use Rattle.answer_races.proofs.lines.fill_lines.Given as goal

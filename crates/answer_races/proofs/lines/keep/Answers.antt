@@ -1,7 +1,6 @@
 -- `answer_races::lines::keep` meets its contract.
 -- Assumes nothing.
 use mathlib.Core.Path.{sym, subst}
-use borrow.Author.Rules.{rules}
 use Rattle.answer_pairs.specs.declared.rules.Profile.{Profile}
 use Rattle.answer_met.specs.Meets.{meets, NodeSet}
 use Rattle.answer_races.proofs.lines.keep.Goals as goal

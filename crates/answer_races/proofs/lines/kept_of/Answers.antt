@@ -1,7 +1,6 @@
 -- `answer_races::lines::kept_of` meets its contract.
 -- Assumes nothing.
 use mathlib.Core.Path.{refl}
-use borrow.Author.Rules.{rules}
 use Rattle.answer_races.proofs.lines.kept_of.Goals as goal
 
 pub returns : goal.returns

@@ -1,6 +1,5 @@
 -- `answer_races::lines::line_of` meets its contract.
 -- Assumes nothing.
-use borrow.Author.Rules.{rules}
 use Rattle.answer_races.proofs.LineBits.{line-by}
 use Rattle.answer_races.proofs.lines.line_of.Goals as goal
 

@@ -11,7 +11,7 @@ use Rattle.lists.specs.Triangle.{pairs_from, pair_count}
 use Rattle.theory_calls.specs.Access.{total, access_at}
 use Rattle.answer_races.specs.Bytes.{by_line}
 use Rattle.answer_races.specs.PairsLines.{line_byte}
-use Rattle.answer_races.proofs.RowsLaws.{few-pairs, Long, lent-long, row_fits}
+use Rattle.answer_races.proofs.RowsLaws.{few-pairs, lent-long, row_fits}
 use Rattle.answer_races.proofs.pairs.fill_races.Goals as goal
 
 pub link-requires : goal.link-requires

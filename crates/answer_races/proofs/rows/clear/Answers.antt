@@ -1,10 +1,10 @@
 -- `answer_races::rows::clear` meets its contract. The loop's invariant: the bytes passed are 0.
 -- Assumes nothing.
 use mathlib.Core.Path.{◌≡◌, refl, ◌∙◌}
-use Prim.Native.Nat.{ℕ, ◌-◌, ◌≤◌, ◌<◌}
+use Prim.Native.Nat.{◌-◌}
 use native.Mathlib.Omega.{arith}
 use native.Mathlib.Decide.{dec_lt}
-use lib.ListN.{length, get_or, length-set, get_or-eq_default}
+use lib.ListN.{length-set, get_or-eq_default}
 use Rattle.lists.specs.Store.{stored}
 use Rattle.answer_races.proofs.rows.clear.Goals as goal
 

@@ -1,10 +1,7 @@
 -- The invariants and measures of `answer_races::rows::clear`.
-use mathlib.Core.Path.{◌≡◌, refl, ◌∙◌}
+use mathlib.Core.Path.{◌≡◌}
 use Prim.Native.Nat.{ℕ, ◌-◌, ◌≤◌, ◌<◌}
-use native.Mathlib.Omega.{arith}
-use native.Mathlib.Decide.{dec_lt}
-use lib.ListN.{length, get_or, length-set, get_or-eq_default}
-use Rattle.lists.specs.Store.{stored}
+use lib.ListN.{length, get_or}
 use Rattle.answer_races.proofs.rows.clear.Given as goal
 
 abbrev pub invariant-loop-k : goal.invariant-loop-k

@@ -4,7 +4,6 @@ use mathlib.Core.Path.{◌≡◌, sym, subst, ap, ◌∙◌}
 use Prim.Native.Nat.{ℕ, ◌+◌, ◌*◌, ◌<◌}
 use native.Mathlib.Omega.{arith}
 use lib.ListN.{length, set, length-set}
-use borrow.Author.Rules.{rules}
 use Rattle.lists.specs.Tab.{tab, tab-length}
 use Rattle.theory_calls.specs.Access.{total, access_at}
 use Rattle.answer_races.specs.Linked.{Linked}

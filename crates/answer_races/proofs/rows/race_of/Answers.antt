@@ -3,7 +3,6 @@
 use mathlib.Core.Path.{ap, ◌∙◌}
 use Prim.Native.Nat.{ℕ}
 use native.Mathlib.Omega.{arith}
-use borrow.Author.Rules.{rules}
 use Rattle.theory_calls.specs.Access.{access_at}
 use Rattle.answer_races.specs.Bytes.{line_race}
 use Rattle.answer_races.proofs.rows.race_of.Goals as goal

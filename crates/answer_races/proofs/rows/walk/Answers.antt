@@ -1,14 +1,12 @@
 -- `answer_races::rows::walk` meets its contract. The loop's invariant: the row is walked up to and with access j, and k is the next.
 -- Assumes nothing.
 use mathlib.Core.Path.{◌≡◌, refl, ap, ◌∙◌}
-use mathlib.Core.List.{List}
 use Prim.Native.Nat.{ℕ, ◌+◌, ◌*◌, ◌-◌, ◌≤◌, ◌<◌}
 use native.Mathlib.Omega.{arith}
-use lib.ListN.{length, get_or, set, length-set}
+use lib.ListN.{length, set, length-set}
 use Rattle.lists.specs.Tab.{tab}
 use Rattle.theory_calls.specs.Access.{total, access_at}
 use Rattle.answer_races.specs.Linked.{FirstFrom, Beside}
-use Rattle.answer_races.specs.Bytes.{by_line}
 use Rattle.answer_races.specs.Walked.{Walked}
 use Rattle.answer_races.proofs.Visits.{walk-visit, walk_end, byte-here, byte-other}
 use Rattle.answer_races.proofs.rows.walk.Invariants.{bytes}

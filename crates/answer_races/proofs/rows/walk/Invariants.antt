@@ -1,15 +1,11 @@
 -- The invariants and measures of `answer_races::rows::walk`.
-use mathlib.Core.Path.{◌≡◌, refl, ap, ◌∙◌}
+use mathlib.Core.Path.{◌≡◌}
 use mathlib.Core.List.{List}
 use Prim.Native.Nat.{ℕ, ◌+◌, ◌*◌, ◌-◌, ◌≤◌, ◌<◌}
-use native.Mathlib.Omega.{arith}
-use lib.ListN.{length, get_or, set, length-set}
-use Rattle.lists.specs.Tab.{tab}
+use lib.ListN.{length, get_or}
 use Rattle.theory_calls.specs.Access.{total, access_at}
-use Rattle.answer_races.specs.Linked.{FirstFrom, Beside}
 use Rattle.answer_races.specs.Bytes.{by_line}
 use Rattle.answer_races.specs.Walked.{Walked}
-use Rattle.answer_races.proofs.Visits.{walk-visit, walk_end, byte-here, byte-other}
 use Rattle.answer_races.proofs.rows.walk.Given as goal
 
 abbrev pub bytes : List ℕ → ℕ → List ℕ → ℕ → ℕ

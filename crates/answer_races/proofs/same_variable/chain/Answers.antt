@@ -6,7 +6,7 @@ use native.Mathlib.Omega.{arith}
 use lib.ListN.{length, length-replicate, length-set}
 use Rattle.theory_calls.specs.Access.{total}
 use Rattle.answer_races.specs.Linked.{bucket}
-use Rattle.answer_races.proofs.Chains.{Heads, Chains, heads-none, heads-more, chains-more}
+use Rattle.answer_races.proofs.Chains.{heads-none, heads-more, chains-more}
 use Rattle.answer_races.proofs.same_variable.chain.Goals as goal
 
 pub loop-i-init : goal.loop-i-init

@@ -1,11 +1,9 @@
 -- The invariants and measures of `answer_races::same_variable::chain`.
-use mathlib.Core.Path.{◌≡◌, ◌∙◌}
-use Prim.Native.Nat.{ℕ, ◌+◌, ◌-◌, ◌/◌, ◌≤◌, ◌<◌}
-use native.Mathlib.Omega.{arith}
-use lib.ListN.{length, length-replicate, length-set}
-use Rattle.theory_calls.specs.Access.{total}
+use mathlib.Core.Path.{◌≡◌}
+use Prim.Native.Nat.{◌-◌, ◌/◌, ◌≤◌}
+use lib.ListN.{length}
 use Rattle.answer_races.specs.Linked.{bucket}
-use Rattle.answer_races.proofs.Chains.{Heads, Chains, heads-none, heads-more, chains-more}
+use Rattle.answer_races.proofs.Chains.{Heads, Chains}
 use Rattle.answer_races.proofs.same_variable.chain.Given as goal
 
 abbrev pub invariant-loop-i : goal.invariant-loop-i

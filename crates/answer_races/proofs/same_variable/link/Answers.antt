@@ -3,7 +3,6 @@
 use mathlib.Core.Path.{◌≡◌, refl, subst}
 use Prim.Native.Nat.{ℕ, ◌+◌, ◌-◌, ◌≤◌, ◌<◌}
 use native.Mathlib.Omega.{arith}
-use lib.ListN.{length}
 use Rattle.theory_calls.specs.Access.{total, access_at}
 use Rattle.answer_races.specs.Linked.{FirstFrom, Beside, Linked}
 use Rattle.answer_races.proofs.Links.{beside-write, link-length, linked-more}

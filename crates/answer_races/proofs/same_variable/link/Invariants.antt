@@ -1,11 +1,9 @@
 -- The invariants and measures of `answer_races::same_variable::link`.
-use mathlib.Core.Path.{◌≡◌, refl, subst}
-use Prim.Native.Nat.{ℕ, ◌+◌, ◌-◌, ◌≤◌, ◌<◌}
-use native.Mathlib.Omega.{arith}
+use mathlib.Core.Path.{◌≡◌}
+use Prim.Native.Nat.{◌-◌, ◌≤◌}
 use lib.ListN.{length}
-use Rattle.theory_calls.specs.Access.{total, access_at}
-use Rattle.answer_races.specs.Linked.{FirstFrom, Beside, Linked}
-use Rattle.answer_races.proofs.Links.{beside-write, link-length, linked-more}
+use Rattle.theory_calls.specs.Access.{total}
+use Rattle.answer_races.specs.Linked.{Linked}
 use Rattle.answer_races.proofs.same_variable.link.Given as goal
 
 abbrev pub invariant-loop-i : goal.invariant-loop-i

@@ -1,12 +1,12 @@
 -- `answer_races::same_variable::next_of` meets its contract. The loop's invariant: no access passed is of the variable.
 -- Assumes nothing.
 use mathlib.Core.Path.{◌≡◌, sym, ◌∙◌}
-use Prim.Native.Nat.{◌+◌, ◌*◌, ◌-◌, ◌/◌, ◌≤◌, ◌<◌}
+use Prim.Native.Nat.{◌+◌, ◌*◌, ◌-◌, ◌≤◌, ◌<◌}
 use native.Mathlib.Omega.{arith}
 use lib.ListN.{length, get_or}
 use Rattle.theory_calls.specs.Access.{total}
 use Rattle.answer_races.specs.Linked.{FirstFrom, bucket}
-use Rattle.answer_races.proofs.Chains.{Sought, sought-first, sought-more, sought-found, sought-none}
+use Rattle.answer_races.proofs.Chains.{sought-first, sought-more, sought-found, sought-none}
 use Rattle.answer_races.proofs.same_variable.next_of.Goals as goal
 
 pub variable_at-variable-requires : goal.variable_at-variable-requires

@@ -1,11 +1,7 @@
 -- The invariants and measures of `answer_races::same_variable::next_of`.
-use mathlib.Core.Path.{◌≡◌, sym, ◌∙◌}
-use Prim.Native.Nat.{◌+◌, ◌*◌, ◌-◌, ◌/◌, ◌≤◌, ◌<◌}
-use native.Mathlib.Omega.{arith}
-use lib.ListN.{length, get_or}
-use Rattle.theory_calls.specs.Access.{total}
-use Rattle.answer_races.specs.Linked.{FirstFrom, bucket}
-use Rattle.answer_races.proofs.Chains.{Sought, sought-first, sought-more, sought-found, sought-none}
+use Prim.Native.Nat.{◌-◌, ◌/◌}
+use lib.ListN.{length}
+use Rattle.answer_races.proofs.Chains.{Sought}
 use Rattle.answer_races.proofs.same_variable.next_of.Given as goal
 
 abbrev pub invariant-loop-k : goal.invariant-loop-k

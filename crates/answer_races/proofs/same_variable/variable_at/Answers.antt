@@ -3,7 +3,6 @@
 use mathlib.Core.Path.{◌≡◌}
 use Prim.Native.Nat.{◌+◌, ◌*◌}
 use native.Mathlib.Omega.{arith}
-use borrow.Author.Rules.{rules}
 use Rattle.chart.specs.Format.{field}
 use Rattle.theory_calls.specs.Access.{access_at}
 use Rattle.answer_races.proofs.same_variable.variable_at.Goals as goal

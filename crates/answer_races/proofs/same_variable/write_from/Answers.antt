@@ -3,7 +3,6 @@
 use mathlib.Core.Path.{◌≡◌}
 use Prim.Native.Nat.{◌≤◌, ◌<◌}
 use native.Mathlib.Omega.{arith}
-use borrow.Author.Rules.{rules}
 use Rattle.theory_calls.specs.Access.{total, access_at}
 use Rattle.answer_races.proofs.Links.{write-none, write-here, write-later}
 use Rattle.answer_races.proofs.same_variable.write_from.Goals as goal

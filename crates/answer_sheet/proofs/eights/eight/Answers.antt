@@ -1,7 +1,6 @@
 -- `answer_sheet::eights::eight` meets its contract.
 -- Assumes nothing.
 use native.Mathlib.Omega.{arith}
-use borrow.Author.Rules.{rules}
 use Rattle.answer_sheet.proofs.Spreads.{plain-eight, full-eight}
 use Rattle.answer_sheet.proofs.eights.eight.Goals as goal
 

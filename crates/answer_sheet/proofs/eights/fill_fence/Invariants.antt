@@ -1,11 +1,9 @@
 -- The invariants and measures of `answer_sheet::eights::fill_fence`.
-use mathlib.Core.Path.{◌≡◌, refl, ◌∙◌}
+use mathlib.Core.Path.{◌≡◌}
 use mathlib.Core.Bool.{cond}
 use Prim.Native.Nat.{ℕ, ◌+◌, ◌*◌, ◌-◌, ◌≤◌, ◌<◌}
-use native.Mathlib.Omega.{arith}
 use lib.Dec.{eqb}
-use lib.ListN.{length, get_or, length-set}
-use Rattle.lists.specs.Store.{stored}
+use lib.ListN.{length, get_or}
 use Rattle.answer_sheet.specs.Fan.{fan}
 use Rattle.answer_sheet.proofs.eights.fill_fence.Given as goal
 

@@ -3,7 +3,7 @@
 use mathlib.Core.Path.{◌≡◌, refl, ◌∙◌}
 use Prim.Native.Nat.{ℕ, ◌+◌, ◌*◌, ◌-◌, ◌/◌, ◌%◌, ◌≤◌, ◌<◌}
 use native.Mathlib.Omega.{arith}
-use lib.ListN.{length, get_or, replicate, length-set}
+use lib.ListN.{get_or, replicate, length-set}
 use Rattle.lists.specs.Store.{stored}
 use Rattle.answer_sheet.specs.Fan.{fan}
 use Rattle.answer_sheet.proofs.Spreads.{bits_of, halved, low-most}

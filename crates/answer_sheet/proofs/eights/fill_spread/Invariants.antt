@@ -1,11 +1,9 @@
 -- The invariants and measures of `answer_sheet::eights::fill_spread`.
-use mathlib.Core.Path.{◌≡◌, refl, ◌∙◌}
-use Prim.Native.Nat.{ℕ, ◌+◌, ◌*◌, ◌-◌, ◌/◌, ◌%◌, ◌≤◌, ◌<◌}
-use native.Mathlib.Omega.{arith}
-use lib.ListN.{length, get_or, replicate, length-set}
-use Rattle.lists.specs.Store.{stored}
+use mathlib.Core.Path.{◌≡◌}
+use Prim.Native.Nat.{ℕ, ◌-◌, ◌≤◌, ◌<◌}
+use lib.ListN.{length, get_or}
 use Rattle.answer_sheet.specs.Fan.{fan}
-use Rattle.answer_sheet.proofs.Spreads.{bits_of, halved, low-most}
+use Rattle.answer_sheet.proofs.Spreads.{bits_of}
 use Rattle.answer_sheet.proofs.eights.fill_spread.Given as goal
 
 abbrev pub invariant-loop-b : goal.invariant-loop-b

@@ -1,12 +1,10 @@
 -- `answer_sheet::eights::pack` meets its contract. The loop's invariant: the covers passed, from the highest on, are the bytes of the word.
 -- Assumes nothing.
 use mathlib.Core.Path.{◌≡◌, refl, ◌∙◌}
-use mathlib.Core.Bool.{cond}
-use Prim.Native.Nat.{ℕ, ◌+◌, ◌-◌, ◌≤◌}
+use Prim.Native.Nat.{◌+◌, ◌-◌, ◌≤◌}
 use native.Mathlib.Omega.{arith}
 use lib.Dec.{eqb}
 use lib.ListN.{get_or}
-use mathlib.Core.List.{List}
 use Rattle.answer_sheet.specs.Fan.{fan, fan-same}
 use Rattle.answer_sheet.proofs.Spreads.{cover-most, pack-more}
 use Rattle.answer_sheet.proofs.eights.pack.Invariants.{cover_at}

@@ -1,13 +1,11 @@
 -- The invariants and measures of `answer_sheet::eights::pack`.
-use mathlib.Core.Path.{◌≡◌, refl, ◌∙◌}
+use mathlib.Core.Path.{◌≡◌}
 use mathlib.Core.Bool.{cond}
 use Prim.Native.Nat.{ℕ, ◌+◌, ◌-◌, ◌≤◌}
-use native.Mathlib.Omega.{arith}
 use lib.Dec.{eqb}
 use lib.ListN.{get_or}
 use mathlib.Core.List.{List}
-use Rattle.answer_sheet.specs.Fan.{fan, fan-same}
-use Rattle.answer_sheet.proofs.Spreads.{cover-most, pack-more}
+use Rattle.answer_sheet.specs.Fan.{fan}
 use Rattle.answer_sheet.proofs.eights.pack.Given as goal
 
 abbrev pub cover_at : List ℕ → ℕ → ℕ → ℕ

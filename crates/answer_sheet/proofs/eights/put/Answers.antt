@@ -1,9 +1,9 @@
 -- `answer_sheet::eights::put` meets its contract. The loop's invariant: the bytes passed are there, and the others are left of the word.
 -- Assumes nothing.
 use mathlib.Core.Path.{◌≡◌, refl, sym, ◌∙◌}
-use Prim.Native.Nat.{ℕ, ◌+◌, ◌*◌, ◌-◌, ◌/◌, ◌%◌, ◌^◌, ◌≤◌, ◌<◌}
+use Prim.Native.Nat.{ℕ, ◌+◌, ◌*◌, ◌-◌, ◌/◌, ◌%◌, ◌^◌}
 use native.Mathlib.Omega.{arith}
-use lib.ListN.{length, get_or, set, length-set}
+use lib.ListN.{length-set}
 use lib.Pow.{shr-shr}
 use lib.Seq.{get_or-set_other}
 use Rattle.lists.specs.Store.{at_set}

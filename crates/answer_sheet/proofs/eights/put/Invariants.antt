@@ -1,11 +1,7 @@
 -- The invariants and measures of `answer_sheet::eights::put`.
-use mathlib.Core.Path.{◌≡◌, refl, sym, ◌∙◌}
+use mathlib.Core.Path.{◌≡◌}
 use Prim.Native.Nat.{ℕ, ◌+◌, ◌*◌, ◌-◌, ◌/◌, ◌%◌, ◌^◌, ◌≤◌, ◌<◌}
-use native.Mathlib.Omega.{arith}
-use lib.ListN.{length, get_or, set, length-set}
-use lib.Pow.{shr-shr}
-use lib.Seq.{get_or-set_other}
-use Rattle.lists.specs.Store.{at_set}
+use lib.ListN.{length, get_or}
 use Rattle.answer_sheet.proofs.eights.put.Given as goal
 
 abbrev pub invariant-loop-k : goal.invariant-loop-k

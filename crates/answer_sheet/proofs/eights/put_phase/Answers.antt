@@ -1,9 +1,9 @@
 -- `answer_sheet::eights::put_phase` meets its contract. The loop's invariant: the entries passed are there, and those below the word are kept.
 -- Assumes nothing.
 use mathlib.Core.Path.{refl}
-use Prim.Native.Nat.{ℕ, ◌-◌, ◌/◌, ◌%◌, ◌^◌}
+use Prim.Native.Nat.{◌-◌}
 use native.Mathlib.Omega.{arith}
-use Rattle.answer_sheet.proofs.Spreads.{ones, Filled, eights-more}
+use Rattle.answer_sheet.proofs.Spreads.{ones, eights-more}
 use Rattle.answer_sheet.proofs.eights.put_phase.Invariants.{number}
 use Rattle.answer_sheet.proofs.eights.put_phase.Goals as goal
 

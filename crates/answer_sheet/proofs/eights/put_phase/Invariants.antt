@@ -1,8 +1,6 @@
 -- The invariants and measures of `answer_sheet::eights::put_phase`.
-use mathlib.Core.Path.{refl}
 use Prim.Native.Nat.{ℕ, ◌-◌, ◌/◌, ◌%◌, ◌^◌}
-use native.Mathlib.Omega.{arith}
-use Rattle.answer_sheet.proofs.Spreads.{ones, Filled, eights-more}
+use Rattle.answer_sheet.proofs.Spreads.{Filled}
 use Rattle.answer_sheet.proofs.eights.put_phase.Given as goal
 
 abbrev pub number : ℕ → ℕ → ℕ

@@ -4,7 +4,7 @@ use mathlib.Core.Path.{refl}
 use Prim.Native.Nat.{◌-◌}
 use native.Mathlib.Omega.{arith}
 use Rattle.answer_sheet.specs.Eights.{digit}
-use Rattle.answer_sheet.proofs.Spreads.{none-plain, digit-most, Filled, eights-more}
+use Rattle.answer_sheet.proofs.Spreads.{none-plain, digit-most, eights-more}
 use Rattle.answer_sheet.proofs.eights.put_word.Goals as goal
 
 pub loop-i-init : goal.loop-i-init

@@ -1,9 +1,7 @@
 -- The invariants and measures of `answer_sheet::eights::put_word`.
-use mathlib.Core.Path.{refl}
 use Prim.Native.Nat.{◌-◌}
-use native.Mathlib.Omega.{arith}
 use Rattle.answer_sheet.specs.Eights.{digit}
-use Rattle.answer_sheet.proofs.Spreads.{none-plain, digit-most, Filled, eights-more}
+use Rattle.answer_sheet.proofs.Spreads.{Filled}
 use Rattle.answer_sheet.proofs.eights.put_word.Given as goal
 
 abbrev pub invariant-loop-i : goal.invariant-loop-i

@@ -1,15 +1,11 @@
 -- `answer_sheet::rows::fill_rules` meets its contract. The loop's invariant: the sets of the rules passed are there.
 -- Assumes nothing.
-use mathlib.Core.Path.{◌≡◌, ◌∙◌}
-use mathlib.Core.List.{List}
-use Prim.Native.Nat.{ℕ, ◌*◌, ◌-◌, ◌≤◌, ◌<◌}
+use mathlib.Core.Path.{◌∙◌}
+use Prim.Native.Nat.{◌-◌}
 use native.Mathlib.Omega.{arith}
-use lib.Bits.{bit_and}
-use lib.ListN.{length, get_or, length-set}
+use lib.ListN.{length-set}
 use Rattle.lists.specs.Store.{stored}
-use Rattle.answer_constructs.specs.Marks.{held_in}
-use Rattle.answer_nodes.specs.NodeSets.{InSets, SharedFrom}
-use Rattle.answer_sheet.proofs.rows.fill_rules.Invariants.{Filled, Shares}
+use Rattle.answer_sheet.proofs.rows.fill_rules.Invariants.{Shares}
 use Rattle.answer_sheet.proofs.rows.fill_rules.Goals as goal
 
 -- the set of rule j, of word w

@@ -1,11 +1,9 @@
 -- The invariants and measures of `answer_sheet::rows::fill_rules`.
-use mathlib.Core.Path.{◌≡◌, ◌∙◌}
+use mathlib.Core.Path.{◌≡◌}
 use mathlib.Core.List.{List}
 use Prim.Native.Nat.{ℕ, ◌*◌, ◌-◌, ◌≤◌, ◌<◌}
-use native.Mathlib.Omega.{arith}
 use lib.Bits.{bit_and}
-use lib.ListN.{length, get_or, length-set}
-use Rattle.lists.specs.Store.{stored}
+use lib.ListN.{length, get_or}
 use Rattle.answer_constructs.specs.Marks.{held_in}
 use Rattle.answer_nodes.specs.NodeSets.{InSets, SharedFrom}
 use Rattle.answer_sheet.proofs.rows.fill_rules.Given as goal

@@ -1,6 +1,5 @@
 -- `answer_sheet::rows::give` meets its contract.
 -- Assumes nothing.
-use borrow.Author.Rules.{rules}
 use Rattle.answer_sheet.specs.Eights.{digit}
 use Rattle.answer_sheet.proofs.Ranks.{given-digit}
 use Rattle.answer_sheet.proofs.rows.give.Goals as goal

@@ -1,7 +1,6 @@
 -- `answer_sheet::rows::keep_row` meets its contract.
 -- Assumes nothing.
 use mathlib.Core.Path.{refl, sym}
-use borrow.Author.Rules.{rules}
 use Rattle.answer_sheet.proofs.rows.keep_row.Goals as goal
 
 pub returns-then-closed-ne0 : goal.returns-then-closed-ne0

@@ -3,7 +3,7 @@
 -- Assumes nothing.
 use mathlib.Core.Path.{◌≡◌, ap, sym, ◌∙◌}
 use mathlib.Core.Bool.{Bool, cond}
-use Prim.Native.Nat.{ℕ, ◌+◌, ◌-◌, ◌≤◌}
+use Prim.Native.Nat.{ℕ, ◌+◌, ◌-◌}
 use native.Mathlib.Omega.{arith}
 use lib.ListN.{get_or}
 use Rattle.lists.specs.Range.{any}
@@ -12,7 +12,7 @@ use Rattle.lists.specs.Bits.{has}
 use Rattle.answer_pairs.specs.Rules.{numbered, by_rules}
 use Rattle.answer_nodes.proofs.BitTests.{has-and, has-without}
 use Rattle.answer_sheet.specs.Eights.{digit}
-use Rattle.answer_sheet.proofs.Ranks.{Ruled, none-given, blank-left, next-left, next-number}
+use Rattle.answer_sheet.proofs.Ranks.{none-given, blank-left, next-left, next-number}
 use Rattle.answer_sheet.proofs.rows.planes.Goals as goal
 
 pub loop-k-init : goal.loop-k-init

@@ -1,16 +1,9 @@
 -- The invariants and measures of `answer_sheet::rows::planes`.
-use mathlib.Core.Path.{◌≡◌, ap, sym, ◌∙◌}
-use mathlib.Core.Bool.{Bool, cond}
-use Prim.Native.Nat.{ℕ, ◌+◌, ◌-◌, ◌≤◌}
-use native.Mathlib.Omega.{arith}
+use Prim.Native.Nat.{ℕ, ◌-◌, ◌≤◌}
 use lib.ListN.{get_or}
-use Rattle.lists.specs.Range.{any}
-use Rattle.lists.specs.Truth.{and-true}
 use Rattle.lists.specs.Bits.{has}
-use Rattle.answer_pairs.specs.Rules.{numbered, by_rules}
-use Rattle.answer_nodes.proofs.BitTests.{has-and, has-without}
 use Rattle.answer_sheet.specs.Eights.{digit}
-use Rattle.answer_sheet.proofs.Ranks.{Ruled, none-given, blank-left, next-left, next-number}
+use Rattle.answer_sheet.proofs.Ranks.{Ruled}
 use Rattle.answer_sheet.proofs.rows.planes.Given as goal
 
 abbrev pub invariant-loop-k : goal.invariant-loop-k

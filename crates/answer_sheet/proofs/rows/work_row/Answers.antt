@@ -4,7 +4,6 @@ use mathlib.Core.Path.{◌≡◌, ◌∙◌}
 use Prim.Native.Nat.{◌+◌, ◌*◌}
 use native.Mathlib.Omega.{arith}
 use lib.ListN.{get_or}
-use borrow.Author.Rules.{rules}
 use Rattle.answer_nodes.proofs.Joining.{three-words}
 use Rattle.answer_sheet.specs.Sheet.{row_of}
 use Rattle.answer_sheet.proofs.RowSets.{low-row, middle-row, high-row}

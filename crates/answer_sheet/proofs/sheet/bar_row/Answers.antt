@@ -1,9 +1,9 @@
 -- `answer_sheet::sheet::bar_row` meets its contract. The loop's invariant: the entries passed are there.
 -- Assumes nothing.
 use mathlib.Core.Path.{◌≡◌, refl, ◌∙◌}
-use Prim.Native.Nat.{ℕ, ◌-◌, ◌≤◌, ◌<◌}
+use Prim.Native.Nat.{◌-◌}
 use native.Mathlib.Omega.{arith}
-use lib.ListN.{length, get_or, length-set}
+use lib.ListN.{length-set}
 use Rattle.lists.specs.Store.{stored}
 use Rattle.answer_sheet.proofs.sheet.bar_row.Goals as goal
 

@@ -1,9 +1,7 @@
 -- The invariants and measures of `answer_sheet::sheet::bar_row`.
-use mathlib.Core.Path.{◌≡◌, refl, ◌∙◌}
+use mathlib.Core.Path.{◌≡◌}
 use Prim.Native.Nat.{ℕ, ◌-◌, ◌≤◌, ◌<◌}
-use native.Mathlib.Omega.{arith}
-use lib.ListN.{length, get_or, length-set}
-use Rattle.lists.specs.Store.{stored}
+use lib.ListN.{length, get_or}
 use Rattle.answer_sheet.proofs.sheet.bar_row.Given as goal
 
 abbrev pub invariant-loop-b : goal.invariant-loop-b

@@ -1,9 +1,9 @@
 -- `answer_sheet::sheet::copy_row` meets its contract. The loop's invariant: the entries passed are there.
 -- Assumes nothing.
 use mathlib.Core.Path.{◌≡◌, refl, ◌∙◌}
-use Prim.Native.Nat.{ℕ, ◌-◌, ◌≤◌, ◌<◌}
+use Prim.Native.Nat.{◌-◌}
 use native.Mathlib.Omega.{arith}
-use lib.ListN.{length, get_or, length-set}
+use lib.ListN.{get_or, length-set}
 use Rattle.lists.specs.Store.{stored}
 use Rattle.answer_sheet.proofs.sheet.copy_row.Goals as goal
 

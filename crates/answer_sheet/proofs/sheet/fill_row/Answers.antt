@@ -2,7 +2,6 @@
 -- Assumes nothing.
 use mathlib.Core.Path.{sym, ◌∙◌}
 use native.Mathlib.Omega.{arith}
-use borrow.Author.Rules.{rules}
 use Rattle.answer_sheet.proofs.Entries.{flag-closed, flag-asked, entry_closed, row_by}
 use Rattle.answer_sheet.proofs.sheet.fill_row.Goals as goal
 

@@ -1,21 +1,15 @@
 -- The invariants and measures of `answer_sheet::sheet::fill_sheet`.
-use mathlib.Core.Path.{◌≡◌, refl, ap, sym, ◌∙◌, subst}
-use Prim.Native.Nat.{ℕ, ◌+◌, ◌*◌, ◌-◌, ◌≤◌, ◌<◌}
-use native.Mathlib.Omega.{arith}
-use native.Mathlib.Nat.{mul-le-mul_right}
+use mathlib.Core.Path.{◌≡◌}
+use Prim.Native.Nat.{ℕ, ◌-◌, ◌≤◌, ◌<◌}
 use lib.ListN.{length, get_or}
 use Rattle.chart.specs.Region.{Region}
-use Rattle.chart.specs.Checked.{reading}
-use Rattle.chart.proofs.Records.{nodes-length}
-use Rattle.lists.specs.Rows.{square, row_room, row-end, after, after_none, after-length, after_more, after-all, part_length}
+use Rattle.lists.specs.Rows.{after}
 use Rattle.theory_answers.specs.Answer.{answer_for}
-use Rattle.theory_answers.specs.Sheet.{entry, row, sheet}
+use Rattle.theory_answers.specs.Sheet.{entry}
 use Rattle.theory_answers.specs.declared.Size.{Size}
 use Rattle.mark_tables.specs.Tables.{Closed}
 use Rattle.answer_constructs.specs.Marks.{Sized, Marks}
-use Rattle.answer_constructs.proofs.Past.{rows-past}
 use Rattle.answer_sheet.specs.Sheet.{row_of}
-use Rattle.answer_sheet.proofs.Entries.{kept_row}
 use Rattle.answer_sheet.proofs.sheet.fill_sheet.Given as goal
 
 abbrev pub invariant-loop-a : goal.invariant-loop-a

@@ -3,7 +3,6 @@
 use mathlib.Core.Path.{refl}
 use native.Mathlib.Omega.{arith}
 use Rattle.answer_steps.proofs.Sorts.{children-alone, children-other, children-more}
-use borrow.Author.Rules.{rules}
 use Rattle.answer_steps.proofs.children.add_child.Goals as goal
 
 pub returns-then-parent-ge-CONSTRUCTS : goal.returns-then-parent-ge-CONSTRUCTS

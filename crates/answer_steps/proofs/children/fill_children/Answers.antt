@@ -1,11 +1,10 @@
 -- `answer_steps::children::fill_children` meets its contract. The loop's invariant: the constructs passed are in the masks.
 -- Assumes nothing.
-use mathlib.Core.Path.{◌≡◌, ◌∙◌, sym}
+use mathlib.Core.Path.{◌≡◌, ◌∙◌}
 use mathlib.Core.Logic.{inl}
 use Prim.Native.Nat.{◌+◌, ◌-◌, ◌≤◌}
 use native.Mathlib.Omega.{arith}
 use lib.ListN.{get_or}
-use Rattle.answer_steps.specs.Children.{Children}
 use Rattle.answer_steps.proofs.Sorts.{children-none}
 use Rattle.answer_steps.proofs.children.fill_children.Goals as goal
 

@@ -1,11 +1,8 @@
 -- The invariants and measures of `answer_steps::children::fill_children`.
-use mathlib.Core.Path.{◌≡◌, ◌∙◌, sym}
-use mathlib.Core.Logic.{inl}
-use Prim.Native.Nat.{◌+◌, ◌-◌, ◌≤◌}
-use native.Mathlib.Omega.{arith}
+use mathlib.Core.Path.{◌≡◌}
+use Prim.Native.Nat.{◌-◌, ◌≤◌}
 use lib.ListN.{get_or}
 use Rattle.answer_steps.specs.Children.{Children}
-use Rattle.answer_steps.proofs.Sorts.{children-none}
 use Rattle.answer_steps.proofs.children.fill_children.Given as goal
 
 abbrev pub invariant-loop-x : goal.invariant-loop-x

@@ -3,7 +3,6 @@
 use mathlib.Core.Path.{sym, ◌∙◌}
 use borrow.Author.Tests.{eq-eqb, ne_eqb}
 use Rattle.answer_steps.specs.Children.{ordered_at}
-use borrow.Author.Rules.{rules}
 use Rattle.answer_steps.proofs.children.is_ordered.Goals as goal
 
 pub returns-then-at-wide : goal.returns-then-at-wide

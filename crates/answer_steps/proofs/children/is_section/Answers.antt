@@ -2,11 +2,9 @@
 -- Assumes nothing.
 use mathlib.Core.Path.{sym, ◌∙◌}
 use native.Mathlib.Omega.{arith}
-use lib.ListN.{get_or}
 use borrow.Author.Tests.{eq-eqb, ne_eqb}
 use Rattle.lists.specs.Truth.{and-false}
 use Rattle.answer_steps.specs.Children.{section_at}
-use borrow.Author.Rules.{rules}
 use Rattle.answer_steps.proofs.children.is_section.Goals as goal
 
 pub overflow_add-begin : goal.overflow_add-begin

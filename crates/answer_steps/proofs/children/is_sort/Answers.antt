@@ -2,7 +2,6 @@
 -- Assumes nothing.
 use borrow.Author.Tests.{eq-eqb, ne_eqb}
 use Rattle.answer_steps.specs.Children.{sort_at}
-use borrow.Author.Rules.{rules}
 use Rattle.answer_steps.proofs.children.is_sort.Goals as goal
 
 pub returns-then-which-eq0 : goal.returns-then-which-eq0

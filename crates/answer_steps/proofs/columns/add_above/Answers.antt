@@ -9,7 +9,6 @@ use Rattle.chart.proofs.Tree.{Below}
 use Rattle.mark_tables.proofs.Accepted.{tables}
 use Rattle.answer_constructs.proofs.Constructs.{index_below}
 use Rattle.answer_steps.proofs.Around.{above_more}
-use borrow.Author.Rules.{rules}
 use Rattle.answer_steps.proofs.columns.add_above.Goals as goal
 
 pub read-parent-requires : goal.read-parent-requires

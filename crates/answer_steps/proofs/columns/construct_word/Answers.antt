@@ -3,7 +3,6 @@
 use native.Mathlib.Omega.{arith}
 use borrow.Author.Tests.{eq-eqb, ne_eqb}
 use Rattle.answer_steps.specs.Words.{construct_word}
-use borrow.Author.Rules.{rules}
 use Rattle.answer_steps.proofs.columns.construct_word.Goals as goal
 
 pub read-construct-requires : goal.read-construct-requires

@@ -1,7 +1,5 @@
 -- The invariants and measures of `answer_steps::columns::fill_above`.
-use mathlib.Core.Path.{◌≡◌, subst}
-use Prim.Native.Nat.{ℕ, ◌-◌, ◌≤◌}
-use native.Mathlib.Omega.{arith}
+use Prim.Native.Nat.{◌-◌, ◌≤◌}
 use Rattle.chart.specs.Format.{decode}
 use Rattle.answer_steps.specs.Words.{Above}
 use Rattle.answer_steps.proofs.columns.fill_above.Given as goal

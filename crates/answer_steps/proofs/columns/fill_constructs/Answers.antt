@@ -1,7 +1,7 @@
 -- `answer_steps::columns::fill_constructs` meets its contract. The loop's invariant: the places passed are filled.
 -- Assumes nothing.
 use mathlib.Core.Path.{◌≡◌, subst}
-use Prim.Native.Nat.{ℕ, ◌+◌, ◌*◌, ◌-◌, ◌≤◌}
+use Prim.Native.Nat.{ℕ, ◌+◌, ◌*◌, ◌-◌}
 use native.Mathlib.Omega.{arith}
 use Rattle.chart.specs.Format.{decode}
 use Rattle.answer_steps.specs.Words.{Column, construct_word}

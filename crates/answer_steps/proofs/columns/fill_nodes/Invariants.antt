@@ -1,10 +1,7 @@
 -- The invariants and measures of `answer_steps::columns::fill_nodes`.
-use mathlib.Core.Path.{◌≡◌, subst}
-use Prim.Native.Nat.{ℕ, ◌+◌, ◌*◌, ◌-◌, ◌≤◌}
-use native.Mathlib.Omega.{arith}
+use Prim.Native.Nat.{◌+◌, ◌*◌, ◌-◌, ◌≤◌}
 use Rattle.chart.specs.Format.{decode}
 use Rattle.answer_steps.specs.Words.{Column, node_word}
-use Rattle.answer_steps.proofs.Filling.{column-none, column-more}
 use Rattle.answer_steps.proofs.columns.fill_nodes.Given as goal
 
 abbrev pub invariant-loop-x : goal.invariant-loop-x

@@ -15,7 +15,6 @@ use Rattle.answer_constructs.proofs.Nodes.{frame-number}
 use lib.ListN.{length}
 use Rattle.answer_steps.specs.Words.{node_word}
 use Rattle.answer_steps.proofs.Around.{around-node}
-use borrow.Author.Rules.{rules}
 use Rattle.answer_steps.proofs.columns.node_word.Goals as goal
 
 pub read-node-requires : goal.read-node-requires

@@ -8,7 +8,6 @@ use Rattle.chart.specs.Scope.{begin_node, parent_of, lies_at}
 use Rattle.chart.proofs.Records.{constructs-length}
 use Rattle.chart.proofs.Scopes.{lies-number, lies-parent}
 use Rattle.answer_constructs.proofs.Nodes.{frame-number}
-use borrow.Author.Rules.{rules}
 use Rattle.answer_steps.proofs.columns.place_of.Goals as goal
 
 pub read-node-requires : goal.read-node-requires

@@ -6,7 +6,6 @@ use native.Mathlib.Omega.{arith}
 use borrow.Author.Tests.{eq-eqb, ne_eqb}
 use Rattle.lists.specs.Bits.{has}
 use Rattle.answer_steps.specs.Words.{role_code}
-use borrow.Author.Rules.{rules}
 use Rattle.answer_steps.proofs.columns.role_code.Goals as goal
 
 pub returns-then-node-eq-PLAIN : goal.returns-then-node-eq-PLAIN

@@ -5,7 +5,6 @@ use Prim.Native.Nat.{ℕ}
 use native.Mathlib.Omega.{arith}
 use borrow.Author.Tests.{eq-eqb, ne_eqb}
 use Rattle.answer_steps.proofs.Laws.{loop-test, in_table}
-use borrow.Author.Rules.{rules}
 use Rattle.answer_steps.proofs.decide.again.Goals as goal
 
 pub returns-then-at-wide : goal.returns-then-at-wide

@@ -8,7 +8,6 @@ use native.Mathlib.Numerals.{add-one}
 use lib.ListN.{get_or}
 use Rattle.theory_traces.specs.Decide.{taking, from_begin}
 use Rattle.theory_traces.specs.declared.Effect.TheVariants.{None, Takes}
-use borrow.Author.Rules.{rules}
 use Rattle.answer_steps.proofs.decide.from_begin.Goals as goal
 
 pub returns-then-goes : goal.returns-then-goes

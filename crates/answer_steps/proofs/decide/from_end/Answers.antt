@@ -7,7 +7,6 @@ use native.Mathlib.Omega.{arith}
 use lib.ListN.{get_or}
 use Rattle.theory_traces.specs.Decide.{taking, from_end}
 use Rattle.theory_traces.specs.declared.Effect.TheVariants.{None, TakesNext}
-use borrow.Author.Rules.{rules}
 use Rattle.answer_steps.proofs.decide.from_end.Goals as goal
 
 pub returns-then-goes : goal.returns-then-goes

@@ -3,11 +3,9 @@
 use mathlib.Core.Path.{◌≡◌, sym, ◌∙◌, ap}
 use Prim.Native.Nat.{ℕ}
 use native.Mathlib.Omega.{arith}
-use borrow.Author.Tests.{not-true, not-false}
 use Rattle.chart.specs.Region.{Region}
 use Rattle.theory_team.specs.State.{State}
 use Rattle.answer_steps.specs.Tables.{Tabled, Shows}
-use borrow.Author.Rules.{rules}
 use Rattle.answer_steps.proofs.decide.goes.Goals as goal
 
 pub leads-requires : goal.leads-requires

@@ -3,7 +3,6 @@
 use mathlib.Core.Path.{sym, ◌∙◌}
 use borrow.Author.Tests.{eq-eqb, ne_eqb}
 use Rattle.answer_steps.proofs.Laws.{in_table}
-use borrow.Author.Rules.{rules}
 use Rattle.answer_steps.proofs.decide.passes.Goals as goal
 
 pub returns-then-v-at : goal.returns-then-v-at

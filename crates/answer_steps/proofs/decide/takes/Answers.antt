@@ -10,7 +10,6 @@ use Rattle.theory_traces.specs.Tests.{is_untaken}
 use Rattle.theory_traces.specs.Decide.{taking}
 use Rattle.theory_traces.specs.declared.Effect.TheVariants.{None}
 use Rattle.answer_steps.proofs.Laws.{role-opens, role-else, sections-test, section-test, in_table}
-use borrow.Author.Rules.{rules}
 use Rattle.answer_steps.proofs.decide.takes.Goals as goal
 
 pub returns-then-at-ne-OPENS : goal.returns-then-at-ne-OPENS

@@ -1,13 +1,12 @@
 -- `answer_steps::edges::mark_edges` meets its contract. The loop's invariant: the edges passed are marked.
 -- Assumes nothing.
 use mathlib.Core.Path.{◌≡◌, refl, subst}
-use Prim.Native.Nat.{ℕ, ◌-◌, ◌≤◌}
+use Prim.Native.Nat.{ℕ, ◌-◌}
 use native.Mathlib.Omega.{arith}
 use Rattle.search.specs.Parts.{row}
-use Rattle.answer_steps.specs.Words.{Beside, Marked}
+use Rattle.answer_steps.specs.Words.{Marked}
 use Rattle.answer_steps.proofs.Filling.{beside_none, beside-more}
 use Rattle.answer_steps.proofs.Marking.{marked-none, marked_more}
-use borrow.Author.Rules.{rules}
 use Rattle.answer_steps.proofs.edges.mark_edges.Goals as goal
 
 pub loop-i-init : goal.loop-i-init

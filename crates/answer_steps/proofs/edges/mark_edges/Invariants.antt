@@ -1,12 +1,7 @@
 -- The invariants and measures of `answer_steps::edges::mark_edges`.
-use mathlib.Core.Path.{◌≡◌, refl, subst}
-use Prim.Native.Nat.{ℕ, ◌-◌, ◌≤◌}
-use native.Mathlib.Omega.{arith}
+use Prim.Native.Nat.{◌-◌, ◌≤◌}
 use Rattle.search.specs.Parts.{row}
 use Rattle.answer_steps.specs.Words.{Beside, Marked}
-use Rattle.answer_steps.proofs.Filling.{beside_none, beside-more}
-use Rattle.answer_steps.proofs.Marking.{marked-none, marked_more}
-use borrow.Author.Rules.{rules}
 use Rattle.answer_steps.proofs.edges.mark_edges.Given as goal
 
 abbrev pub invariant-loop-i : goal.invariant-loop-i

@@ -4,7 +4,6 @@ use mathlib.Core.Path.{subst}
 use Rattle.theory_traces.specs.Decide.{apply}
 use Rattle.answer_steps.specs.Tables.{Numbered}
 use Rattle.answer_steps.proofs.Stores.{applied}
-use borrow.Author.Rules.{rules}
 use Rattle.answer_steps.proofs.effects.apply.Goals as goal
 
 pub leave-requires : goal.leave-requires

@@ -7,7 +7,6 @@ use lib.Bits.{bit_or}
 use lib.ListN.{get_or, set}
 use lib.Seq.{get_or-set_other}
 use Rattle.answer_steps.proofs.Stores.{shows_left}
-use borrow.Author.Rules.{rules}
 use Rattle.answer_steps.proofs.effects.leave.Goals as goal
 
 pub overflow_add-team-3 : goal.overflow_add-team-3

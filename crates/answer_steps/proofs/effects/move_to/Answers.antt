@@ -1,7 +1,6 @@
 -- `answer_steps::effects::move_to` meets its contract.
 -- Assumes nothing.
 use Rattle.answer_steps.proofs.Stores.{shows-moved}
-use borrow.Author.Rules.{rules}
 use Rattle.answer_steps.proofs.effects.move_to.Goals as goal
 
 pub returns : goal.returns

@@ -1,7 +1,6 @@
 -- `answer_steps::effects::take_section` meets its contract.
 -- Assumes nothing.
 use Rattle.answer_steps.proofs.Stores.{shows-took}
-use borrow.Author.Rules.{rules}
 use Rattle.answer_steps.proofs.effects.take_section.Goals as goal
 
 pub returns : goal.returns

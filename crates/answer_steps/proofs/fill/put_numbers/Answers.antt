@@ -3,7 +3,6 @@
 use mathlib.Core.Path.{◌∙◌}
 use native.Mathlib.Omega.{arith}
 use Rattle.answer_steps.proofs.Filling.{five-stores}
-use borrow.Author.Rules.{rules}
 use Rattle.answer_steps.proofs.fill.put_numbers.Goals as goal
 
 pub terminal_of-requires : goal.terminal_of-requires

@@ -12,7 +12,6 @@ use Rattle.chart.specs.Region.{ordered}
 use Rattle.theory_answers.specs.Answer.{is_in, in_ordered_of}
 use Rattle.theory_traces.specs.Tests.{is_kind}
 use Rattle.answer_steps.proofs.Sorts.{common-any}
-use borrow.Author.Rules.{rules}
 use Rattle.answer_steps.proofs.tests.in_ordered.Goals as goal
 
 shuffle : (i k m p : Bool) → (i && ((k && m) && p)) ≡ ((k && (i && m)) && p)

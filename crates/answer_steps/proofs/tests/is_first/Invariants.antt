@@ -1,16 +1,12 @@
 -- The invariants and measures of `answer_steps::tests::is_first`.
-use mathlib.Core.Path.{◌≡◌, refl, sym}
+use mathlib.Core.Path.{◌≡◌}
 use mathlib.Core.Bool.{true}
 use Prim.Native.Nat.{◌+◌, ◌*◌, ◌-◌, ◌≤◌}
-use native.Mathlib.Omega.{arith}
 use lib.Dec.{leb}
 use lib.ListN.{get_or}
-use borrow.Author.Tests.{le-leb, lt-leb}
 use Rattle.lists.specs.Range.{every}
 use Rattle.theory_team.specs.State.{State}
-use Rattle.theory_traces.specs.Tests.{is_first}
 use Rattle.answer_steps.specs.Tables.{Shows}
-use Rattle.answer_steps.proofs.Laws.{every_more, every-fails}
 use Rattle.answer_steps.proofs.tests.is_first.Given as goal
 
 abbrev pub invariant-loop-k : goal.invariant-loop-k

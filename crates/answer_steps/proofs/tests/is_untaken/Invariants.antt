@@ -1,15 +1,11 @@
 -- The invariants and measures of `answer_steps::tests::is_untaken`.
-use mathlib.Core.Path.{◌≡◌, refl, sym, ◌∙◌}
+use mathlib.Core.Path.{◌≡◌}
 use mathlib.Core.Bool.{true, ◌&&◌, ◌||◌, not}
 use Prim.Native.Nat.{◌-◌, ◌≤◌}
-use native.Mathlib.Omega.{arith}
 use lib.Dec.{eqb, leb}
-use borrow.Author.Tests.{not-true, not-false}
 use Rattle.lists.specs.Range.{every}
 use Rattle.theory_team.specs.State.{State}
-use Rattle.theory_traces.specs.Tests.{is_untaken}
 use Rattle.answer_steps.specs.Tables.{Shows}
-use Rattle.answer_steps.proofs.Laws.{every_more, every-fails}
 use Rattle.answer_steps.proofs.tests.is_untaken.Given as goal
 
 abbrev pub invariant-loop-t : goal.invariant-loop-t

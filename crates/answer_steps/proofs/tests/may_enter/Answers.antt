@@ -8,7 +8,6 @@ use Rattle.chart.specs.Region.{single, master, ordered, sections}
 use Rattle.chart.specs.Scope.{kind_of}
 use Rattle.theory_traces.specs.Tests.{none_ordered, may_enter}
 use Rattle.answer_steps.proofs.Laws.{kind_at, enter-last, in_table}
-use borrow.Author.Rules.{rules}
 use Rattle.answer_steps.proofs.tests.may_enter.Goals as goal
 
 pub returns-then-kind-wide : goal.returns-then-kind-wide

@@ -5,7 +5,6 @@ use native.Mathlib.Omega.{arith}
 use borrow.Author.Tests.{eq-eqb, ne_eqb}
 use Rattle.theory_traces.specs.Tests.{all_taken, may_leave}
 use Rattle.answer_steps.proofs.Laws.{sections-test, in_table}
-use borrow.Author.Rules.{rules}
 use Rattle.answer_steps.proofs.tests.may_leave.Goals as goal
 
 pub returns-then-at-wide : goal.returns-then-at-wide

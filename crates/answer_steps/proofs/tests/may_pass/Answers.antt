@@ -9,7 +9,6 @@ use Rattle.chart.specs.Region.{single, master, sections}
 use Rattle.chart.specs.Scope.{kind_of}
 use Rattle.theory_traces.specs.Tests.{all_taken, may_pass}
 use Rattle.answer_steps.proofs.Laws.{kind_at, picked-passes, pass-last, in_table}
-use borrow.Author.Rules.{rules}
 use Rattle.answer_steps.proofs.tests.may_pass.Goals as goal
 
 pub returns-then-kind-wide : goal.returns-then-kind-wide

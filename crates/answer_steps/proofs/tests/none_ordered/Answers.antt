@@ -1,17 +1,11 @@
 -- `answer_steps::tests::none_ordered` meets its contract. The loop's invariant: none of the threads passed is beside t.
 -- Assumes nothing.
 use mathlib.Core.Path.{◌≡◌, refl, sym, ◌∙◌}
-use mathlib.Core.Bool.{true, ◌||◌, not}
-use Prim.Native.Nat.{◌-◌, ◌≤◌}
+use mathlib.Core.Bool.{true}
+use Prim.Native.Nat.{◌-◌}
 use native.Mathlib.Omega.{arith}
-use lib.Dec.{eqb}
-use borrow.Author.Tests.{not-true, not-false}
 use Rattle.lists.specs.Range.{every}
-use Rattle.chart.specs.Region.{Region}
-use Rattle.theory_team.specs.State.{State}
-use Rattle.theory_answers.specs.Answer.{in_ordered_of}
 use Rattle.theory_traces.specs.Tests.{none_ordered}
-use Rattle.answer_steps.specs.Tables.{Tabled, Shows}
 use Rattle.answer_steps.proofs.Laws.{every_more, every-fails}
 use Rattle.answer_steps.proofs.tests.none_ordered.Goals as goal
 

@@ -4,10 +4,9 @@ use mathlib.Core.Path.{◌≡◌, sym, ◌∙◌, ap}
 use mathlib.Core.Bool.{true, false}
 use Prim.Native.Nat.{ℕ}
 use native.Mathlib.Omega.{arith}
-use borrow.Author.Tests.{eq-eqb, ne_eqb, not-true, not-false}
+use borrow.Author.Tests.{eq-eqb, ne_eqb}
 use Rattle.theory_answers.specs.Answer.{in_ordered_of}
 use Rattle.answer_steps.proofs.Laws.{differ}
-use borrow.Author.Rules.{rules}
 use Rattle.answer_steps.proofs.tests.not_beside.Goals as goal
 
 pub returns-then-k-t : goal.returns-then-k-t

@@ -6,7 +6,6 @@ use Prim.Native.Nat.{ℕ, ◌≤◌, ◌<◌}
 use native.Mathlib.Omega.{arith}
 use borrow.Author.Tests.{eq-eqb, ne_eqb, le-leb, lt-leb}
 use Rattle.lists.specs.Bits.{has, has_of}
-use borrow.Author.Rules.{rules}
 use Rattle.answer_steps.proofs.tests.untaken_by.Goals as goal
 
 pub returns-then-instance-own : goal.returns-then-instance-own

@@ -1,14 +1,11 @@
 -- `call_admit::count::count` meets its contract: after b turns the pairs with the first b starts are counted.
 -- Assumes nothing.
 use mathlib.Core.Path.{◌≡◌, refl}
-use Prim.Native.Nat.{◌≤◌, ◌-◌, ◌*◌}
+use Prim.Native.Nat.{◌-◌}
 use native.Mathlib.Omega.{arith}
 use lib.ListN.{length}
-use borrow.Author.Rules.{rules}
 use Rattle.lists.specs.Range.{count_pairs}
-use Rattle.chart.specs.Region.{Region}
-use Rattle.theory_paths.specs.Phases.{forward, backward, barriers, phase, phase_count}
-use Rattle.mark_tables.specs.Tables.{Masks}
+use Rattle.theory_paths.specs.Phases.{barriers, phase, phase_count}
 use Rattle.call_admit.proofs.Counting.{pairs-more}
 use Rattle.call_admit.proofs.count.count.Goals as goal
 

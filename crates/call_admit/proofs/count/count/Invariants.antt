@@ -1,14 +1,11 @@
 -- The invariants and measures of `call_admit::count::count`.
-use mathlib.Core.Path.{◌≡◌, refl}
+use mathlib.Core.Path.{◌≡◌}
 use Prim.Native.Nat.{◌≤◌, ◌-◌, ◌*◌}
-use native.Mathlib.Omega.{arith}
 use lib.ListN.{length}
-use borrow.Author.Rules.{rules}
 use Rattle.lists.specs.Range.{count_pairs}
 use Rattle.chart.specs.Region.{Region}
-use Rattle.theory_paths.specs.Phases.{forward, backward, barriers, phase, phase_count}
+use Rattle.theory_paths.specs.Phases.{forward, backward, barriers, phase}
 use Rattle.mark_tables.specs.Tables.{Masks}
-use Rattle.call_admit.proofs.Counting.{pairs-more}
 use Rattle.call_admit.proofs.count.count.Given as goal
 
 abbrev pub invariant-loop-b : goal.invariant-loop-b

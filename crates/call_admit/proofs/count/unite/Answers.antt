@@ -2,14 +2,8 @@
 -- more changes nothing.
 -- Assumes nothing.
 use mathlib.Core.Path.{◌≡◌}
-use Prim.Native.Nat.{◌≤◌, ◌-◌}
+use Prim.Native.Nat.{◌-◌}
 use native.Mathlib.Omega.{arith}
-use borrow.Author.Rules.{rules}
-use Rattle.chart.specs.Region.{Region}
-use Rattle.theory_paths.specs.Phases.{forward, backward}
-use Rattle.mark_tables.specs.Tables.{Masks}
-use Rattle.masks.specs.Unions.{Added}
-use Rattle.call_admit.specs.Unions.{United}
 use Rattle.call_admit.proofs.Counting.{added_none, added-latest, united-none, united-more}
 use Rattle.call_admit.proofs.count.unite.Goals as goal
 

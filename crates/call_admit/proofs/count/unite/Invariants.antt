@@ -1,14 +1,10 @@
 -- The invariants and measures of `call_admit::count::unite`.
-use mathlib.Core.Path.{◌≡◌}
 use Prim.Native.Nat.{◌≤◌, ◌-◌}
-use native.Mathlib.Omega.{arith}
-use borrow.Author.Rules.{rules}
 use Rattle.chart.specs.Region.{Region}
 use Rattle.theory_paths.specs.Phases.{forward, backward}
 use Rattle.mark_tables.specs.Tables.{Masks}
 use Rattle.masks.specs.Unions.{Added}
 use Rattle.call_admit.specs.Unions.{United}
-use Rattle.call_admit.proofs.Counting.{added_none, added-latest, united-none, united-more}
 use Rattle.call_admit.proofs.count.unite.Given as goal
 
 abbrev pub invariant-loop-x : goal.invariant-loop-x

@@ -1,6 +1,5 @@
 -- `call_edges::ask::ask` meets its contract.
 -- Assumes nothing.
-use borrow.Author.Rules.{rules}
 use Rattle.theory_edits.specs.AskingLaws.{ask-correct}
 use Rattle.call_edges.proofs.ask.ask.Goals as goal
 

@@ -6,7 +6,6 @@ use Prim.Native.Nat.{◌≤◌}
 use native.Mathlib.Omega.{arith}
 use lib.ListN.{length, take}
 use lib.Seq.{length-take-le}
-use borrow.Author.Rules.{rules}
 use Rattle.chart.specs.Refusal.{first_of}
 use Rattle.theory_paths.specs.Admission.{Admitted}
 use Rattle.call_edges.specs.Asking.{front_rows}

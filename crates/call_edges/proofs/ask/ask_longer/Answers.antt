@@ -2,7 +2,6 @@
 -- Assumes nothing.
 use mathlib.Core.Path.{sym, ◌∙◌}
 use native.Mathlib.Omega.{arith}
-use borrow.Author.Rules.{rules}
 use Rattle.chart.proofs.Accepted.{laid}
 use Rattle.theory_edits.proofs.SpliceLaws.{inserted-length}
 use Rattle.theory_edits.proofs.EditLaws.{admitted-laid}

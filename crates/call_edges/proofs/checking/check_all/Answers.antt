@@ -1,7 +1,6 @@
 -- `call_edges::checking::check_all` meets its contract.
 -- Assumes nothing.
 use mathlib.Core.Path.{sym, ◌∙◌}
-use borrow.Author.Rules.{rules}
 use Rattle.chart.specs.Checked.{counts_of, checked_by}
 use Rattle.theory_paths.specs.AdmissionLaws.{outermost-rows}
 use Rattle.mark_regions.proofs.Entering.{entered-refused, entered-marked, entered-counts}

@@ -3,7 +3,6 @@
 use mathlib.Core.Path.{◌≡◌, refl, sym}
 use lib.ListN.{length, take}
 use lib.Seq.{length-take-le}
-use borrow.Author.Rules.{rules}
 use Rattle.chart.specs.Checked.{checked_by}
 use Rattle.call_edges.proofs.CheckLaws.{beyond, within}
 use Rattle.call_edges.proofs.checking.check_front.Goals as goal

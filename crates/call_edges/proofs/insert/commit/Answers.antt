@@ -5,7 +5,6 @@ use Prim.Native.Nat.{◌+◌}
 use native.Mathlib.Omega.{arith}
 use lib.ListN.{length, take}
 use lib.Seq.{length-take-le}
-use borrow.Author.Rules.{rules}
 use Rattle.output.proofs.Outputs.{refused, passed}
 use Rattle.chart_writing.proofs.Putting.{front, part_room}
 use Rattle.call_edges.proofs.CommitLaws.{other_length, other_place, no-space, space}

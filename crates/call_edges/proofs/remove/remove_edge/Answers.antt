@@ -2,7 +2,6 @@
 -- Assumes nothing.
 use mathlib.Core.Path.{◌≡◌, sym, ◌∙◌}
 use mathlib.Core.Option.{none}
-use borrow.Author.Rules.{rules}
 use Rattle.chart.specs.Refusal.{first_of}
 use Rattle.call_edges.specs.Asking.{front_rows}
 use Rattle.call_edges.proofs.CheckLaws.{passed_none, refused-some, front-admitted}

@@ -5,7 +5,6 @@ use mathlib.Core.Bool.{not}
 use Prim.Native.Nat.{ℕ}
 use native.Mathlib.Omega.{arith}
 use lib.Dec.{eqb}
-use borrow.Author.Rules.{rules}
 use Rattle.chart.specs.Format.{decode, edge_at}
 use Rattle.chart.proofs.Records.{edges-length}
 use Rattle.call_edges.proofs.Splicing.{past-edges, other_from, same_from}

@@ -1,12 +1,11 @@
 -- `call_edges::splice::place_of` meets its contract: after i turns the first i edges are counted.
 -- Assumes nothing.
 use mathlib.Core.Path.{◌≡◌, refl}
-use Prim.Native.Nat.{◌-◌, ◌≤◌}
+use Prim.Native.Nat.{◌-◌}
 use native.Mathlib.Omega.{arith}
 use lib.ListN.{length}
 use Rattle.lists.specs.Range.{count}
-use Rattle.chart.specs.Format.{decode, edge_at}
-use Rattle.chart.specs.Refusal.{rises}
+use Rattle.chart.specs.Format.{decode}
 use Rattle.chart.proofs.Records.{edges-length}
 use Rattle.theory_edits.specs.Splice.{place}
 use Rattle.call_edges.proofs.Splicing.{place-more}

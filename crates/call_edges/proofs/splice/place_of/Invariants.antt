@@ -1,14 +1,9 @@
 -- The invariants and measures of `call_edges::splice::place_of`.
-use mathlib.Core.Path.{◌≡◌, refl}
+use mathlib.Core.Path.{◌≡◌}
 use Prim.Native.Nat.{◌-◌, ◌≤◌}
-use native.Mathlib.Omega.{arith}
-use lib.ListN.{length}
 use Rattle.lists.specs.Range.{count}
 use Rattle.chart.specs.Format.{decode, edge_at}
 use Rattle.chart.specs.Refusal.{rises}
-use Rattle.chart.proofs.Records.{edges-length}
-use Rattle.theory_edits.specs.Splice.{place}
-use Rattle.call_edges.proofs.Splicing.{place-more}
 use Rattle.call_edges.proofs.splice.place_of.Given as goal
 
 abbrev pub invariant-loop-i : goal.invariant-loop-i

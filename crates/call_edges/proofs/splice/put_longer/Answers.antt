@@ -6,7 +6,6 @@ use native.Mathlib.Omega.{arith}
 use native.Mathlib.Nat.{zero-add, add_assoc}
 use lib.ListN.{length, take}
 use lib.Seq.{length-take-le}
-use borrow.Author.Rules.{rules}
 use Rattle.chart.proofs.Accepted.{laid}
 use Rattle.call_edges.proofs.Splicing.{Room, room, place-most, stands, longer-put}
 use Rattle.call_edges.proofs.splice.put_longer.Goals as goal

@@ -5,7 +5,6 @@ use Prim.Native.Nat.{◌+◌, ◌-◌}
 use native.Mathlib.Omega.{arith}
 use lib.ListN.{length, take, drop, length-drop}
 use lib.Seq.{length-take-le}
-use borrow.Author.Rules.{rules}
 use Rattle.theory_edits.specs.Splice.{records_from}
 use Rattle.chart_writing.proofs.Putting.{chained}
 use Rattle.call_edges.proofs.splice.put_rest.Goals as goal

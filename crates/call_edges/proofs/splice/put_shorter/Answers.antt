@@ -6,7 +6,6 @@ use native.Mathlib.Omega.{arith}
 use native.Mathlib.Nat.{zero-add}
 use lib.ListN.{length, take}
 use lib.Seq.{length-take-le}
-use borrow.Author.Rules.{rules}
 use Rattle.call_edges.proofs.Splicing.{Room, room, stands, shorter-put}
 use Rattle.call_edges.proofs.splice.put_shorter.Goals as goal
 

@@ -1,7 +1,6 @@
 -- `call_judge::judge::judge` meets its contract: rows 1 to 10 and 23, and where none of them applies the list's own and the verdict.
 -- Assumes nothing.
 use mathlib.Core.Path.{refl, ap, sym, ◌∙◌}
-use borrow.Author.Rules.{rules}
 use Rattle.chart.specs.Checked.{counts_of, read_for}
 use Rattle.chart.specs.declared.format.Chart.{Chart}
 use Rattle.check_chart.proofs.Outcome.{passed_none, refused-some}

@@ -2,7 +2,6 @@
 -- Assumes nothing.
 use Rattle.call_judge.specs.Two.{failed_at}
 use Rattle.call_judge.proofs.PartsLaws.{not-failed}
-use borrow.Author.Rules.{rules}
 use Rattle.call_judge.proofs.parts.false_part.Goals as goal
 
 pub part_of_failed-requires : goal.part_of_failed-requires

@@ -6,7 +6,6 @@ use native.Mathlib.Omega.{arith}
 use lib.ListN.{length, drop, length-drop}
 use lib.Seq.{take_all}
 use Rattle.call_judge.specs.Two.{placed}
-use borrow.Author.Rules.{rules}
 use Rattle.call_judge.proofs.parts.part_from.Goals as goal
 
 pub returns : goal.returns

@@ -3,7 +3,6 @@
 use mathlib.Core.Path.{refl}
 use Rattle.call_judge.specs.Two.{failed_at, picked, part_of, place_of}
 use Rattle.call_judge.proofs.PartsLaws.{not-failed, at-start}
-use borrow.Author.Rules.{rules}
 use Rattle.call_judge.proofs.parts.part_of_second.Goals as goal
 
 pub part_from-requires : goal.part_from-requires

@@ -1,7 +1,6 @@
 -- `call_judge::two::judge_both` meets its contract: rows 1 to 10 and 23 for both lists, and where none of them applies each list's own and its verdict.
 -- Assumes nothing.
 use mathlib.Core.Path.{ap, sym, ◌∙◌}
-use borrow.Author.Rules.{rules}
 use Rattle.chart.specs.Checked.{counts_of, read_for}
 use Rattle.chart.specs.declared.format.Chart.{Chart}
 use Rattle.check_chart.proofs.Outcome.{passed_none, refused-some}

@@ -6,7 +6,6 @@ use Prim.Native.Nat.{suc, ◌+◌}
 use Rattle.theory_listing.specs.Tree.{node_count, construct_count}
 use Rattle.theory_listing.specs.Grammar.{up_to}
 use Rattle.call_listing.proofs.TablesLaws.{same-chart, bytes-made}
-use borrow.Author.Rules.{rules}
 use Rattle.call_listing.proofs.drawing.draw.Goals as goal
 
 pub fill_tables-edges-requires : goal.fill_tables-edges-requires

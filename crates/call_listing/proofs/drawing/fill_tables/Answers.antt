@@ -9,7 +9,6 @@ use Rattle.theory_listing.specs.Grammar.{up_to}
 use Rattle.call_listing.proofs.Parts.{kind-stop}
 use Rattle.call_listing.proofs.Begins.{ahead-first, ahead-most}
 use Rattle.call_listing.proofs.TablesLaws.{listed-read, tables-made}
-use borrow.Author.Rules.{rules}
 use Rattle.call_listing.proofs.drawing.fill_tables.Goals as goal
 
 pub overflow_add-finish : goal.overflow_add-finish

@@ -6,7 +6,6 @@ use lib.ListN.{length}
 use Rattle.output.proofs.Outputs.{refused, passed}
 use Rattle.chart_writing.proofs.Putting.{front}
 use Rattle.call_listing.proofs.Rows.{five, six, eight, eleven, no_row}
-use borrow.Author.Rules.{rules}
 use Rattle.call_listing.proofs.drawing.hand_over.Goals as goal
 
 pub returns-then-bad_nodes : goal.returns-then-bad_nodes

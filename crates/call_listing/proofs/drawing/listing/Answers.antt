@@ -5,7 +5,6 @@ use lib.ListN.{length}
 use Rattle.theory_listing.specs.Call.{listing_written, listing_left}
 use Rattle.output.proofs.Outputs.{refused}
 use Rattle.call_listing.proofs.Rows.{small-read, refused-read}
-use borrow.Author.Rules.{rules}
 use Rattle.call_listing.proofs.drawing.listing.Goals as goal
 
 pub write_chart-requires : goal.write_chart-requires

@@ -8,7 +8,6 @@ use lib.Seq.{length-take-le}
 use Rattle.chart_writing.specs.Bytes.{trailer_bytes}
 use Rattle.chart_writing.specs.Trailer.{trailer_for}
 use Rattle.call_listing.proofs.TablesLaws.{chart-put}
-use borrow.Author.Rules.{rules}
 use Rattle.call_listing.proofs.drawing.put_chart.Goals as goal
 
 pub slice_bounds-put_part-end : goal.slice_bounds-put_part-end

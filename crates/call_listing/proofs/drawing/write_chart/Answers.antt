@@ -7,7 +7,6 @@ use lib.ListN.{length}
 use lib.Seq.{length-take-le}
 use Rattle.theory_listing.specs.Meaning.{block_bytes}
 use Rattle.call_listing.proofs.Rows.{small-laid, small-counts, late-listing}
-use borrow.Author.Rules.{rules}
 use Rattle.call_listing.proofs.drawing.write_chart.Goals as goal
 
 pub draw-chart-requires : goal.draw-chart-requires

@@ -1,6 +1,6 @@
 -- `block`, `item` and `braced`, which call each other, meet their contracts: what each tells is what the grammar reads, whatever fuel reads it.
 -- Assumes nothing.
-use Rattle.std.proofs.Common.{◌≡◌, sym, ◌∙◌, ap, List, ℕ, ◌<◌, ◌≤◌, ◌+◌, ◌-◌, pred, length, get_or, arith}
+use Rattle.std.proofs.Common.{sym, ◌∙◌, ap, List, ℕ, ◌+◌, ◌-◌, pred, get_or, arith}
 use Rattle.theory_listing.specs.Grammar.{block_of, letter_kind}
 use Rattle.call_listing.specs.declared.reader.Extent.{Extent}
 use Rattle.call_listing.specs.Extent.{extent_of, braced_extent, onward, added_to, closed_at, followed_at}

@@ -1,7 +1,6 @@
 -- `call_listing::reader::added` meets its contract.
 -- Assumes nothing.
 use native.Mathlib.Omega.{arith}
-use borrow.Author.Rules.{rules}
 use Rattle.call_listing.proofs.Bounds.{fits_read}
 use Rattle.call_listing.proofs.reader.added.Goals as goal
 

@@ -1,7 +1,6 @@
 -- `call_listing::reader::closed` meets its contract.
 -- Assumes nothing.
 use borrow.Author.Tests.{le-ltb, lt-ltb, eq-eqb, ne_eqb}
-use borrow.Author.Rules.{rules}
 use Rattle.call_listing.proofs.reader.closed.Goals as goal
 
 pub returns-then-s-next : goal.returns-then-s-next

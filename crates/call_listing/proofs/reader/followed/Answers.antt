@@ -2,7 +2,6 @@
 -- Assumes nothing.
 use native.Mathlib.Omega.{arith}
 use borrow.Author.Tests.{eq-eqb, ne_eqb}
-use borrow.Author.Rules.{rules}
 use Rattle.chart.specs.Scope.{single_byte, loop_byte}
 use Rattle.call_listing.proofs.Bounds.{fits_read}
 use Rattle.call_listing.proofs.reader.followed.Goals as goal

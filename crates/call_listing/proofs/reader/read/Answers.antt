@@ -5,7 +5,6 @@ use Prim.Native.Nat.{suc}
 use native.Mathlib.Omega.{arith}
 use lib.ListN.{length}
 use borrow.Author.Tests.{eq-eqb, ne_eqb}
-use borrow.Author.Rules.{rules}
 use Rattle.call_listing.specs.declared.reader.Extent.TheVariants.{UpTo}
 use Rattle.call_listing.specs.Extent.{refused}
 use Rattle.call_listing.proofs.Steps.{ending, whole-extent}

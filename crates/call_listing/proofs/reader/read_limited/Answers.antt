@@ -2,7 +2,6 @@
 -- Assumes nothing.
 use mathlib.Core.Path.{◌≡◌, sym, ◌∙◌, ap}
 use borrow.Author.Tests.{lt-ltb, le-ltb}
-use borrow.Author.Rules.{rules}
 use Rattle.theory_listing.specs.Grammar.{listed}
 use Rattle.call_listing.specs.declared.reader.Extent.TheVariants.{UpTo}
 use Rattle.call_listing.specs.Extent.{refused}

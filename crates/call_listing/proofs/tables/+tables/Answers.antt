@@ -1,7 +1,7 @@
 -- Filling the tables: `fill_block`, `fill_item` and the functions of its letters, which call each other, meet their contracts.
 -- Assumes nothing.
-use Rattle.std.proofs.Common.{◌≡◌, refl, sym, ◌∙◌, ap, List, ℕ, ◌<◌, ◌≤◌, ◌+◌, ◌-◌, ◌*◌, ◌%◌, pred, length, get_or, cond, arith}
-use Rattle.theory_listing.specs.Tree.{node_count, construct_count, simple, stop, opens}
+use Rattle.std.proofs.Common.{◌≡◌, refl, sym, ◌∙◌, ap, List, ℕ, ◌+◌, ◌-◌, ◌%◌, pred, get_or, cond, arith}
+use Rattle.theory_listing.specs.Tree.{node_count, simple, stop, opens}
 use Rattle.theory_listing.specs.Grammar.{loop_letter, branch_letter, letter_kind}
 use Rattle.call_listing.specs.declared.tables.Spot.{Spot}
 use Rattle.call_listing.specs.Reads.{Takes, ConstructAt}

@@ -1,7 +1,6 @@
 -- `call_listing::tables::ahead` meets its contract.
 -- Assumes nothing.
 use borrow.Author.Tests.{le-ltb, lt-ltb, eq-eqb, ne_eqb}
-use borrow.Author.Rules.{rules}
 use Rattle.call_listing.proofs.tables.ahead.Goals as goal
 
 pub returns-then-s-at : goal.returns-then-s-at

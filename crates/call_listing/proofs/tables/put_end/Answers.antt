@@ -5,7 +5,6 @@ use native.Mathlib.Omega.{arith}
 use Rattle.theory_listing.specs.Tree.{stop, closes}
 use Rattle.call_listing.proofs.Parts.{kind-stop, kind-closes}
 use Rattle.call_listing.proofs.Ending.{end-alone, end-followed}
-use borrow.Author.Rules.{rules}
 use Rattle.call_listing.proofs.tables.put_end.Goals as goal
 
 pub returns-then-spot-n : goal.returns-then-spot-n

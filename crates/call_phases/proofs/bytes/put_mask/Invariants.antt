@@ -1,10 +1,7 @@
 -- The invariants and measures of `call_phases::bytes::put_mask`.
-use mathlib.Core.Path.{◌≡◌, ap, sym, subst, ◌∙◌}
-use Prim.Native.Nat.{ℕ, ◌-◌, ◌/◌, ◌^◌, ◌≤◌}
-use native.Mathlib.Nat.{div-one}
-use native.Mathlib.Omega.{arith}
+use mathlib.Core.Path.{◌≡◌}
+use Prim.Native.Nat.{◌-◌, ◌/◌, ◌^◌, ◌≤◌}
 use Rattle.theory_calls.specs.Bytes.{Put}
-use Rattle.call_phases.proofs.Writes.{put-none, put-more, next-byte}
 use Rattle.call_phases.proofs.bytes.put_mask.Given as goal
 
 abbrev pub invariant-loop-k : goal.invariant-loop-k

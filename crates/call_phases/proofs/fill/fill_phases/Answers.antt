@@ -1,7 +1,7 @@
 -- `call_phases::fill::fill_phases` meets its contract.
 -- Assumes nothing.
 use mathlib.Core.Path.{◌≡◌, subst}
-use Prim.Native.Nat.{ℕ, ◌*◌, ◌-◌, ◌≤◌}
+use Prim.Native.Nat.{ℕ, ◌*◌, ◌-◌}
 use native.Mathlib.Omega.{arith}
 use Rattle.call_phases.proofs.Filling.{mask_at, Filled, filled_none, both-filled, filled-all}
 use Rattle.call_phases.proofs.fill.fill_phases.Goals as goal

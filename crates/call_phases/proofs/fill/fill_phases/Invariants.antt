@@ -1,8 +1,6 @@
 -- The invariants and measures of `call_phases::fill::fill_phases`.
-use mathlib.Core.Path.{◌≡◌, subst}
-use Prim.Native.Nat.{ℕ, ◌*◌, ◌-◌, ◌≤◌}
-use native.Mathlib.Omega.{arith}
-use Rattle.call_phases.proofs.Filling.{mask_at, Filled, filled_none, both-filled, filled-all}
+use Prim.Native.Nat.{◌*◌, ◌-◌, ◌≤◌}
+use Rattle.call_phases.proofs.Filling.{mask_at, Filled}
 use Rattle.call_phases.proofs.fill.fill_phases.Given as goal
 
 abbrev pub invariant-loop-x : goal.invariant-loop-x

@@ -2,13 +2,11 @@
 -- Assumes nothing.
 use mathlib.Core.Path.{◌≡◌, refl, sym, ◌∙◌}
 use mathlib.Core.Bool.{true}
-use Prim.Native.Nat.{◌-◌, ◌≤◌}
+use Prim.Native.Nat.{◌-◌}
 use native.Mathlib.Omega.{arith}
 use lib.Dec.{eqb}
 use borrow.Author.Tests.{eq-eqb, ne_eqb}
 use Rattle.lists.specs.Range.{every}
-use Rattle.theory_team.specs.State.{State}
-use Rattle.answer_steps.specs.Tables.{Shows}
 use Rattle.answer_steps.proofs.Laws.{every_more, every-fails}
 use Rattle.call_replay.proofs.feed.all_at.Goals as goal
 

@@ -1,14 +1,11 @@
 -- The invariants and measures of `call_replay::feed::all_at`.
-use mathlib.Core.Path.{◌≡◌, refl, sym, ◌∙◌}
+use mathlib.Core.Path.{◌≡◌}
 use mathlib.Core.Bool.{true}
 use Prim.Native.Nat.{◌-◌, ◌≤◌}
-use native.Mathlib.Omega.{arith}
 use lib.Dec.{eqb}
-use borrow.Author.Tests.{eq-eqb, ne_eqb}
 use Rattle.lists.specs.Range.{every}
 use Rattle.theory_team.specs.State.{State}
 use Rattle.answer_steps.specs.Tables.{Shows}
-use Rattle.answer_steps.proofs.Laws.{every_more, every-fails}
 use Rattle.call_replay.proofs.feed.all_at.Given as goal
 
 abbrev pub invariant-loop-k : goal.invariant-loop-k

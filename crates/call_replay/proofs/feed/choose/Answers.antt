@@ -5,13 +5,10 @@ use Prim.Native.Nat.{ℕ, ◌+◌, ◌*◌, ◌≤◌}
 use mathlib.Core.List.{[], ◌∷◌, ◌++◌}
 use native.Mathlib.Omega.{arith}
 use lib.ListN.{length, get_or}
-use borrow.Author.Tests.{not-true, not-false}
-use Rattle.theory_team.specs.State.{released}
 use Rattle.call_replay.specs.Playing.{forbidden, fed}
 use Rattle.call_replay.proofs.Sheets.{kept_same, sheet-size, kept-size}
 use Rattle.call_replay.proofs.Releases.{released-same}
 use Rattle.call_replay.proofs.Choices.{after-by, fed-choose, choose-other, choose-off, choose-last, choose-next, shows-chosen, choice-more, bytes-more, playing-chosen, playing-reached}
-use borrow.Author.Rules.{rules}
 use Rattle.call_replay.proofs.feed.choose.Goals as goal
 
 pub returns-then-t-pending : goal.returns-then-t-pending

@@ -2,7 +2,6 @@
 -- Assumes nothing.
 use mathlib.Core.Path.{ap, sym}
 use Rattle.theory_traces.specs.Decide.{allowed}
-use borrow.Author.Rules.{rules}
 use Rattle.call_replay.proofs.feed.is_allowed.Goals as goal
 
 pub returns-in-None : goal.returns-in-None

@@ -1,6 +1,6 @@
 -- `call_replay::feed::is_due` meets its contract.
 -- Assumes nothing.
-use mathlib.Core.Path.{sym, ◌∙◌}
+use mathlib.Core.Path.{sym}
 use native.Mathlib.Omega.{arith}
 use Rattle.call_replay.proofs.feed.is_due.Goals as goal
 

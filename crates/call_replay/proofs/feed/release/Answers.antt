@@ -1,12 +1,9 @@
 -- `call_replay::feed::release` meets its contract. The loop's invariant: the threads passed have gone.
 -- Assumes nothing.
 use mathlib.Core.Path.{◌≡◌, refl}
-use mathlib.Core.List.{List}
-use Prim.Native.Nat.{ℕ, ◌-◌, ◌≤◌}
+use Prim.Native.Nat.{◌-◌}
 use native.Mathlib.Omega.{arith}
-use lib.ListN.{length}
-use Rattle.call_replay.specs.Release.{AllBack}
-use Rattle.call_replay.proofs.Releases.{Going, going-none, going_more, going-all, shows-released}
+use Rattle.call_replay.proofs.Releases.{going-none, going_more, going-all, shows-released}
 use Rattle.call_replay.proofs.feed.release.Goals as goal
 
 pub set_all_back-requires : goal.set_all_back-requires

@@ -1,11 +1,10 @@
 -- The invariants and measures of `call_replay::feed::release`.
-use mathlib.Core.Path.{◌≡◌, refl}
+use mathlib.Core.Path.{◌≡◌}
 use mathlib.Core.List.{List}
 use Prim.Native.Nat.{ℕ, ◌-◌, ◌≤◌}
-use native.Mathlib.Omega.{arith}
 use lib.ListN.{length}
 use Rattle.call_replay.specs.Release.{AllBack}
-use Rattle.call_replay.proofs.Releases.{Going, going-none, going_more, going-all, shows-released}
+use Rattle.call_replay.proofs.Releases.{Going}
 use Rattle.call_replay.proofs.feed.release.Given as goal
 
 abbrev pub invariant-loop-t : goal.invariant-loop-t

@@ -1,11 +1,11 @@
 -- `call_replay::feed::set_all_back` meets its contract. The loop's invariant: the constructs passed are set back.
 -- Assumes nothing.
 use mathlib.Core.Path.{◌≡◌, ◌∙◌}
-use Prim.Native.Nat.{◌-◌, ◌<◌}
+use Prim.Native.Nat.{◌-◌}
 use native.Mathlib.Omega.{arith}
 use lib.Bits.{and_le_r}
 use Rattle.lists.specs.Bits.{has-below}
-use Rattle.call_replay.proofs.Releases.{Setting, setting-none, setting-more, setting-all}
+use Rattle.call_replay.proofs.Releases.{setting-none, setting-more, setting-all}
 use Rattle.call_replay.proofs.feed.set_all_back.Goals as goal
 
 pub bounds-team-785 : goal.bounds-team-785

@@ -1,10 +1,6 @@
 -- The invariants and measures of `call_replay::feed::set_all_back`.
-use mathlib.Core.Path.{◌≡◌, ◌∙◌}
-use Prim.Native.Nat.{◌-◌, ◌<◌}
-use native.Mathlib.Omega.{arith}
-use lib.Bits.{and_le_r}
-use Rattle.lists.specs.Bits.{has-below}
-use Rattle.call_replay.proofs.Releases.{Setting, setting-none, setting-more, setting-all}
+use Prim.Native.Nat.{◌-◌}
+use Rattle.call_replay.proofs.Releases.{Setting}
 use Rattle.call_replay.proofs.feed.set_all_back.Given as goal
 
 abbrev pub invariant-loop-rest : goal.invariant-loop-rest

@@ -1,10 +1,9 @@
 -- `call_replay::feed::set_back` meets its contract. The loop's invariant: the threads passed are set back.
 -- Assumes nothing.
-use mathlib.Core.Path.{◌≡◌, ◌∙◌}
-use Prim.Native.Nat.{ℕ, ◌+◌, ◌*◌, ◌-◌, ◌≤◌}
+use mathlib.Core.Path.{◌≡◌}
+use Prim.Native.Nat.{◌+◌, ◌*◌, ◌-◌}
 use native.Mathlib.Omega.{arith}
 use lib.ListN.{length-set}
-use Rattle.call_replay.specs.Release.{SetBack}
 use Rattle.call_replay.proofs.Releases.{back_none, back_more}
 use Rattle.call_replay.proofs.feed.set_back.Goals as goal
 

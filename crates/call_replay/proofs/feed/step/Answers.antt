@@ -4,14 +4,12 @@ use mathlib.Core.Path.{sym, ◌∙◌, ap, subst}
 use Prim.Native.Nat.{ℕ, ◌*◌, ◌≤◌, ◌<◌}
 use native.Mathlib.Omega.{arith}
 use lib.ListN.{length}
-use borrow.Author.Tests.{not-true, not-false}
 use Rattle.theory_traces.specs.Decide.{decide, apply, allowed}
 use Rattle.answer_steps.proofs.Stores.{applied}
 use Rattle.call_replay.specs.Playing.{forbidden, fed}
 use Rattle.call_replay.proofs.Sheets.{sheet-same, kept_same, sheet-size, kept-size}
 use Rattle.call_replay.proofs.Meetings.{apply-others, stepped-meet}
 use Rattle.call_replay.proofs.Choices.{after-by, fed-none, fed-step, allowed-in, shows-past, playing-reached, none-pending}
-use borrow.Author.Rules.{rules}
 use Rattle.call_replay.proofs.feed.step.Goals as goal
 
 pub decide-effect-requires : goal.decide-effect-requires

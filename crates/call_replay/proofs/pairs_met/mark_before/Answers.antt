@@ -1,9 +1,9 @@
 -- `call_replay::pairs_met::mark_before` meets its contract. The loop's invariant: thread t has met those passed.
 -- Assumes nothing.
 use mathlib.Core.Path.{◌≡◌}
-use Prim.Native.Nat.{◌-◌, ◌≤◌}
+use Prim.Native.Nat.{◌-◌}
 use native.Mathlib.Omega.{arith}
-use Rattle.call_replay.specs.PairsMet.{meet, meets, Marks}
+use Rattle.call_replay.specs.PairsMet.{meet}
 use Rattle.call_replay.proofs.Sheets.{sheet-same, kept_same, kept_then, met-none, met-more}
 use Rattle.call_replay.proofs.pairs_met.mark_before.Goals as goal
 

@@ -1,9 +1,6 @@
 -- The invariants and measures of `call_replay::pairs_met::mark_before`.
-use mathlib.Core.Path.{◌≡◌}
 use Prim.Native.Nat.{◌-◌, ◌≤◌}
-use native.Mathlib.Omega.{arith}
-use Rattle.call_replay.specs.PairsMet.{meet, meets, Marks}
-use Rattle.call_replay.proofs.Sheets.{sheet-same, kept_same, kept_then, met-none, met-more}
+use Rattle.call_replay.specs.PairsMet.{meets, Marks}
 use Rattle.call_replay.proofs.pairs_met.mark_before.Given as goal
 
 abbrev pub invariant-loop-k : goal.invariant-loop-k

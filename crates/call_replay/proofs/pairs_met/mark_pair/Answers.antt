@@ -2,7 +2,6 @@
 -- Assumes nothing.
 use mathlib.Core.Path.{◌∙◌}
 use native.Mathlib.Omega.{arith}
-use borrow.Author.Rules.{rules}
 use Rattle.call_replay.proofs.Sheets.{sheet-pair, kept_then}
 use Rattle.call_replay.proofs.pairs_met.mark_pair.Goals as goal
 

@@ -2,10 +2,9 @@
 -- Assumes nothing.
 use mathlib.Core.Path.{◌≡◌, ap}
 use mathlib.Core.Bool.{Bool, ◌||◌}
-use Prim.Native.Nat.{◌-◌, ◌≤◌}
+use Prim.Native.Nat.{◌-◌}
 use native.Mathlib.Omega.{arith}
-use Rattle.lists.specs.Range.{any}
-use Rattle.call_replay.specs.PairsMet.{meets, Marks}
+use Rattle.call_replay.specs.PairsMet.{meets}
 use Rattle.call_replay.proofs.Sheets.{sheet-same, kept_same, kept_then, met-none, met-more}
 use Rattle.call_replay.proofs.Meetings.{all_meet}
 use Rattle.call_replay.proofs.pairs_met.mark_state.Goals as goal

@@ -2,11 +2,10 @@
 -- Assumes nothing.
 use mathlib.Core.Path.{◌≡◌, sym, ◌∙◌, ap}
 use mathlib.Core.Bool.{Bool, ◌||◌}
-use Prim.Native.Nat.{◌-◌, ◌≤◌}
+use Prim.Native.Nat.{◌-◌}
 use native.Mathlib.Omega.{arith}
 use Rattle.lists.specs.Truth.{or-false}
-use Rattle.lists.specs.Range.{any}
-use Rattle.call_replay.specs.PairsMet.{meet, next_thread, Marks}
+use Rattle.call_replay.specs.PairsMet.{meet, next_thread}
 use Rattle.call_replay.proofs.Sheets.{sheet-same, kept_same, kept_then, met-more}
 use Rattle.call_replay.proofs.Meetings.{next-below, next-other, round-first, round-all}
 use Rattle.call_replay.proofs.pairs_met.mark_thread.Goals as goal

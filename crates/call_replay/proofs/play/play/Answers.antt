@@ -1,21 +1,15 @@
 -- `call_replay::play::play` meets its contract. The loop's invariant: the entries passed are fed.
 -- Assumes nothing.
 use mathlib.Core.Path.{◌≡◌, refl, sym, ◌∙◌}
-use Prim.Native.Nat.{suc, ◌*◌, ◌-◌, ◌/◌, ◌≤◌}
+use Prim.Native.Nat.{suc, ◌-◌, ◌/◌}
 use native.Mathlib.Omega.{arith}
 use native.Mathlib.Numerals.{add-one}
 use lib.ListN.{length}
-use borrow.Author.Tests.{not-true, not-false}
-use Rattle.chart.specs.Region.{Region}
-use Rattle.theory_traces.specs.Replay.{Play, begun, going, progress, outcome_of, play_of}
+use Rattle.theory_traces.specs.Replay.{begun, progress, outcome_of, play_of}
 use Rattle.theory_traces.proofs.ReplayLaws.{goes_on, halts, stays}
-use Rattle.answer_steps.specs.Tables.{Tabled}
-use Rattle.call_replay.specs.PairsMet.{Kept}
-use Rattle.call_replay.specs.Playing.{Playing, Few}
 use Rattle.call_replay.proofs.Sheets.{kept_same, kept_then}
 use Rattle.call_replay.proofs.Choices.{after_none, after-some, fed-at}
 use Rattle.call_replay.proofs.Counting.{few-feed, few-begun}
-use borrow.Author.Rules.{rules}
 use Rattle.call_replay.proofs.play.play.Goals as goal
 
 pub loop-i-init : goal.loop-i-init

@@ -1,20 +1,12 @@
 -- The invariants and measures of `call_replay::play::play`.
-use mathlib.Core.Path.{◌≡◌, refl, sym, ◌∙◌}
-use Prim.Native.Nat.{suc, ◌*◌, ◌-◌, ◌/◌, ◌≤◌}
-use native.Mathlib.Omega.{arith}
-use native.Mathlib.Numerals.{add-one}
+use mathlib.Core.Path.{◌≡◌}
+use Prim.Native.Nat.{◌*◌, ◌-◌, ◌/◌, ◌≤◌}
 use lib.ListN.{length}
-use borrow.Author.Tests.{not-true, not-false}
 use Rattle.chart.specs.Region.{Region}
-use Rattle.theory_traces.specs.Replay.{Play, begun, going, progress, outcome_of, play_of}
-use Rattle.theory_traces.proofs.ReplayLaws.{goes_on, halts, stays}
+use Rattle.theory_traces.specs.Replay.{Play, begun, going, progress}
 use Rattle.answer_steps.specs.Tables.{Tabled}
 use Rattle.call_replay.specs.PairsMet.{Kept}
 use Rattle.call_replay.specs.Playing.{Playing, Few}
-use Rattle.call_replay.proofs.Sheets.{kept_same, kept_then}
-use Rattle.call_replay.proofs.Choices.{after_none, after-some, fed-at}
-use Rattle.call_replay.proofs.Counting.{few-feed, few-begun}
-use borrow.Author.Rules.{rules}
 use Rattle.call_replay.proofs.play.play.Given as goal
 
 abbrev pub invariant-loop-i : goal.invariant-loop-i

@@ -1,15 +1,14 @@
 -- `call_replay::records::record` meets its contract. The loop's invariant: the constructs passed are copied.
 -- Assumes nothing.
 use mathlib.Core.Path.{◌≡◌, ◌∙◌}
-use Prim.Native.Nat.{ℕ, ◌+◌, ◌*◌, ◌-◌, ◌≤◌, ◌<◌}
+use Prim.Native.Nat.{ℕ, ◌+◌, ◌*◌, ◌-◌, ◌<◌}
 use native.Mathlib.Omega.{arith}
-use lib.ListN.{length, get_or, length-set, length-replicate}
+use lib.ListN.{get_or, length-set, length-replicate}
 use Rattle.lists.specs.Store.{stored}
 use native.Mathlib.Nat.{mod-eq_of_lt}
 use Rattle.lists.specs.Mask.{mask_of}
 use Rattle.theory_traces.specs.Call.{record_of}
 use Rattle.call_replay.proofs.Results.{tab-is}
-use borrow.Author.Rules.{rules}
 use Rattle.call_replay.proofs.records.record.Goals as goal
 
 pub loop-c-init : goal.loop-c-init

@@ -1,14 +1,7 @@
 -- The invariants and measures of `call_replay::records::record`.
-use mathlib.Core.Path.{◌≡◌, ◌∙◌}
+use mathlib.Core.Path.{◌≡◌}
 use Prim.Native.Nat.{ℕ, ◌+◌, ◌*◌, ◌-◌, ◌≤◌, ◌<◌}
-use native.Mathlib.Omega.{arith}
-use lib.ListN.{length, get_or, length-set, length-replicate}
-use Rattle.lists.specs.Store.{stored}
-use native.Mathlib.Nat.{mod-eq_of_lt}
-use Rattle.lists.specs.Mask.{mask_of}
-use Rattle.theory_traces.specs.Call.{record_of}
-use Rattle.call_replay.proofs.Results.{tab-is}
-use borrow.Author.Rules.{rules}
+use lib.ListN.{length, get_or}
 use Rattle.call_replay.proofs.records.record.Given as goal
 
 abbrev pub invariant-loop-c : goal.invariant-loop-c

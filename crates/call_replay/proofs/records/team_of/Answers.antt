@@ -1,14 +1,11 @@
 -- `call_replay::records::team_of` meets its contract. The loop's invariant: the records passed are made.
 -- Assumes nothing.
-use mathlib.Core.Path.{◌≡◌, refl, ◌∙◌}
-use Prim.Native.Nat.{ℕ, ◌-◌, ◌≤◌, ◌<◌}
+use mathlib.Core.Path.{refl, ◌∙◌}
+use Prim.Native.Nat.{◌-◌}
 use native.Mathlib.Omega.{arith}
-use lib.ListN.{length, get_or, length-set}
-use Rattle.theory_team.specs.State.{State}
+use lib.ListN.{length-set}
 use Rattle.theory_traces.specs.Call.{record_of}
-use Rattle.answer_steps.specs.Tables.{Shows}
 use Rattle.call_replay.proofs.Results.{tab-is, stored_at, unknown}
-use borrow.Author.Rules.{rules}
 use Rattle.call_replay.proofs.records.team_of.Goals as goal
 
 pub loop-t-init : goal.loop-t-init

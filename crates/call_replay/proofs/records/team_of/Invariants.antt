@@ -1,13 +1,11 @@
 -- The invariants and measures of `call_replay::records::team_of`.
-use mathlib.Core.Path.{◌≡◌, refl, ◌∙◌}
+use mathlib.Core.Path.{◌≡◌}
 use Prim.Native.Nat.{ℕ, ◌-◌, ◌≤◌, ◌<◌}
-use native.Mathlib.Omega.{arith}
-use lib.ListN.{length, get_or, length-set}
+use lib.ListN.{length, get_or}
 use Rattle.theory_team.specs.State.{State}
 use Rattle.theory_traces.specs.Call.{record_of}
 use Rattle.answer_steps.specs.Tables.{Shows}
-use Rattle.call_replay.proofs.Results.{tab-is, stored_at, unknown}
-use borrow.Author.Rules.{rules}
+use Rattle.call_replay.proofs.Results.{unknown}
 use Rattle.call_replay.proofs.records.team_of.Given as goal
 
 abbrev pub invariant-loop-t : goal.invariant-loop-t

@@ -1,7 +1,6 @@
 -- `call_replay::run::replay_chart` meets its contract.
 -- Assumes nothing.
 use mathlib.Core.Path.{◌∙◌}
-use borrow.Author.Rules.{rules}
 use Rattle.chart.proofs.Records.{nodes-length}
 use Rattle.call_replay.proofs.Results.{sheet-content}
 use Rattle.call_replay.proofs.run.replay_chart.Goals as goal

@@ -9,7 +9,6 @@ use Rattle.chart.specs.declared.format.Chart.{Chart}
 use Rattle.theory_paths.specs.Admission.{region_rows}
 use Rattle.mark_regions.proofs.Entering.{entered-refused, entered-marked, entered-counts}
 use Rattle.call_replay.proofs.Calls.{region-refused, refused-answer, refused-sheet, refused-count, refused_none, left-length}
-use borrow.Author.Rules.{rules}
 use Rattle.call_replay.proofs.run.run.Goals as goal
 
 pub run_chart-requires : goal.run_chart-requires

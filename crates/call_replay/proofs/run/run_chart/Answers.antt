@@ -12,7 +12,6 @@ use Rattle.output.specs.Output.{left_by, content}
 use Rattle.call_replay.specs.Team.{count_by}
 use Rattle.call_replay.proofs.Results.{content-length}
 use Rattle.call_replay.proofs.Calls.{trace-refused, room-refused, none-refused, refused-answer, refused-sheet, refused-count, refused_none}
-use borrow.Author.Rules.{rules}
 use Rattle.call_replay.proofs.run.run_chart.Goals as goal
 
 pub returns-then-bad_trace : goal.returns-then-bad_trace

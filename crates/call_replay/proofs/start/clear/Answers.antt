@@ -1,9 +1,9 @@
 -- `call_replay::start::clear` meets its contract. The loop's invariant: the bytes passed are 0.
 -- Assumes nothing.
 use mathlib.Core.Path.{◌≡◌, refl, ◌∙◌}
-use Prim.Native.Nat.{ℕ, ◌-◌, ◌≤◌, ◌<◌}
+use Prim.Native.Nat.{◌-◌}
 use native.Mathlib.Omega.{arith}
-use lib.ListN.{length, get_or, length-set}
+use lib.ListN.{length-set}
 use lib.Seq.{get_or-set_other}
 use Rattle.lists.specs.Store.{stored}
 use Rattle.call_replay.proofs.start.clear.Goals as goal

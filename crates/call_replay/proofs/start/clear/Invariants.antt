@@ -1,10 +1,7 @@
 -- The invariants and measures of `call_replay::start::clear`.
-use mathlib.Core.Path.{◌≡◌, refl, ◌∙◌}
+use mathlib.Core.Path.{◌≡◌}
 use Prim.Native.Nat.{ℕ, ◌-◌, ◌≤◌, ◌<◌}
-use native.Mathlib.Omega.{arith}
-use lib.ListN.{length, get_or, length-set}
-use lib.Seq.{get_or-set_other}
-use Rattle.lists.specs.Store.{stored}
+use lib.ListN.{length, get_or}
 use Rattle.call_replay.proofs.start.clear.Given as goal
 
 abbrev pub invariant-loop-i : goal.invariant-loop-i

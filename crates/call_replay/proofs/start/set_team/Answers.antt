@@ -1,12 +1,11 @@
 -- `call_replay::start::set_team` meets its contract. The loop's invariant: the threads passed are at start.
 -- Assumes nothing.
 use mathlib.Core.Path.{◌≡◌, refl, sym, ◌∙◌, subst}
-use Prim.Native.Nat.{ℕ, ◌+◌, ◌-◌, ◌≤◌}
+use Prim.Native.Nat.{ℕ, ◌+◌, ◌-◌}
 use native.Mathlib.Omega.{arith}
 use lib.ListN.{get_or, replicate}
 use Rattle.call_replay.proofs.Releases.{Fresh, fresh-none, fresh-more}
 use Rattle.call_replay.proofs.Begun.{same_at, shows-begun}
-use borrow.Author.Rules.{rules}
 use Rattle.call_replay.proofs.start.set_team.Goals as goal
 
 pub loop-t-init : goal.loop-t-init

@@ -1,11 +1,8 @@
 -- The invariants and measures of `call_replay::start::set_team`.
-use mathlib.Core.Path.{◌≡◌, refl, sym, ◌∙◌, subst}
-use Prim.Native.Nat.{ℕ, ◌+◌, ◌-◌, ◌≤◌}
-use native.Mathlib.Omega.{arith}
+use mathlib.Core.Path.{◌≡◌}
+use Prim.Native.Nat.{◌-◌, ◌≤◌}
 use lib.ListN.{get_or, replicate}
-use Rattle.call_replay.proofs.Releases.{Fresh, fresh-none, fresh-more}
-use Rattle.call_replay.proofs.Begun.{same_at, shows-begun}
-use borrow.Author.Rules.{rules}
+use Rattle.call_replay.proofs.Releases.{Fresh}
 use Rattle.call_replay.proofs.start.set_team.Given as goal
 
 abbrev pub invariant-loop-t : goal.invariant-loop-t

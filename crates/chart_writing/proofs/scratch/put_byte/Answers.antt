@@ -1,6 +1,5 @@
 -- `chart_writing::scratch::put_byte` meets its contract.
 -- Assumes nothing.
-use borrow.Author.Rules.{rules}
 use Rattle.chart_writing.proofs.Putting.{byte_put}
 use Rattle.chart_writing.proofs.scratch.put_byte.Goals as goal
 

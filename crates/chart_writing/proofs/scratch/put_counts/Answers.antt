@@ -2,7 +2,6 @@
 -- Assumes nothing.
 use native.Mathlib.Nat.{add_assoc}
 use lib.ListN.{take}
-use borrow.Author.Rules.{rules}
 use Rattle.chart_writing.proofs.Putting.{four-fields}
 use Rattle.chart_writing.proofs.scratch.put_counts.Goals as goal
 

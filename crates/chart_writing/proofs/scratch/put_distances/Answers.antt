@@ -5,7 +5,6 @@ use Prim.Native.Nat.{◌+◌, ◌*◌}
 use native.Mathlib.Nat.{add_assoc}
 use native.Mathlib.Omega.{arith}
 use lib.ListN.{take}
-use borrow.Author.Rules.{rules}
 use Rattle.chart.specs.Format.{construct_bytes}
 use Rattle.chart_writing.proofs.Putting.{four-fields}
 use Rattle.chart_writing.proofs.scratch.put_distances.Goals as goal

@@ -2,7 +2,6 @@
 -- Assumes nothing.
 use native.Mathlib.Nat.{add_assoc}
 use lib.ListN.{take}
-use borrow.Author.Rules.{rules}
 use Rattle.chart_writing.specs.Trailer.{trailer_for}
 use Rattle.chart_writing.specs.ScratchTrailer.{count_bytes, distance_bytes}
 use Rattle.chart_writing.proofs.Putting.{chained}

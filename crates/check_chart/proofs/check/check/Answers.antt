@@ -1,7 +1,6 @@
 -- `check_chart::check::check` meets its contract.
 -- Assumes nothing.
 use mathlib.Core.Path.{sym, subst, ◌∙◌}
-use borrow.Author.Rules.{rules}
 use Rattle.lists.specs.Truth.{bad}
 use Rattle.chart.specs.Checked.{Laid, counts_of, checked_by, checked}
 use Rattle.chart.specs.Refusal.{trailer_rows, table_rows, chart_rows}

@@ -1,7 +1,6 @@
 -- `check_chart::check::check_tables` meets its contract.
 -- Assumes nothing.
 use mathlib.Core.Path.{sym, ◌∙◌}
-use borrow.Author.Rules.{rules}
 use Rattle.lists.specs.Truth.{bad}
 use Rattle.chart.specs.Checked.{checked_by}
 use Rattle.chart.specs.Refusal.{first_of, table_rows}

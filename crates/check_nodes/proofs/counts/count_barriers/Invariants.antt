@@ -1,12 +1,9 @@
 -- The invariants and measures of `check_nodes::counts::count_barriers`.
-use mathlib.Core.Path.{◌≡◌, subst}
-use Prim.Native.Nat.{ℕ, ◌≤◌, ◌-◌}
-use native.Mathlib.Omega.{arith}
+use Prim.Native.Nat.{◌≤◌, ◌-◌}
 use lib.Dec.{leb}
 use Rattle.chart.specs.Format.{decode}
 use Rattle.chart.specs.Scope.{barrier_node}
 use Rattle.check_nodes.specs.Counted.{Counted}
-use Rattle.check_nodes.proofs.Counted.{count-on, counted-most}
 use Rattle.check_nodes.proofs.counts.count_barriers.Given as goal
 
 abbrev pub invariant-loop-x : goal.invariant-loop-x

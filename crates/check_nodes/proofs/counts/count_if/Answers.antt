@@ -4,7 +4,6 @@ use mathlib.Core.Path.{◌∙◌}
 use Prim.Native.Nat.{◌+◌}
 use native.Mathlib.Omega.{arith}
 use lib.ListN.{get_or, length-set}
-use borrow.Author.Rules.{rules}
 use Rattle.check_nodes.proofs.Counted.{counted, uncounted}
 use Rattle.check_nodes.proofs.counts.count_if.Goals as goal
 

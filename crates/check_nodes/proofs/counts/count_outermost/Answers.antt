@@ -1,10 +1,9 @@
 -- `check_nodes::counts::count_outermost` meets its contract: after x turns the barriers among the first x nodes are counted.
 -- Assumes nothing.
 use mathlib.Core.Path.{◌≡◌, refl, ap, ◌∙◌}
-use Prim.Native.Nat.{ℕ, ◌+◌, ◌≤◌, ◌-◌}
+use Prim.Native.Nat.{ℕ, ◌+◌, ◌-◌}
 use native.Mathlib.Omega.{arith}
 use lib.ListN.{length}
-use borrow.Author.Rules.{rules}
 use Rattle.lists.specs.Range.{count, count_most, count-more}
 use Rattle.chart.specs.Format.{outside, decode}
 use Rattle.chart.specs.Refusal.{barrier_of}

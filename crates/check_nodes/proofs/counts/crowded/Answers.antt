@@ -1,15 +1,12 @@
 -- `check_nodes::counts::crowded` meets its contract.
 -- Assumes nothing.
 use mathlib.Core.Path.{◌≡◌, refl, sym, ap, ◌∙◌}
-use mathlib.Core.Bool.{Bool, false, ◌&&◌}
-use mathlib.Core.List.{List}
-use Prim.Native.Nat.{ℕ, ◌≤◌, ◌-◌}
+use mathlib.Core.Bool.{false}
+use Prim.Native.Nat.{ℕ, ◌-◌}
 use native.Mathlib.Omega.{arith}
 use lib.ListN.{length}
 use Rattle.lists.specs.Range.{any, at-any, any-more}
 use Rattle.chart.specs.Format.{decode}
-use Rattle.chart.specs.Nested.{is_parallel}
-use Rattle.chart.specs.Refusal.{too_many_in}
 use Rattle.chart.proofs.Records.{constructs-length}
 use Rattle.check_nodes.proofs.counts.crowded.Invariants.{bad}
 use Rattle.check_nodes.proofs.counts.crowded.Goals as goal

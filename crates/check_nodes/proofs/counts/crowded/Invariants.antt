@@ -1,15 +1,12 @@
 -- The invariants and measures of `check_nodes::counts::crowded`.
-use mathlib.Core.Path.{◌≡◌, refl, sym, ap, ◌∙◌}
+use mathlib.Core.Path.{◌≡◌}
 use mathlib.Core.Bool.{Bool, false, ◌&&◌}
 use mathlib.Core.List.{List}
 use Prim.Native.Nat.{ℕ, ◌≤◌, ◌-◌}
-use native.Mathlib.Omega.{arith}
-use lib.ListN.{length}
-use Rattle.lists.specs.Range.{any, at-any, any-more}
+use Rattle.lists.specs.Range.{any}
 use Rattle.chart.specs.Format.{decode}
 use Rattle.chart.specs.Nested.{is_parallel}
 use Rattle.chart.specs.Refusal.{too_many_in}
-use Rattle.chart.proofs.Records.{constructs-length}
 use Rattle.check_nodes.proofs.counts.crowded.Given as goal
 
 abbrev pub bad : List ℕ → ℕ → Bool

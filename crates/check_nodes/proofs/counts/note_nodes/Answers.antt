@@ -3,9 +3,7 @@
 use mathlib.Core.Path.{◌≡◌}
 use Prim.Native.Nat.{◌≤◌, ◌-◌, ◌%◌}
 use native.Mathlib.Omega.{arith}
-use borrow.Author.Rules.{rules}
 use Rattle.chart.specs.Format.{decode}
-use Rattle.check_nodes.specs.Framed.{Noted}
 use Rattle.check_nodes.proofs.Framing.{noted-none, noted_more, in_order}
 use Rattle.check_nodes.proofs.counts.note_nodes.Goals as goal
 

@@ -1,11 +1,7 @@
 -- The invariants and measures of `check_nodes::counts::note_nodes`.
-use mathlib.Core.Path.{◌≡◌}
-use Prim.Native.Nat.{◌≤◌, ◌-◌, ◌%◌}
-use native.Mathlib.Omega.{arith}
-use borrow.Author.Rules.{rules}
+use Prim.Native.Nat.{◌≤◌, ◌-◌}
 use Rattle.chart.specs.Format.{decode}
 use Rattle.check_nodes.specs.Framed.{Noted}
-use Rattle.check_nodes.proofs.Framing.{noted-none, noted_more, in_order}
 use Rattle.check_nodes.proofs.counts.note_nodes.Given as goal
 
 abbrev pub invariant-loop-x : goal.invariant-loop-x

@@ -4,11 +4,10 @@ use mathlib.Core.Path.{◌≡◌, refl, ap, ◌∙◌}
 use Prim.Native.Nat.{ℕ, ◌+◌, ◌*◌, ◌-◌, ◌≤◌, ◌<◌}
 use native.Mathlib.Omega.{arith}
 use lib.Dec.{eqb}
-use lib.ListN.{length, get_or, length-set}
-use borrow.Author.Rules.{rules}
+use lib.ListN.{get_or, length-set}
 use Rattle.lists.specs.Range.{any, any_next}
-use Rattle.lists.specs.Store.{Written, written_none, written-more}
-use Rattle.check_nodes.specs.Framed.{not_noted, noted_at, lacking}
+use Rattle.lists.specs.Store.{written_none, written-more}
+use Rattle.check_nodes.specs.Framed.{not_noted, noted_at}
 use Rattle.check_nodes.proofs.counts.take_frames.Goals as goal
 
 pub loop-c-init : goal.loop-c-init

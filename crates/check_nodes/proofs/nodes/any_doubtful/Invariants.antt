@@ -1,12 +1,9 @@
 -- The invariants and measures of `check_nodes::nodes::any_doubtful`.
-use mathlib.Core.Path.{◌≡◌, refl, ap, ◌∙◌}
-use Prim.Native.Nat.{ℕ, ◌≤◌, ◌-◌}
-use native.Mathlib.Omega.{arith}
+use mathlib.Core.Path.{◌≡◌}
+use Prim.Native.Nat.{◌≤◌, ◌-◌}
 use lib.ListN.{length}
-use borrow.Author.Rules.{rules}
-use Rattle.lists.specs.Range.{any, any_next}
+use Rattle.lists.specs.Range.{any}
 use Rattle.chart.specs.Format.{decode}
-use Rattle.chart.proofs.Records.{nodes-length, constructs-length}
 use Rattle.check_nodes.specs.Parts.{doubtful_at}
 use Rattle.check_nodes.proofs.nodes.any_doubtful.Given as goal
 

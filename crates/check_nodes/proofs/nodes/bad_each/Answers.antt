@@ -1,16 +1,13 @@
 -- `check_nodes::nodes::bad_each` meets its contract.
 -- Assumes nothing.
-use mathlib.Core.List.{List}
-use mathlib.Core.Bool.{Bool, false}
+use mathlib.Core.Bool.{false}
 use mathlib.Core.Path.{◌≡◌, refl, sym, ap, ◌∙◌}
-use Prim.Native.Nat.{ℕ, ◌≤◌, ◌-◌}
+use Prim.Native.Nat.{ℕ, ◌-◌}
 use native.Mathlib.Omega.{arith}
 use lib.ListN.{length}
-use borrow.Author.Rules.{rules}
 use Rattle.lists.specs.Range.{any, at-any, any-more}
 use Rattle.chart.specs.Format.{decode}
 use Rattle.chart.proofs.Records.{nodes-length}
-use Rattle.check_nodes.specs.Parts.{alone_at}
 use Rattle.check_nodes.proofs.nodes.bad_each.Invariants.{bad}
 use Rattle.check_nodes.proofs.nodes.bad_each.Goals as goal
 

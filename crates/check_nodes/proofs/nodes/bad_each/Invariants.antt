@@ -1,14 +1,10 @@
 -- The invariants and measures of `check_nodes::nodes::bad_each`.
 use mathlib.Core.List.{List}
 use mathlib.Core.Bool.{Bool, false}
-use mathlib.Core.Path.{◌≡◌, refl, sym, ap, ◌∙◌}
+use mathlib.Core.Path.{◌≡◌}
 use Prim.Native.Nat.{ℕ, ◌≤◌, ◌-◌}
-use native.Mathlib.Omega.{arith}
-use lib.ListN.{length}
-use borrow.Author.Rules.{rules}
-use Rattle.lists.specs.Range.{any, at-any, any-more}
+use Rattle.lists.specs.Range.{any}
 use Rattle.chart.specs.Format.{decode}
-use Rattle.chart.proofs.Records.{nodes-length}
 use Rattle.check_nodes.specs.Parts.{alone_at}
 use Rattle.check_nodes.proofs.nodes.bad_each.Given as goal
 

@@ -1,6 +1,5 @@
 -- `check_nodes::nodes::doubtful` meets its contract.
 -- Assumes nothing.
-use borrow.Author.Rules.{rules}
 use Rattle.check_nodes.specs.Parts.{doubtful}
 use Rattle.check_nodes.proofs.nodes.doubtful.Goals as goal
 

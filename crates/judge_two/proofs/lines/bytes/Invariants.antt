@@ -1,7 +1,6 @@
 -- The invariants and measures of `judge_two::lines::bytes`.
 use Prim.Native.Nat.{◌-◌}
 use lib.ListN.{length}
-use borrow.Author.Rules.{rules}
 use Rattle.judge_two.proofs.lines.bytes.Given as goal
 
 abbrev pub invariant-loop-i : goal.invariant-loop-i

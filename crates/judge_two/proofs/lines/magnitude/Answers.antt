@@ -7,7 +7,6 @@ use lib.IntN.{pos}
 use lib.Signed.{lt_z}
 use mir.Syntax.{w64}
 use mir.ValLaws.{to_z-of_z}
-use borrow.Author.Rules.{rules}
 use Rattle.judge_two.proofs.Signs.{magnitude-is, unsigned, less-fits, opposite-fits, stored_is}
 use Rattle.judge_two.proofs.lines.magnitude.Goals as goal
 

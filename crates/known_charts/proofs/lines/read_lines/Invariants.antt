@@ -1,7 +1,6 @@
 -- The invariants and measures of `known_charts::lines::read_lines`.
 use mathlib.Core.Path.{◌≡◌}
 use Prim.Native.Nat.{◌-◌}
-use borrow.Author.Rules.{rules}
 use lib.ListN.{length}
 use Rattle.known_charts.proofs.lines.read_lines.Given as goal
 

@@ -3,7 +3,6 @@
 use mathlib.Core.Path.{◌∙◌}
 use Prim.Native.Nat.{◌-◌}
 use native.Mathlib.Omega.{arith}
-use borrow.Author.Rules.{rules}
 use Rattle.theory_paths.specs.FoundLaws.{listed-turned}
 use Rattle.theory_paths.specs.Phases.{forward, backward}
 use Rattle.mark.proofs.Searching.{standing, found-along, lost-told, all-masks}

@@ -1,6 +1,5 @@
 -- `mark::joining::any_apart` meets its contract, whichever the direction of the masks.
 -- Assumes nothing.
-use borrow.Author.Rules.{rules}
 use Rattle.mark.proofs.JoiningLaws.{apart-told}
 use Rattle.mark.proofs.joining.any_apart.Goals as goal
 

@@ -1,11 +1,9 @@
 -- The invariants and measures of `mark::joining::any_missed`.
-use mathlib.Core.Path.{◌≡◌, refl}
-use Prim.Native.Nat.{◌+◌, ◌≤◌, ◌-◌}
-use native.Mathlib.Omega.{arith}
-use borrow.Author.Rules.{rules}
+use mathlib.Core.Path.{◌≡◌}
+use Prim.Native.Nat.{◌≤◌, ◌-◌}
 use lib.Dec.{eqb}
 use lib.ListN.{get_or}
-use Rattle.lists.specs.Range.{count, count_most, count-more}
+use Rattle.lists.specs.Range.{count}
 use Rattle.mark.proofs.joining.any_missed.Given as goal
 
 abbrev pub invariant-loop-x : goal.invariant-loop-x

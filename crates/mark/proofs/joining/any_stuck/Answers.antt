@@ -1,7 +1,6 @@
 -- `mark::joining::any_stuck` meets its contract: what leads to the last barrier is led to from there, with the edges turned round.
 -- Assumes nothing.
 use native.Mathlib.Omega.{arith}
-use borrow.Author.Rules.{rules}
 use Rattle.mark.proofs.JoiningLaws.{stuck-told}
 use Rattle.mark.proofs.joining.any_stuck.Goals as goal
 

@@ -1,6 +1,5 @@
 -- `mark::joining::join` meets its contract.
 -- Assumes nothing.
-use borrow.Author.Rules.{rules}
 use borrow.Author.Tests.{eq-eqb, ne_eqb}
 use Rattle.mark.proofs.joining.join.Goals as goal
 

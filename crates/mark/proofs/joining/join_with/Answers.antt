@@ -1,6 +1,5 @@
 -- `mark::joining::join_with` meets its contract.
 -- Assumes nothing.
-use borrow.Author.Rules.{rules}
 use Rattle.mark.proofs.joining.join_with.Goals as goal
 
 pub returns-then-has : goal.returns-then-has

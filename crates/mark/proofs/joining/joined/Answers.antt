@@ -1,12 +1,10 @@
 -- `mark::joining::joined` meets its contract: between the passes no barrier is told joined that is not.
 -- Assumes nothing.
 use mathlib.Core.Path.{◌≡◌}
-use Prim.Native.Nat.{◌^◌, ◌-◌}
+use Prim.Native.Nat.{◌-◌}
 use native.Mathlib.Omega.{arith}
 use lib.Pow.{pow-lt}
-use borrow.Author.Rules.{rules}
-use Rattle.mark.specs.Joined.{Told}
-use Rattle.mark.proofs.JoiningLaws.{Joins, joins-none, joins-more, joined-full, joined-all}
+use Rattle.mark.proofs.JoiningLaws.{joins-none, joins-more, joined-full, joined-all}
 use Rattle.mark.proofs.joining.joined.Goals as goal
 
 pub loop-before-init : goal.loop-before-init

@@ -1,6 +1,5 @@
 -- `mark::joining::pass` meets its contract.
 -- Assumes nothing.
-use borrow.Author.Rules.{rules}
 use Rattle.mark.proofs.JoiningLaws.{passed-still}
 use Rattle.mark.proofs.joining.pass.Goals as goal
 

@@ -1,10 +1,7 @@
 -- `mark::joining::pass_against` meets its contract: the barriers from `left` on have had their turn.
 -- Assumes nothing.
-use mathlib.Core.Bool.{true}
-use Prim.Native.Nat.{◌≤◌, ◌<◌, ◌-◌}
+use Prim.Native.Nat.{◌-◌}
 use native.Mathlib.Omega.{arith}
-use borrow.Author.Rules.{rules}
-use Rattle.mark.specs.Joined.{Told, Passed}
 use Rattle.mark.proofs.JoiningLaws.{passed_none, passed-still, against-more}
 use Rattle.mark.proofs.joining.pass_against.Goals as goal
 

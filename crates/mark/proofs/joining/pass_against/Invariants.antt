@@ -1,10 +1,7 @@
 -- The invariants and measures of `mark::joining::pass_against`.
 use mathlib.Core.Bool.{true}
 use Prim.Native.Nat.{◌≤◌, ◌<◌, ◌-◌}
-use native.Mathlib.Omega.{arith}
-use borrow.Author.Rules.{rules}
 use Rattle.mark.specs.Joined.{Told, Passed}
-use Rattle.mark.proofs.JoiningLaws.{passed_none, passed-still, against-more}
 use Rattle.mark.proofs.joining.pass_against.Given as goal
 
 abbrev pub invariant-loop-left : goal.invariant-loop-left

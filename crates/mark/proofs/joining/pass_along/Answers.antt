@@ -1,11 +1,8 @@
 -- `mark::joining::pass_along` meets its contract: after b turns the first b barriers have had theirs.
 -- Assumes nothing.
 use mathlib.Core.Path.{◌≡◌}
-use mathlib.Core.Bool.{false}
-use Prim.Native.Nat.{◌≤◌, ◌<◌, ◌-◌}
+use Prim.Native.Nat.{◌-◌}
 use native.Mathlib.Omega.{arith}
-use borrow.Author.Rules.{rules}
-use Rattle.mark.specs.Joined.{Told, Passed}
 use Rattle.mark.proofs.JoiningLaws.{passed_none, along-more}
 use Rattle.mark.proofs.joining.pass_along.Goals as goal
 

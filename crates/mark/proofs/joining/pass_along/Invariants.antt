@@ -1,11 +1,7 @@
 -- The invariants and measures of `mark::joining::pass_along`.
-use mathlib.Core.Path.{◌≡◌}
 use mathlib.Core.Bool.{false}
 use Prim.Native.Nat.{◌≤◌, ◌<◌, ◌-◌}
-use native.Mathlib.Omega.{arith}
-use borrow.Author.Rules.{rules}
 use Rattle.mark.specs.Joined.{Told, Passed}
-use Rattle.mark.proofs.JoiningLaws.{passed_none, along-more}
 use Rattle.mark.proofs.joining.pass_along.Given as goal
 
 abbrev pub invariant-loop-b : goal.invariant-loop-b

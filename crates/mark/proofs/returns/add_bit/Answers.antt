@@ -5,7 +5,6 @@ use Prim.Native.Nat.{◌^◌}
 use native.Mathlib.Omega.{arith}
 use native.Mathlib.Nat.{one-mul}
 use lib.Pow.{shl_exact}
-use borrow.Author.Rules.{rules}
 use Rattle.mark.proofs.returns.add_bit.Goals as goal
 
 pub returns-then-has : goal.returns-then-has

@@ -1,9 +1,8 @@
 -- `mark::returns::add_ends` meets its contract: after c turns the first c ends stand behind the barriers.
 -- Assumes nothing.
 use mathlib.Core.Path.{◌≡◌}
-use Prim.Native.Nat.{◌+◌, ◌-◌, ◌≤◌, ◌<◌}
+use Prim.Native.Nat.{◌+◌, ◌-◌, ◌<◌}
 use native.Mathlib.Omega.{arith}
-use Rattle.mark.specs.Returning.{Added}
 use Rattle.mark.proofs.Further.{added_none, added-start, added_more}
 use Rattle.mark.proofs.returns.add_ends.Goals as goal
 

@@ -1,9 +1,6 @@
 -- The invariants and measures of `mark::returns::add_ends`.
-use mathlib.Core.Path.{◌≡◌}
-use Prim.Native.Nat.{◌+◌, ◌-◌, ◌≤◌, ◌<◌}
-use native.Mathlib.Omega.{arith}
+use Prim.Native.Nat.{◌+◌, ◌-◌, ◌≤◌}
 use Rattle.mark.specs.Returning.{Added}
-use Rattle.mark.proofs.Further.{added_none, added-start, added_more}
 use Rattle.mark.proofs.returns.add_ends.Given as goal
 
 abbrev pub invariant-loop-c : goal.invariant-loop-c

@@ -1,10 +1,9 @@
 -- `mark::returns::all_before` meets its contract: the constructs passed begin before they end.
 -- Assumes nothing.
 use mathlib.Core.Path.{refl}
-use Prim.Native.Nat.{ℕ, ◌≤◌, ◌<◌, ◌-◌}
+use Prim.Native.Nat.{◌-◌}
 use native.Mathlib.Omega.{arith}
 use native.Mathlib.Decide.{ℕ_discrete}
-use lib.ListN.{get_or}
 use Rattle.lists.specs.Truth.{clash}
 use Rattle.mark.proofs.returns.all_before.Goals as goal
 

@@ -1,10 +1,6 @@
 -- The invariants and measures of `mark::returns::all_before`.
-use mathlib.Core.Path.{refl}
 use Prim.Native.Nat.{ℕ, ◌≤◌, ◌<◌, ◌-◌}
-use native.Mathlib.Omega.{arith}
-use native.Mathlib.Decide.{ℕ_discrete}
 use lib.ListN.{get_or}
-use Rattle.lists.specs.Truth.{clash}
 use Rattle.mark.proofs.returns.all_before.Given as goal
 
 abbrev pub invariant-loop-c : goal.invariant-loop-c

@@ -1,14 +1,11 @@
 -- `mark::returns::any_asked` meets its contract: of the constructs passed no rule asks it.
 -- Assumes nothing.
-use mathlib.Core.Path.{◌≡◌, refl, sym, ap, ◌∙◌}
+use mathlib.Core.Path.{refl}
 use mathlib.Core.Bool.{false}
-use Prim.Native.Nat.{ℕ, ◌≤◌, ◌<◌, ◌-◌}
+use Prim.Native.Nat.{◌-◌}
 use native.Mathlib.Omega.{arith}
 use native.Mathlib.Decide.{ℕ_discrete}
 use Rattle.lists.specs.Truth.{clash}
-use Rattle.chart.specs.Format.{decode, construct_at}
-use Rattle.chart.specs.Scope.{kind_of}
-use Rattle.mark_tables.specs.Tables.{asks_return}
 use Rattle.mark.proofs.returns.any_asked.Goals as goal
 
 pub loop-c-init : goal.loop-c-init

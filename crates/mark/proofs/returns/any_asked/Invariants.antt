@@ -1,10 +1,7 @@
 -- The invariants and measures of `mark::returns::any_asked`.
-use mathlib.Core.Path.{◌≡◌, refl, sym, ap, ◌∙◌}
+use mathlib.Core.Path.{◌≡◌}
 use mathlib.Core.Bool.{false}
 use Prim.Native.Nat.{ℕ, ◌≤◌, ◌<◌, ◌-◌}
-use native.Mathlib.Omega.{arith}
-use native.Mathlib.Decide.{ℕ_discrete}
-use Rattle.lists.specs.Truth.{clash}
 use Rattle.chart.specs.Format.{decode, construct_at}
 use Rattle.chart.specs.Scope.{kind_of}
 use Rattle.mark_tables.specs.Tables.{asks_return}

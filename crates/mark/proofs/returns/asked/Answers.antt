@@ -3,7 +3,6 @@
 use mathlib.Core.Path.{◌≡◌, refl}
 use native.Mathlib.Omega.{arith}
 use Prim.Native.Nat.{ℕ}
-use borrow.Author.Tests.{not-true}
 use Rattle.lists.specs.Truth.{clash}
 use Rattle.lists.specs.Bits.{has_of}
 use Rattle.chart.specs.Region.{Region}

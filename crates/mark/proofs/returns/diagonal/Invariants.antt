@@ -1,14 +1,11 @@
 -- The invariants and measures of `mark::returns::diagonal`.
-use mathlib.Core.Path.{◌≡◌, refl, sym, ◌∙◌}
+use mathlib.Core.Path.{◌≡◌}
 use mathlib.Core.Bool.{Bool}
 use mathlib.Core.List.{List}
-use Prim.Native.Nat.{ℕ, ◌+◌, ◌-◌, ◌/◌, ◌^◌, ◌≤◌}
-use native.Mathlib.Omega.{arith}
-use lib.Pow.{shr-shr}
+use Prim.Native.Nat.{ℕ, ◌+◌, ◌-◌, ◌≤◌}
 use lib.ListN.{get_or}
-use borrow.Author.Rules.{rules}
 use Rattle.lists.specs.Mask.{mask_of}
-use Rattle.lists.specs.Bits.{has, mask_next}
+use Rattle.lists.specs.Bits.{has}
 use Rattle.mark.proofs.returns.diagonal.Given as goal
 
 abbrev pub own : List ℕ → List ℕ → ℕ → ℕ → Bool

@@ -1,11 +1,10 @@
 -- `mark::returns::keep_first` meets its contract: after x turns the first x masks are written.
 -- Assumes nothing.
 use mathlib.Core.Path.{refl}
-use Prim.Native.Nat.{◌-◌, ◌≤◌}
+use Prim.Native.Nat.{◌-◌}
 use native.Mathlib.Omega.{arith}
 use lib.Pow.{pow_pos}
-use Rattle.search.proofs.Writing.{Writing, writing-none, writing_more, writing-all}
-use Rattle.mark.specs.Returning.{First}
+use Rattle.search.proofs.Writing.{writing-none, writing_more, writing-all}
 use Rattle.mark.proofs.returns.keep_first.Goals as goal
 
 pub bit-above-requires : goal.bit-above-requires

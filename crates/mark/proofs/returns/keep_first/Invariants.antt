@@ -1,9 +1,6 @@
 -- The invariants and measures of `mark::returns::keep_first`.
-use mathlib.Core.Path.{refl}
 use Prim.Native.Nat.{◌-◌, ◌≤◌}
-use native.Mathlib.Omega.{arith}
-use lib.Pow.{pow_pos}
-use Rattle.search.proofs.Writing.{Writing, writing-none, writing_more, writing-all}
+use Rattle.search.proofs.Writing.{Writing}
 use Rattle.mark.specs.Returning.{First}
 use Rattle.mark.proofs.returns.keep_first.Given as goal
 

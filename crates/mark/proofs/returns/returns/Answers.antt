@@ -4,7 +4,6 @@ use mathlib.Core.Path.{◌≡◌, refl, sym, ◌∙◌}
 use mathlib.Core.Logic.{⊎_elim}
 use native.Mathlib.Omega.{arith}
 use native.Mathlib.Nat.{zero-add}
-use borrow.Author.Rules.{rules}
 use Rattle.chart.proofs.Records.{constructs-length}
 use Rattle.mark.proofs.Searching.{ends-reach}
 use Rattle.mark.proofs.Further.{spread-first}

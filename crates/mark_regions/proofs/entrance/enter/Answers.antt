@@ -1,7 +1,6 @@
 -- `mark_regions::entrance::enter` meets its contract: rows 1 to 10 of the outermost region, and where none of them applies row 23.
 -- Assumes nothing.
 use mathlib.Core.Path.{sym, ◌∙◌}
-use borrow.Author.Rules.{rules}
 use Rattle.lists.specs.Truth.{bad}
 use Rattle.mark_regions.proofs.Entering.{entered-refused, entered-marked, entered-counts}
 use Rattle.mark_regions.proofs.Naming.{refused-first, marked-outermost}

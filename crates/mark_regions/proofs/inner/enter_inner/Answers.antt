@@ -1,9 +1,8 @@
 -- `mark_regions::inner::enter_inner` meets its contract: row 23, and where it does not apply the region's own marking.
 -- Assumes nothing.
-use mathlib.Core.Path.{◌≡◌, refl, ap, sym, ◌∙◌, subst}
+use mathlib.Core.Path.{refl, ap, sym, ◌∙◌, subst}
 use mathlib.Core.Logic.{◌≢◌}
 use lib.ListN.{length}
-use borrow.Author.Rules.{rules}
 use Rattle.lists.specs.Truth.{bad}
 use Rattle.chart.specs.Format.{outside}
 use Rattle.chart.specs.Checked.{read_for, reading}

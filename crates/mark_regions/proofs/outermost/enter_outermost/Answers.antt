@@ -1,7 +1,6 @@
 -- `mark_regions::outermost::enter_outermost` meets its contract: rows 1 to 9, and where none of them applies row 10.
 -- Assumes nothing.
 use mathlib.Core.Path.{sym, ◌∙◌}
-use borrow.Author.Rules.{rules}
 use Rattle.lists.specs.Truth.{bad}
 use Rattle.mark_tables.proofs.Accepted.{accepted}
 use Rattle.mark_tables.proofs.Rows.{refused-before}

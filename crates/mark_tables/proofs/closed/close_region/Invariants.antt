@@ -1,16 +1,10 @@
 -- The invariants and measures of `mark_tables::closed::close_region`.
-use mathlib.Core.Path.{◌≡◌, ◌∙◌}
+use mathlib.Core.Path.{◌≡◌}
 use mathlib.Core.Bool.{cond}
 use Prim.Native.Nat.{ℕ, ◌≤◌, ◌<◌, ◌-◌}
-use native.Mathlib.Omega.{arith}
-use borrow.Author.Rules.{rules}
-use lib.ListN.{length, get_or, length-set, length-replicate}
-use Rattle.lists.specs.Store.{stored}
+use lib.ListN.{length, get_or}
 use Rattle.chart.specs.Checked.{reading}
-use Rattle.chart.proofs.Records.{nodes-length}
 use Rattle.theory_answers.specs.Numbers.{asked}
-use Rattle.mark_tables.proofs.Accepted.{region-byte}
-use Rattle.mark_tables.proofs.Cutting.{closed-turn}
 use Rattle.mark_tables.proofs.closed.close_region.Given as goal
 
 abbrev pub invariant-loop-x : goal.invariant-loop-x

@@ -1,6 +1,5 @@
 -- `mark_tables::closed::load_closed` meets its contract.
 -- Assumes nothing.
-use borrow.Author.Rules.{rules}
 use Rattle.mark_tables.proofs.Cutting.{stops-closed}
 use Rattle.mark_tables.proofs.closed.load_closed.Goals as goal
 

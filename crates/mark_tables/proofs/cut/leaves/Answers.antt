@@ -1,7 +1,6 @@
 -- `mark_tables::cut::leaves` meets its contract.
 -- Assumes nothing.
 use mathlib.Core.Path.{refl, sym, ◌∙◌}
-use borrow.Author.Rules.{rules}
 use borrow.Author.Tests.{eq-eqb, ne_eqb}
 use Rattle.mark_tables.proofs.cut.leaves.Goals as goal
 

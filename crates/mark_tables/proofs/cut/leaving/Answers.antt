@@ -1,16 +1,12 @@
 -- `mark_tables::cut::leaving` meets its contract: after x turns the flags of the first x nodes stand.
 -- Assumes nothing.
-use mathlib.Core.Path.{◌≡◌, ◌∙◌}
-use Prim.Native.Nat.{ℕ, ◌≤◌, ◌-◌}
+use mathlib.Core.Path.{◌∙◌}
+use Prim.Native.Nat.{ℕ, ◌-◌}
 use native.Mathlib.Omega.{arith}
-use borrow.Author.Rules.{rules}
-use lib.ListN.{length, length-set, length-replicate}
-use Rattle.lists.specs.Store.{Written, written_none, written-more, written_all}
-use Rattle.chart.specs.Format.{decode}
-use Rattle.chart.specs.Scope.{leaving_at}
-use Rattle.chart.specs.Nested.{lies_within}
+use lib.ListN.{length-set, length-replicate}
+use Rattle.lists.specs.Store.{written_none, written-more, written_all}
 use Rattle.chart.proofs.Records.{nodes-length}
-use Rattle.mark_tables.proofs.Cutting.{flag_of, leaving-turn, leaving-past}
+use Rattle.mark_tables.proofs.Cutting.{leaving-turn, leaving-past}
 use Rattle.mark_tables.proofs.cut.leaving.Goals as goal
 
 pub within-requires : goal.within-requires

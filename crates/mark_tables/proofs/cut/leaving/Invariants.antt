@@ -1,15 +1,12 @@
 -- The invariants and measures of `mark_tables::cut::leaving`.
-use mathlib.Core.Path.{◌≡◌, ◌∙◌}
-use Prim.Native.Nat.{ℕ, ◌≤◌, ◌-◌}
-use native.Mathlib.Omega.{arith}
-use borrow.Author.Rules.{rules}
-use lib.ListN.{length, length-set, length-replicate}
-use Rattle.lists.specs.Store.{Written, written_none, written-more, written_all}
+use mathlib.Core.Path.{◌≡◌}
+use Prim.Native.Nat.{◌≤◌, ◌-◌}
+use lib.ListN.{length}
+use Rattle.lists.specs.Store.{Written}
 use Rattle.chart.specs.Format.{decode}
 use Rattle.chart.specs.Scope.{leaving_at}
 use Rattle.chart.specs.Nested.{lies_within}
-use Rattle.chart.proofs.Records.{nodes-length}
-use Rattle.mark_tables.proofs.Cutting.{flag_of, leaving-turn, leaving-past}
+use Rattle.mark_tables.proofs.Cutting.{flag_of}
 use Rattle.mark_tables.proofs.cut.leaving.Given as goal
 
 abbrev pub invariant-loop-x : goal.invariant-loop-x

@@ -1,16 +1,14 @@
 -- `mark_tables::cut::within` meets its contract: after c turns the flags of the first c constructs stand.
 -- Assumes nothing.
 use mathlib.Core.Path.{◌≡◌, ◌∙◌}
-use Prim.Native.Nat.{ℕ, ◌≤◌, ◌-◌}
+use Prim.Native.Nat.{ℕ, ◌-◌}
 use native.Mathlib.Omega.{arith}
-use borrow.Author.Rules.{rules}
 use lib.ListN.{length, length-set, length-replicate}
-use Rattle.lists.specs.Store.{Written, written_none, written-more}
+use Rattle.lists.specs.Store.{written_none, written-more}
 use Rattle.chart.specs.Format.{decode}
 use Rattle.chart.specs.Scope.{parent_of}
-use Rattle.chart.specs.Nested.{lies_within}
 use Rattle.chart.proofs.Records.{constructs-length}
-use Rattle.mark_tables.proofs.Cutting.{flag_of, within-turn}
+use Rattle.mark_tables.proofs.Cutting.{within-turn}
 use Rattle.mark_tables.proofs.cut.within.Goals as goal
 
 pub loop-c-init : goal.loop-c-init

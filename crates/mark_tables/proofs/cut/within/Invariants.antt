@@ -1,15 +1,11 @@
 -- The invariants and measures of `mark_tables::cut::within`.
-use mathlib.Core.Path.{◌≡◌, ◌∙◌}
-use Prim.Native.Nat.{ℕ, ◌≤◌, ◌-◌}
-use native.Mathlib.Omega.{arith}
-use borrow.Author.Rules.{rules}
-use lib.ListN.{length, length-set, length-replicate}
-use Rattle.lists.specs.Store.{Written, written_none, written-more}
+use mathlib.Core.Path.{◌≡◌}
+use Prim.Native.Nat.{◌≤◌, ◌-◌}
+use lib.ListN.{length}
+use Rattle.lists.specs.Store.{Written}
 use Rattle.chart.specs.Format.{decode}
-use Rattle.chart.specs.Scope.{parent_of}
 use Rattle.chart.specs.Nested.{lies_within}
-use Rattle.chart.proofs.Records.{constructs-length}
-use Rattle.mark_tables.proofs.Cutting.{flag_of, within-turn}
+use Rattle.mark_tables.proofs.Cutting.{flag_of}
 use Rattle.mark_tables.proofs.cut.within.Given as goal
 
 abbrev pub invariant-loop-c : goal.invariant-loop-c

@@ -1,12 +1,12 @@
 -- `mark_tables::fill::all_edges` meets its contract: after i turns the first i edges are in the table.
 -- Assumes nothing.
 use mathlib.Core.Path.{◌≡◌, sym}
-use Prim.Native.Nat.{◌≤◌, ◌-◌}
+use Prim.Native.Nat.{◌-◌}
 use native.Mathlib.Omega.{arith}
 use Rattle.chart.specs.Format.{decode}
 use Rattle.chart.proofs.Records.{edges-length}
 use Rattle.mark_tables.proofs.Accepted.{tables}
-use Rattle.mark_tables.proofs.Tabling.{Tabling, tabling-none, tabling-room, tabling-more, tabling-all, keeps-all}
+use Rattle.mark_tables.proofs.Tabling.{tabling-none, tabling-room, tabling-more, tabling-all, keeps-all}
 use Rattle.mark_tables.specs.Tables.{kept}
 use Rattle.mark_tables.proofs.fill.all_edges.Goals as goal
 

@@ -1,12 +1,7 @@
 -- The invariants and measures of `mark_tables::fill::all_edges`.
-use mathlib.Core.Path.{◌≡◌, sym}
 use Prim.Native.Nat.{◌≤◌, ◌-◌}
-use native.Mathlib.Omega.{arith}
 use Rattle.chart.specs.Format.{decode}
-use Rattle.chart.proofs.Records.{edges-length}
-use Rattle.mark_tables.proofs.Accepted.{tables}
-use Rattle.mark_tables.proofs.Tabling.{Tabling, tabling-none, tabling-room, tabling-more, tabling-all, keeps-all}
-use Rattle.mark_tables.specs.Tables.{kept}
+use Rattle.mark_tables.proofs.Tabling.{Tabling}
 use Rattle.mark_tables.proofs.fill.all_edges.Given as goal
 
 abbrev pub invariant-loop-i : goal.invariant-loop-i

@@ -1,15 +1,14 @@
 -- `mark_tables::fill::cut_edges` meets its contract: after i turns those of the first i edges that the region keeps are in the table.
 -- Assumes nothing.
 use mathlib.Core.Path.{◌≡◌}
-use Prim.Native.Nat.{◌≤◌, ◌-◌}
+use Prim.Native.Nat.{◌-◌}
 use native.Mathlib.Omega.{arith}
-use borrow.Author.Rules.{rules}
 use lib.ListN.{length}
 use Rattle.chart.specs.Format.{decode}
 use Rattle.chart.proofs.Records.{edges-length}
 use Rattle.search.specs.Parts.{Next}
 use Rattle.mark_tables.proofs.Accepted.{tables}
-use Rattle.mark_tables.proofs.Tabling.{Tabling, tabling-none, tabling-room, tabling-more, tabling-all, leaving-flag}
+use Rattle.mark_tables.proofs.Tabling.{tabling-none, tabling-room, tabling-more, tabling-all, leaving-flag}
 use Rattle.mark_tables.proofs.fill.cut_edges.Goals as goal
 
 pub leaving-requires : goal.leaving-requires

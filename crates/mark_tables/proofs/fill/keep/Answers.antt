@@ -1,6 +1,5 @@
 -- `mark_tables::fill::keep` meets its contract.
 -- Assumes nothing.
-use borrow.Author.Rules.{rules}
 use Rattle.mark_tables.specs.Tables.{left, kept}
 use Rattle.mark_tables.proofs.fill.keep.Goals as goal
 

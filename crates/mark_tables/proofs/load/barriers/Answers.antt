@@ -2,11 +2,10 @@
 -- for all of them.
 -- Assumes nothing.
 use mathlib.Core.Path.{◌≡◌, sym, ◌∙◌}
-use mathlib.Core.Logic.{inl, inr}
-use Prim.Native.Nat.{◌%◌, ◌≤◌, ◌-◌}
+use Prim.Native.Nat.{◌-◌}
 use native.Mathlib.Omega.{arith}
 use Rattle.lists.specs.Range.{none_passes}
-use Rattle.mark_tables.specs.Tables.{stop_from, Listing}
+use Rattle.mark_tables.specs.Tables.{stop_from}
 use Rattle.mark_tables.proofs.Loading.{listing_none, listing-skip, stops-few, listing-all}
 use Rattle.mark_tables.proofs.load.barriers.Goals as goal
 use Rattle.mark_tables.proofs.load.barriers.Goals.{then-any_stop, else-any_stop}

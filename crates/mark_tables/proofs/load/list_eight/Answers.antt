@@ -1,9 +1,8 @@
 -- `mark_tables::load::list_eight` meets its contract: after k turns the first k of the eight are listed.
 -- Assumes nothing.
 use mathlib.Core.Path.{◌≡◌}
-use Prim.Native.Nat.{◌+◌, ◌≤◌, ◌-◌}
+use Prim.Native.Nat.{◌+◌, ◌-◌}
 use native.Mathlib.Omega.{arith}
-use Rattle.mark_tables.specs.Tables.{Listing}
 use Rattle.mark_tables.proofs.Loading.{listing-more, room, most}
 use Rattle.mark_tables.proofs.load.list_eight.Goals as goal
 

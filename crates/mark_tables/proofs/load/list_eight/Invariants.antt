@@ -1,9 +1,6 @@
 -- The invariants and measures of `mark_tables::load::list_eight`.
-use mathlib.Core.Path.{◌≡◌}
 use Prim.Native.Nat.{◌+◌, ◌≤◌, ◌-◌}
-use native.Mathlib.Omega.{arith}
 use Rattle.mark_tables.specs.Tables.{Listing}
-use Rattle.mark_tables.proofs.Loading.{listing-more, room, most}
 use Rattle.mark_tables.proofs.load.list_eight.Given as goal
 
 abbrev pub invariant-loop-k : goal.invariant-loop-k

@@ -1,15 +1,14 @@
 -- `mark_tables::load::load_stops` meets its contract: after x turns the stops of the first x nodes stand.
 -- Assumes nothing.
 use mathlib.Core.Path.{◌≡◌, ◌∙◌}
-use Prim.Native.Nat.{ℕ, ◌≤◌, ◌-◌}
+use Prim.Native.Nat.{ℕ, ◌-◌}
 use native.Mathlib.Omega.{arith}
-use borrow.Author.Rules.{rules}
 use lib.ListN.{length, length-set, length-replicate}
-use Rattle.lists.specs.Store.{Written, written_none, written-more, written_all}
+use Rattle.lists.specs.Store.{written_none, written-more, written_all}
 use Rattle.chart.specs.Format.{decode}
 use Rattle.chart.proofs.Records.{nodes-length}
 use Rattle.mark_tables.proofs.Accepted.{region-byte}
-use Rattle.mark_tables.proofs.Loading.{stop_of, stop-byte, stop-past}
+use Rattle.mark_tables.proofs.Loading.{stop-byte, stop-past}
 use Rattle.mark_tables.proofs.load.load_stops.Goals as goal
 
 pub region_byte-region-requires : goal.region_byte-region-requires

@@ -1,14 +1,9 @@
 -- The invariants and measures of `mark_tables::load::load_stops`.
-use mathlib.Core.Path.{◌≡◌, ◌∙◌}
-use Prim.Native.Nat.{ℕ, ◌≤◌, ◌-◌}
-use native.Mathlib.Omega.{arith}
-use borrow.Author.Rules.{rules}
-use lib.ListN.{length, length-set, length-replicate}
-use Rattle.lists.specs.Store.{Written, written_none, written-more, written_all}
-use Rattle.chart.specs.Format.{decode}
-use Rattle.chart.proofs.Records.{nodes-length}
-use Rattle.mark_tables.proofs.Accepted.{region-byte}
-use Rattle.mark_tables.proofs.Loading.{stop_of, stop-byte, stop-past}
+use mathlib.Core.Path.{◌≡◌}
+use Prim.Native.Nat.{◌≤◌, ◌-◌}
+use lib.ListN.{length}
+use Rattle.lists.specs.Store.{Written}
+use Rattle.mark_tables.proofs.Loading.{stop_of}
 use Rattle.mark_tables.proofs.load.load_stops.Given as goal
 
 abbrev pub invariant-loop-x : goal.invariant-loop-x

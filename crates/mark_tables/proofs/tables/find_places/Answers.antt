@@ -1,6 +1,5 @@
 -- `mark_tables::tables::find_places` meets its contract.
 -- Assumes nothing.
-use borrow.Author.Rules.{rules}
 use Rattle.mark_tables.proofs.Columns.{first-edges}
 use Rattle.mark_tables.proofs.tables.find_places.Goals as goal
 

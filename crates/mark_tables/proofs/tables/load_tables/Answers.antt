@@ -1,7 +1,6 @@
 -- `mark_tables::tables::load_tables` meets its contract: what is loaded, parted and found is the chart's.
 -- Assumes nothing.
 use mathlib.Core.Path.{refl}
-use borrow.Author.Rules.{rules}
 use Rattle.mark_tables.proofs.Columns.{arranged, handed}
 use Rattle.mark_tables.proofs.tables.load_tables.Goals as goal
 

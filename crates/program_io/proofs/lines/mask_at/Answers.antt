@@ -1,8 +1,6 @@
 -- `program_io::lines::mask_at` meets its contract.
 -- Assumes nothing.
-use Prim.Native.Nat.{◌≤◌}
 use native.Mathlib.Omega.{arith}
-use borrow.Author.Rules.{rules}
 use Rattle.program_io.proofs.lines.mask_at.Goals as goal
 
 pub loop-k-init : goal.loop-k-init

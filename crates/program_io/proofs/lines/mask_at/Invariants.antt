@@ -1,7 +1,5 @@
 -- The invariants and measures of `program_io::lines::mask_at`.
 use Prim.Native.Nat.{◌≤◌}
-use native.Mathlib.Omega.{arith}
-use borrow.Author.Rules.{rules}
 use Rattle.program_io.proofs.lines.mask_at.Given as goal
 
 abbrev pub invariant-loop-k : goal.invariant-loop-k

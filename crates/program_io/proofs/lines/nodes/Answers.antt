@@ -2,7 +2,6 @@
 -- Assumes nothing.
 use Prim.Native.Nat.{◌-◌}
 use native.Mathlib.Omega.{arith}
-use borrow.Author.Rules.{rules}
 use Rattle.program_io.proofs.Sheet.{in-sheet}
 use Rattle.program_io.proofs.lines.nodes.Goals as goal
 

@@ -1,8 +1,5 @@
 -- The invariants and measures of `program_io::lines::nodes`.
 use Prim.Native.Nat.{◌-◌}
-use native.Mathlib.Omega.{arith}
-use borrow.Author.Rules.{rules}
-use Rattle.program_io.proofs.Sheet.{in-sheet}
 use Rattle.program_io.proofs.lines.nodes.Given as goal
 
 abbrev pub invariant-loop-x : goal.invariant-loop-x

@@ -2,7 +2,6 @@
 -- Assumes nothing.
 use Prim.Native.Nat.{◌-◌}
 use native.Mathlib.Omega.{arith}
-use borrow.Author.Rules.{rules}
 use Rattle.program_io.proofs.lines.pairs.Goals as goal
 
 pub overflow_add-a : goal.overflow_add-a

@@ -1,7 +1,5 @@
 -- The invariants and measures of `program_io::lines::pairs`.
 use Prim.Native.Nat.{◌-◌}
-use native.Mathlib.Omega.{arith}
-use borrow.Author.Rules.{rules}
 use Rattle.program_io.proofs.lines.pairs.Given as goal
 
 abbrev pub invariant-loop-a : goal.invariant-loop-a

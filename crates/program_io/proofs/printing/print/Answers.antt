@@ -1,7 +1,6 @@
 -- `program_io::printing::print` meets its contract.
 -- Assumes nothing.
 use mathlib.Core.Path.{sym, ◌∙◌}
-use borrow.Author.Rules.{rules}
 use Rattle.theory_calls.specs.Admission.{admitted}
 use Rattle.bohrali.proofs.SmallCounts.{small-counts}
 use Rattle.program_io.proofs.printing.print.Goals as goal

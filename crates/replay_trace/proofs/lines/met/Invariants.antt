@@ -1,6 +1,5 @@
 -- The invariants and measures of `replay_trace::lines::met`.
 use Prim.Native.Nat.{◌-◌}
-use borrow.Author.Rules.{rules}
 use Rattle.replay_trace.proofs.lines.met.Given as goal
 
 abbrev pub invariant-loop-a : goal.invariant-loop-a

@@ -3,7 +3,6 @@
 use Prim.Native.Nat.{◌-◌}
 use native.Mathlib.Omega.{arith}
 use Rattle.lists.specs.Rows.{row_room, square}
-use borrow.Author.Rules.{rules}
 use Rattle.replay_trace.proofs.lines.row.Goals as goal
 
 pub overflow_mul-a : goal.overflow_mul-a

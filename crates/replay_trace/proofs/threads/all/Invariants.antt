@@ -1,6 +1,5 @@
 -- The invariants and measures of `replay_trace::threads::all`.
 use Prim.Native.Nat.{◌-◌}
-use borrow.Author.Rules.{rules}
 use Rattle.replay_trace.proofs.threads.all.Given as goal
 
 abbrev pub invariant-loop-t : goal.invariant-loop-t

@@ -1,6 +1,5 @@
 -- The invariants and measures of `replay_trace::threads::counts`.
 use Prim.Native.Nat.{◌-◌}
-use borrow.Author.Rules.{rules}
 use Rattle.replay_trace.proofs.threads.counts.Given as goal
 
 abbrev pub invariant-loop-c : goal.invariant-loop-c

@@ -1,7 +1,5 @@
 -- The invariants and measures of `replay_trace::threads::taken`.
 use Prim.Native.Nat.{◌-◌}
-use native.Mathlib.Omega.{arith}
-use borrow.Author.Rules.{rules}
 use Rattle.replay_trace.proofs.threads.taken.Given as goal
 
 abbrev pub invariant-loop-x : goal.invariant-loop-x

@@ -1,5 +1,4 @@
 -- `search::breadth::end_of` meets its contract. Assumes nothing.
-use borrow.Author.Rules.{rules}
 use Rattle.search.proofs.Visits.{tail_more, tail-same}
 use Rattle.search.proofs.breadth.end_of.Goals as goal
 

@@ -1,10 +1,9 @@
 -- `search::breadth::expand` meets its contract: the loop's invariant is the `Run` so far. Assumes nothing.
-use Prim.Native.Nat.{ℕ, ◌≤◌, ◌-◌, ◌+◌}
+use Prim.Native.Nat.{ℕ, ◌-◌, ◌+◌}
 use native.Mathlib.Omega.{arith}
 use mathlib.Core.Path.{◌≡◌, ap}
-use borrow.Author.Rules.{rules}
 use lib.ListN.{get_or}
-use Rattle.search.specs.Steps.{Room, Run, none, more}
+use Rattle.search.specs.Steps.{none, more}
 use Rattle.search.proofs.Visits.{visit-room}
 use Rattle.search.proofs.breadth.expand.Goals as goal
 

@@ -1,11 +1,7 @@
 -- The invariants and measures of `search::breadth::expand`.
-use Prim.Native.Nat.{ℕ, ◌≤◌, ◌-◌, ◌+◌}
-use native.Mathlib.Omega.{arith}
-use mathlib.Core.Path.{◌≡◌, ap}
-use borrow.Author.Rules.{rules}
+use Prim.Native.Nat.{◌≤◌, ◌-◌}
 use lib.ListN.{get_or}
-use Rattle.search.specs.Steps.{Room, Run, none, more}
-use Rattle.search.proofs.Visits.{visit-room}
+use Rattle.search.specs.Steps.{Room, Run}
 use Rattle.search.proofs.breadth.expand.Given as goal
 
 abbrev pub invariant-loop-j : goal.invariant-loop-j

@@ -1,5 +1,4 @@
 -- `search::breadth::first` meets its contract. Assumes nothing.
-use borrow.Author.Rules.{rules}
 use Rattle.search.proofs.Visits.{first-same}
 use Rattle.search.proofs.breadth.first.Goals as goal
 

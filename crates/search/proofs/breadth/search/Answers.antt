@@ -2,8 +2,6 @@
 use Prim.Native.Nat.{ℕ, ◌<◌, ◌-◌}
 use native.Mathlib.Omega.{arith}
 use mathlib.Core.Path.{refl}
-use mathlib.Core.List.{List}
-use borrow.Author.Rules.{rules}
 use lib.ListN.{get_or}
 use Rattle.search.specs.Steps.{Leads}
 use Rattle.search.specs.Invariant.{State}

@@ -1,14 +1,8 @@
 -- The invariants and measures of `search::breadth::search`.
-use Prim.Native.Nat.{ℕ, ◌<◌, ◌-◌}
-use native.Mathlib.Omega.{arith}
-use mathlib.Core.Path.{refl}
+use Prim.Native.Nat.{ℕ, ◌-◌}
 use mathlib.Core.List.{List}
-use borrow.Author.Rules.{rules}
-use lib.ListN.{get_or}
 use Rattle.search.specs.Steps.{Leads}
 use Rattle.search.specs.Invariant.{State}
-use Rattle.search.proofs.Visits.{room-end}
-use Rattle.search.proofs.BreadthTurns.{node-turn, found}
 use Rattle.search.proofs.breadth.search.Given as goal
 
 abbrev pub invariant-loop-head : goal.invariant-loop-head

@@ -1,9 +1,7 @@
 -- `search::breadth::seed` meets its contract: after b turns the state is that after b sources. Assumes nothing.
-use Prim.Native.Nat.{◌≤◌, ◌-◌}
+use Prim.Native.Nat.{◌-◌}
 use native.Mathlib.Omega.{arith}
 use mathlib.Core.Path.{◌≡◌}
-use Rattle.search.specs.Steps.{Leads}
-use Rattle.search.specs.Invariant.{State}
 use Rattle.search.proofs.BreadthTurns.{begun, source-turn}
 use Rattle.search.proofs.breadth.seed.Goals as goal
 

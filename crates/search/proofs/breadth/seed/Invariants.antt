@@ -1,10 +1,7 @@
 -- The invariants and measures of `search::breadth::seed`.
 use Prim.Native.Nat.{◌≤◌, ◌-◌}
-use native.Mathlib.Omega.{arith}
-use mathlib.Core.Path.{◌≡◌}
 use Rattle.search.specs.Steps.{Leads}
 use Rattle.search.specs.Invariant.{State}
-use Rattle.search.proofs.BreadthTurns.{begun, source-turn}
 use Rattle.search.proofs.breadth.seed.Given as goal
 
 abbrev pub invariant-loop-b : goal.invariant-loop-b

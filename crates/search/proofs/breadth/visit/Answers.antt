@@ -1,6 +1,5 @@
 -- `search::breadth::visit` meets its contract: what it stores is one of the two cases. Assumes nothing.
 use native.Mathlib.Omega.{arith}
-use borrow.Author.Rules.{rules}
 use Rattle.search.proofs.Visits.{room-end, visited}
 use Rattle.search.proofs.breadth.visit.Goals as goal
 

@@ -4,7 +4,6 @@ use Prim.Native.Nat.{ℕ}
 use lib.ListN.{set}
 use lib.Seq.{set-get_or}
 use Rattle.search.proofs.Runs.{xor_same}
-use borrow.Author.Rules.{rules}
 use Rattle.search.proofs.close.carry.Goals as goal
 
 -- what changes nothing need not be written

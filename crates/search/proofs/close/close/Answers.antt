@@ -1,5 +1,5 @@
 -- `search::close::close` meets its contract: the falling edges stay closed, and when a sweep is quiet the rising ones are. Assumes nothing.
-use Prim.Native.Nat.{◌≤◌, ◌<◌, ◌-◌}
+use Prim.Native.Nat.{◌<◌, ◌-◌}
 use native.Mathlib.Omega.{arith}
 use lib.Bits.{bit_or}
 use Rattle.lists.specs.Mask.{Sub}

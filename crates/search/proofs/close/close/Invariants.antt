@@ -1,10 +1,8 @@
 -- The invariants and measures of `search::close::close`.
-use Prim.Native.Nat.{◌≤◌, ◌<◌, ◌-◌}
-use native.Mathlib.Omega.{arith}
+use Prim.Native.Nat.{◌<◌, ◌-◌}
 use lib.Bits.{bit_or}
 use Rattle.lists.specs.Mask.{Sub}
-use Rattle.search.proofs.Runs.{masks-kind, run_long, carried_on}
-use Rattle.search.proofs.Turns.{Closing, opened, still, again, closing-closed, rebase}
+use Rattle.search.proofs.Turns.{Closing}
 use Rattle.search.proofs.close.close.Given as goal
 
 abbrev pub invariant-loop-new : goal.invariant-loop-new

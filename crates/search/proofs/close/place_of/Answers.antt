@@ -1,6 +1,5 @@
 -- `search::close::place_of` meets its contract. Assumes nothing.
 use Rattle.search.proofs.Runs.{place-true, place-false}
-use borrow.Author.Rules.{rules}
 use Rattle.search.proofs.close.place_of.Goals as goal
 
 pub returns-then-back : goal.returns-then-back

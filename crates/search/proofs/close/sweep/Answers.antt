@@ -1,9 +1,8 @@
 -- `search::close::sweep` meets its contract: the loop's invariant is the `Run` so far. Assumes nothing.
-use Prim.Native.Nat.{◌≤◌, ◌<◌, ◌-◌}
+use Prim.Native.Nat.{◌<◌, ◌-◌}
 use native.Mathlib.Omega.{arith}
 use mathlib.Core.Path.{◌≡◌}
-use lib.Bits.{bit_or}
-use Rattle.search.specs.Sweep.{Run, none, more}
+use Rattle.search.specs.Sweep.{none, more}
 use Rattle.search.proofs.Runs.{run-from, run_long, place-below}
 use Rattle.search.proofs.close.sweep.Goals as goal
 

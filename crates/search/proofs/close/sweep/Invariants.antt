@@ -1,10 +1,7 @@
 -- The invariants and measures of `search::close::sweep`.
-use Prim.Native.Nat.{◌≤◌, ◌<◌, ◌-◌}
-use native.Mathlib.Omega.{arith}
-use mathlib.Core.Path.{◌≡◌}
+use Prim.Native.Nat.{◌≤◌, ◌-◌}
 use lib.Bits.{bit_or}
-use Rattle.search.specs.Sweep.{Run, none, more}
-use Rattle.search.proofs.Runs.{run-from, run_long, place-below}
+use Rattle.search.specs.Sweep.{Run}
 use Rattle.search.proofs.close.sweep.Given as goal
 
 abbrev pub invariant-loop-j : goal.invariant-loop-j

@@ -1,7 +1,6 @@
 -- `search::edges::kept` meets its contract: the two stops are looked at together.
 -- Assumes nothing.
 use native.Mathlib.Omega.{arith}
-use borrow.Author.Rules.{rules}
 use Rattle.search.proofs.Steps.{or-none, none_or}
 use Rattle.search.proofs.edges.kept.Goals as goal
 

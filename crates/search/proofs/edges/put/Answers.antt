@@ -3,7 +3,6 @@
 use mathlib.Core.Path.{refl}
 use Prim.Native.Nat.{◌<◌}
 use native.Mathlib.Omega.{arith}
-use borrow.Author.Rules.{rules}
 use Rattle.search.proofs.Steps.{pick-inside, rise-most, fall-most, put_is, wrote}
 use Rattle.search.proofs.edges.put.Goals as goal
 

@@ -1,11 +1,7 @@
 -- The invariants and measures of `search::levels::measure`.
-use mathlib.Core.Path.{refl}
 use Prim.Native.Nat.{◌≤◌, ◌-◌}
-use native.Mathlib.Omega.{arith}
 use Rattle.search.specs.LevelLaws.{nearer, Follows}
-use Rattle.lists.specs.Truth.{clash}
-use Rattle.search.proofs.Runs.{levels-kind, run-swept, carried_on}
-use Rattle.search.proofs.Turns.{Closing, opened, still, again, closing-closed, rebase}
+use Rattle.search.proofs.Turns.{Closing}
 use Rattle.search.proofs.levels.measure.Given as goal
 
 abbrev pub invariant-loop-new : goal.invariant-loop-new

@@ -3,10 +3,8 @@ use Prim.Native.Nat.{◌≤◌, ◌<◌, ◌-◌}
 use native.Mathlib.Omega.{arith}
 use mathlib.Core.Path.{◌≡◌, refl}
 use mathlib.Core.Bool.{false}
-use borrow.Author.Rules.{rules}
 use lib.ListN.{get_or}
-use Rattle.search.specs.Sweep.{Run, none}
-use Rattle.search.specs.LevelLaws.{nearer}
+use Rattle.search.specs.Sweep.{none}
 use Rattle.search.proofs.Runs.{Swept, levels-kind, run-swept, risen-step, more-at, place-false}
 use Rattle.search.proofs.levels.sweep.Goals as goal
 

@@ -1,13 +1,8 @@
 -- The invariants and measures of `search::levels::sweep`.
-use Prim.Native.Nat.{◌≤◌, ◌<◌, ◌-◌}
-use native.Mathlib.Omega.{arith}
-use mathlib.Core.Path.{◌≡◌, refl}
+use Prim.Native.Nat.{◌≤◌, ◌-◌}
 use mathlib.Core.Bool.{false}
-use borrow.Author.Rules.{rules}
-use lib.ListN.{get_or}
-use Rattle.search.specs.Sweep.{Run, none}
+use Rattle.search.specs.Sweep.{Run}
 use Rattle.search.specs.LevelLaws.{nearer}
-use Rattle.search.proofs.Runs.{Swept, levels-kind, run-swept, risen-step, more-at, place-false}
 use Rattle.search.proofs.levels.sweep.Given as goal
 
 abbrev pub invariant-loop-j : goal.invariant-loop-j

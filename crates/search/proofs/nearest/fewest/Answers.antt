@@ -1,5 +1,4 @@
 -- `search::nearest::fewest` meets its contract, whichever way it takes. Assumes nothing.
-use borrow.Author.Rules.{rules}
 use Rattle.search.proofs.nearest.fewest.Goals as goal
 
 pub returns-then-far : goal.returns-then-far

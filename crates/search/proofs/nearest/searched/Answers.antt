@@ -2,7 +2,6 @@
 -- Assumes nothing.
 use mathlib.Core.Path.{refl}
 use native.Mathlib.Omega.{arith}
-use borrow.Author.Rules.{rules}
 use Rattle.search.proofs.Finding.{bounded, leveled-starts}
 use Rattle.search.proofs.nearest.searched.Goals as goal
 

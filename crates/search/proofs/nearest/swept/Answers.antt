@@ -1,6 +1,5 @@
 -- `search::nearest::swept` meets its contract: sweeps, then the levels as they are told.
 -- Assumes nothing.
-use borrow.Author.Rules.{rules}
 use Rattle.search.specs.SweepLaws.{carried-long}
 use Rattle.search.proofs.Splitting.{lists-ahead}
 use Rattle.search.proofs.Leveling.{begins-fit, leveled-ahead}

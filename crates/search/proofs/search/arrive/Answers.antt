@@ -2,7 +2,6 @@
 -- Assumes nothing.
 use mathlib.Core.Path.{refl}
 use native.Mathlib.Omega.{arith}
-use borrow.Author.Rules.{rules}
 use Rattle.search.proofs.Finding.{fed-fits, sown-behind}
 use Rattle.search.proofs.search.arrive.Goals as goal
 

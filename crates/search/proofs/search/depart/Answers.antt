@@ -1,7 +1,6 @@
 -- `search::search::depart` meets its contract: the sources' bits are sown along their edges.
 -- Assumes nothing.
 use native.Mathlib.Omega.{arith}
-use borrow.Author.Rules.{rules}
 use Rattle.search.proofs.Finding.{bounded}
 use Rattle.search.proofs.Sowing.{begins-none, sowed-none}
 use Rattle.search.proofs.search.depart.Goals as goal

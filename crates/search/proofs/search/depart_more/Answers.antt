@@ -1,6 +1,5 @@
 -- `search::search::depart_more` meets its contract: the further sources' bits are sown along their edges too.
 -- Assumes nothing.
-use borrow.Author.Rules.{rules}
 use native.Mathlib.Omega.{arith}
 use mathlib.Core.Path.{◌≡◌}
 use Rattle.search.proofs.Finding.{bounded}

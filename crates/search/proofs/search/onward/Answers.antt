@@ -1,6 +1,5 @@
 -- `search::search::onward` meets its contract, whichever way it takes.
 -- Assumes nothing.
-use borrow.Author.Rules.{rules}
 use Rattle.search.proofs.Finding.{sown-fits}
 use Rattle.search.proofs.Settling.{settled-spread}
 use Rattle.search.proofs.search.onward.Goals as goal

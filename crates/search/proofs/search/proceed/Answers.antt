@@ -1,6 +1,5 @@
 -- `search::search::proceed` meets its contract: sweeps along the edges between nodes that may be passed.
 -- Assumes nothing.
-use borrow.Author.Rules.{rules}
 use Rattle.search.proofs.Splitting.{lists-ahead}
 use Rattle.search.proofs.Finding.{spread-ahead}
 use Rattle.search.proofs.search.proceed.Goals as goal

@@ -1,7 +1,6 @@
 -- `search::search::reach_stops` meets its contract: what the starts bring to the stops, which keep none of their own.
 -- Assumes nothing.
 use native.Mathlib.Omega.{arith}
-use borrow.Author.Rules.{rules}
 use Rattle.search.proofs.Finding.{marked-starts}
 use Rattle.search.proofs.search.reach_stops.Goals as goal
 

@@ -1,6 +1,5 @@
 -- `search::search::recede` meets its contract: sweeps along the edges turned round.
 -- Assumes nothing.
-use borrow.Author.Rules.{rules}
 use Rattle.search.proofs.Splitting.{lists_back}
 use Rattle.search.proofs.Finding.{spread-behind}
 use Rattle.search.proofs.search.recede.Goals as goal

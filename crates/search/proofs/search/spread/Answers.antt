@@ -1,7 +1,6 @@
 -- `search::search::spread` meets its contract, whichever way it takes.
 -- Assumes nothing.
 use native.Mathlib.Omega.{arith}
-use borrow.Author.Rules.{rules}
 use Rattle.search.specs.SweepLaws.{carried-long}
 use Rattle.search.proofs.Finding.{sown-fits, spread-ahead, spread-behind}
 use Rattle.search.proofs.Leveling.{begins-fit, leveled-ahead}

@@ -1,12 +1,9 @@
 -- `search::sources::feed` meets its contract: after some turns the edges so far are fed along.
 -- Assumes nothing.
 use mathlib.Core.Path.{◌≡◌, ◌∙◌}
-use Prim.Native.Nat.{◌≤◌, ◌<◌, ◌-◌}
+use Prim.Native.Nat.{◌<◌, ◌-◌}
 use native.Mathlib.Omega.{arith}
-use lib.ListN.{length, get_or, length-set}
-use borrow.Author.Rules.{rules}
-use Rattle.search.specs.Sweep.{Between}
-use Rattle.search.specs.Fed.{Fed}
+use lib.ListN.{get_or, length-set}
 use Rattle.search.proofs.Feeding.{fed-none, feed-turn}
 use Rattle.search.proofs.sources.feed.Goals as goal
 

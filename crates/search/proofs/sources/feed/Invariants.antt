@@ -1,12 +1,9 @@
 -- The invariants and measures of `search::sources::feed`.
-use mathlib.Core.Path.{◌≡◌, ◌∙◌}
-use Prim.Native.Nat.{◌≤◌, ◌<◌, ◌-◌}
-use native.Mathlib.Omega.{arith}
-use lib.ListN.{length, get_or, length-set}
-use borrow.Author.Rules.{rules}
+use mathlib.Core.Path.{◌≡◌}
+use Prim.Native.Nat.{◌≤◌, ◌-◌}
+use lib.ListN.{length}
 use Rattle.search.specs.Sweep.{Between}
 use Rattle.search.specs.Fed.{Fed}
-use Rattle.search.proofs.Feeding.{fed-none, feed-turn}
 use Rattle.search.proofs.sources.feed.Given as goal
 
 abbrev pub invariant-loop-j : goal.invariant-loop-j

@@ -1,12 +1,10 @@
 -- `search::sources::mark` meets its contract: after b turns the first b nodes of the list have a mark.
 -- Assumes nothing.
 use mathlib.Core.Path.{◌≡◌, ◌∙◌}
-use Prim.Native.Nat.{◌-◌, ◌≤◌}
+use Prim.Native.Nat.{◌-◌}
 use native.Mathlib.Omega.{arith}
-use lib.ListN.{length, get_or, length-set}
+use lib.ListN.{get_or, length-set}
 use lib.Seq.{get_or-set_same}
-use borrow.Author.Rules.{rules}
-use Rattle.search.specs.Fed.{Stored}
 use Rattle.search.proofs.Storing.{stored-none, stored_more}
 use Rattle.search.proofs.sources.mark.Goals as goal
 

@@ -1,12 +1,8 @@
 -- The invariants and measures of `search::sources::mark`.
-use mathlib.Core.Path.{◌≡◌, ◌∙◌}
+use mathlib.Core.Path.{◌≡◌}
 use Prim.Native.Nat.{◌-◌, ◌≤◌}
-use native.Mathlib.Omega.{arith}
-use lib.ListN.{length, get_or, length-set}
-use lib.Seq.{get_or-set_same}
-use borrow.Author.Rules.{rules}
+use lib.ListN.{length}
 use Rattle.search.specs.Fed.{Stored}
-use Rattle.search.proofs.Storing.{stored-none, stored_more}
 use Rattle.search.proofs.sources.mark.Given as goal
 
 abbrev pub invariant-loop-b : goal.invariant-loop-b

@@ -1,13 +1,10 @@
 -- `search::sources::sow` meets its contract: before turn b the bits of the first b sources are sown.
 -- Assumes nothing.
 use mathlib.Core.Path.{◌≡◌}
-use Prim.Native.Nat.{◌^◌, ◌≤◌, ◌<◌, ◌-◌}
+use Prim.Native.Nat.{◌^◌, ◌<◌, ◌-◌}
 use native.Mathlib.Omega.{arith}
 use lib.Pow.{pow_pos}
 use lib.ListN.{get_or}
-use borrow.Author.Rules.{rules}
-use Rattle.search.specs.Fed.{Sowed}
-use Rattle.search.specs.Levels.{Each, Begins}
 use Rattle.search.proofs.Sowing.{sowed-turn}
 use Rattle.search.proofs.sources.sow.Goals as goal
 

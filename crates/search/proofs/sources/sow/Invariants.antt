@@ -1,13 +1,7 @@
 -- The invariants and measures of `search::sources::sow`.
-use mathlib.Core.Path.{◌≡◌}
-use Prim.Native.Nat.{◌^◌, ◌≤◌, ◌<◌, ◌-◌}
-use native.Mathlib.Omega.{arith}
-use lib.Pow.{pow_pos}
-use lib.ListN.{get_or}
-use borrow.Author.Rules.{rules}
+use Prim.Native.Nat.{◌≤◌, ◌-◌}
 use Rattle.search.specs.Fed.{Sowed}
 use Rattle.search.specs.Levels.{Each, Begins}
-use Rattle.search.proofs.Sowing.{sowed-turn}
 use Rattle.search.proofs.sources.sow.Given as goal
 
 abbrev pub invariant-loop-b : goal.invariant-loop-b

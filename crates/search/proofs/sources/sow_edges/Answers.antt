@@ -1,14 +1,9 @@
 -- `search::sources::sow_edges` meets its contract: after some turns the bit has come along the edges so far.
 -- Assumes nothing.
 use mathlib.Core.Path.{◌≡◌, ◌∙◌}
-use mathlib.Core.List.{[], ◌∷◌}
-use Prim.Native.Nat.{◌≤◌, ◌<◌, ◌-◌}
+use Prim.Native.Nat.{◌<◌, ◌-◌}
 use native.Mathlib.Omega.{arith}
-use lib.ListN.{length, get_or, length-set}
-use borrow.Author.Rules.{rules}
-use Rattle.search.specs.Sweep.{Between}
-use Rattle.search.specs.Fed.{Fed}
-use Rattle.search.specs.Levels.{Each, Begins}
+use lib.ListN.{get_or, length-set}
 use Rattle.search.proofs.Feeding.{fed-none, feed-turn}
 use Rattle.search.proofs.Sowing.{begins-turn}
 use Rattle.search.proofs.sources.sow_edges.Goals as goal

@@ -1,15 +1,11 @@
 -- The invariants and measures of `search::sources::sow_edges`.
-use mathlib.Core.Path.{◌≡◌, ◌∙◌}
+use mathlib.Core.Path.{◌≡◌}
 use mathlib.Core.List.{[], ◌∷◌}
-use Prim.Native.Nat.{◌≤◌, ◌<◌, ◌-◌}
-use native.Mathlib.Omega.{arith}
-use lib.ListN.{length, get_or, length-set}
-use borrow.Author.Rules.{rules}
+use Prim.Native.Nat.{◌≤◌, ◌-◌}
+use lib.ListN.{length}
 use Rattle.search.specs.Sweep.{Between}
 use Rattle.search.specs.Fed.{Fed}
 use Rattle.search.specs.Levels.{Each, Begins}
-use Rattle.search.proofs.Feeding.{fed-none, feed-turn}
-use Rattle.search.proofs.Sowing.{begins-turn}
 use Rattle.search.proofs.sources.sow_edges.Given as goal
 
 abbrev pub invariant-loop-j : goal.invariant-loop-j

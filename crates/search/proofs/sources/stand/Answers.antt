@@ -1,11 +1,9 @@
 -- `search::sources::stand` meets its contract: after b turns the first b sources have their bits.
 -- Assumes nothing.
 use mathlib.Core.Path.{◌≡◌}
-use Prim.Native.Nat.{◌≤◌, ◌<◌, ◌-◌}
+use Prim.Native.Nat.{◌<◌, ◌-◌}
 use native.Mathlib.Omega.{arith}
 use lib.ListN.{get_or}
-use borrow.Author.Rules.{rules}
-use Rattle.search.specs.Fed.{Owned}
 use Rattle.search.proofs.Feeding.{owned-none, owned-turn}
 use Rattle.search.proofs.sources.stand.Goals as goal
 

@@ -1,10 +1,8 @@
 -- `search::telling::show` meets its contract: after y turns the first y masks are written.
 -- Assumes nothing.
-use Prim.Native.Nat.{◌≤◌, ◌-◌}
+use Prim.Native.Nat.{◌-◌}
 use native.Mathlib.Omega.{arith}
-use borrow.Author.Rules.{rules}
-use Rattle.search.specs.Levels.{Shows}
-use Rattle.search.proofs.Writing.{Writing, writing-none, writing_more, writing-all}
+use Rattle.search.proofs.Writing.{writing-none, writing_more, writing-all}
 use Rattle.search.proofs.telling.show.Goals as goal
 
 pub loop-y-init : goal.loop-y-init

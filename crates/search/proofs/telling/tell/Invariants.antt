@@ -1,9 +1,7 @@
 -- The invariants and measures of `search::telling::tell`.
 use Prim.Native.Nat.{◌≤◌, ◌-◌}
-use native.Mathlib.Omega.{arith}
-use borrow.Author.Rules.{rules}
 use Rattle.search.specs.Levels.{Tells}
-use Rattle.search.proofs.Writing.{Writing, writing-none, writing_more, writing-all}
+use Rattle.search.proofs.Writing.{Writing}
 use Rattle.search.proofs.telling.tell.Given as goal
 
 abbrev pub invariant-loop-y : goal.invariant-loop-y

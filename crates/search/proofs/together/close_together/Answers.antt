@@ -1,14 +1,10 @@
 -- `search::together::close_together` meets its contract: the falling edges stay closed, and when a sweep is quiet the rising ones are. Assumes nothing.
 use mathlib.Core.Path.{◌≡◌, refl}
 use mathlib.Core.Bool.{true, false}
-use Prim.Native.Nat.{ℕ, ◌<◌}
 use native.Mathlib.Omega.{arith}
-use borrow.Author.Rules.{rules}
-use lib.ListN.{get_or}
 use Rattle.lists.specs.Truth.{clash}
 use Rattle.search.specs.Sweep.{Lists}
 use Rattle.search.specs.Parts.{row}
-use Rattle.search.specs.Together.{Lent}
 use Rattle.search.proofs.Runs.{carried_on}
 use Rattle.search.proofs.Splitting.{lists-ahead, lists_back}
 use Rattle.search.proofs.Turns.{closing-closed}

@@ -1,12 +1,11 @@
 -- `search::together::sweep` meets its contract: the loop's invariant is `Together` so far. Assumes nothing.
-use Prim.Native.Nat.{◌≤◌, ◌<◌, ◌-◌}
+use Prim.Native.Nat.{◌<◌, ◌-◌}
 use native.Mathlib.Omega.{arith}
 use mathlib.Core.Path.{◌≡◌}
 use mathlib.Core.Bool.{true}
 use lib.ListN.{get_or}
-use borrow.Author.Rules.{rules}
 use Rattle.search.specs.Parts.{row}
-use Rattle.search.specs.Together.{Together, Lent}
+use Rattle.search.specs.Together.{Lent}
 use Rattle.search.proofs.Runs.{place-below, risen-step}
 use Rattle.search.proofs.Abreast.{begun, turned, together-lent, from}
 use Rattle.search.proofs.together.sweep.Goals as goal

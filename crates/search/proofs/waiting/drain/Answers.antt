@@ -1,11 +1,9 @@
 -- `search::waiting::drain` meets its contract: the nodes wait, and when none does the masks are closed. Assumes nothing.
-use Prim.Native.Nat.{ℕ, ◌≤◌, ◌<◌, ◌+◌}
+use Prim.Native.Nat.{ℕ, ◌<◌}
 use native.Mathlib.Omega.{arith}
 use mathlib.Core.Path.{◌≡◌, refl}
-use borrow.Author.Rules.{rules}
-use Rattle.search.specs.Sweep.{Lies, weight, gap}
 use lib.ListN.{get_or}
-use Rattle.search.specs.Waiting.{Upto, Linked, Waiting}
+use Rattle.search.specs.Waiting.{Upto, Linked}
 use Rattle.search.proofs.Linking.{linked-none, linked-both}
 use Rattle.search.proofs.Waits.{begun, node-first, left-fits, turned, drained}
 use Rattle.search.proofs.waiting.drain.Goals as goal

@@ -1,13 +1,7 @@
 -- The invariants and measures of `search::waiting::drain`.
-use Prim.Native.Nat.{ℕ, ◌≤◌, ◌<◌, ◌+◌}
-use native.Mathlib.Omega.{arith}
-use mathlib.Core.Path.{◌≡◌, refl}
-use borrow.Author.Rules.{rules}
+use Prim.Native.Nat.{◌+◌}
 use Rattle.search.specs.Sweep.{Lies, weight, gap}
-use lib.ListN.{get_or}
-use Rattle.search.specs.Waiting.{Upto, Linked, Waiting}
-use Rattle.search.proofs.Linking.{linked-none, linked-both}
-use Rattle.search.proofs.Waits.{begun, node-first, left-fits, turned, drained}
+use Rattle.search.specs.Waiting.{Waiting}
 use Rattle.search.proofs.waiting.drain.Given as goal
 
 abbrev pub invariant-loop-n : goal.invariant-loop-n

@@ -1,9 +1,7 @@
 -- `search::waiting::enter_all` meets its contract: after x turns the first x nodes are held and stand in the ring. Assumes nothing.
-use Prim.Native.Nat.{ℕ, ◌≤◌, ◌<◌, ◌-◌}
+use Prim.Native.Nat.{◌-◌}
 use native.Mathlib.Omega.{arith}
-use mathlib.Core.Path.{◌≡◌}
-use borrow.Author.Rules.{rules}
-use Rattle.search.proofs.Waits.{Entering, entering-none, entering-more, entering-all}
+use Rattle.search.proofs.Waits.{entering-none, entering-more, entering-all}
 use Rattle.search.proofs.waiting.enter_all.Goals as goal
 
 pub loop-held-init : goal.loop-held-init

@@ -1,9 +1,6 @@
 -- The invariants and measures of `search::waiting::enter_all`.
-use Prim.Native.Nat.{ℕ, ◌≤◌, ◌<◌, ◌-◌}
-use native.Mathlib.Omega.{arith}
-use mathlib.Core.Path.{◌≡◌}
-use borrow.Author.Rules.{rules}
-use Rattle.search.proofs.Waits.{Entering, entering-none, entering-more, entering-all}
+use Prim.Native.Nat.{◌≤◌, ◌-◌}
+use Rattle.search.proofs.Waits.{Entering}
 use Rattle.search.proofs.waiting.enter_all.Given as goal
 
 abbrev pub invariant-loop-held : goal.invariant-loop-held

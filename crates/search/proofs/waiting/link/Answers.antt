@@ -1,9 +1,7 @@
 -- `search::waiting::link` meets its contract: after each turn the edges before it are linked. Assumes nothing.
-use Prim.Native.Nat.{ℕ, ◌≤◌, ◌<◌, ◌-◌}
+use Prim.Native.Nat.{◌<◌, ◌-◌}
 use native.Mathlib.Omega.{arith}
 use mathlib.Core.Path.{◌≡◌}
-use borrow.Author.Rules.{rules}
-use Rattle.search.specs.Waiting.{Upto, Linked}
 use Rattle.search.proofs.Linking.{linked-turn}
 use Rattle.search.proofs.waiting.link.Goals as goal
 

@@ -1,10 +1,6 @@
 -- The invariants and measures of `search::waiting::link`.
-use Prim.Native.Nat.{ℕ, ◌≤◌, ◌<◌, ◌-◌}
-use native.Mathlib.Omega.{arith}
-use mathlib.Core.Path.{◌≡◌}
-use borrow.Author.Rules.{rules}
+use Prim.Native.Nat.{ℕ, ◌≤◌, ◌-◌}
 use Rattle.search.specs.Waiting.{Upto, Linked}
-use Rattle.search.proofs.Linking.{linked-turn}
 use Rattle.search.proofs.waiting.link.Given as goal
 
 abbrev pub invariant-loop-j : goal.invariant-loop-j

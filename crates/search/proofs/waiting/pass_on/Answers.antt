@@ -1,10 +1,9 @@
 -- `search::waiting::pass_on` meets its contract: the loop's invariant is the `Walk` so far. Assumes nothing.
-use Prim.Native.Nat.{ℕ, ◌≤◌, ◌<◌, ◌-◌}
+use Prim.Native.Nat.{◌≤◌, ◌-◌}
 use native.Mathlib.Omega.{arith}
 use mathlib.Core.Path.{◌≡◌}
 use lib.ListN.{get_or}
-use Rattle.lists.specs.Store.{filled}
-use Rattle.search.specs.Waiting.{Walk, none, more}
+use Rattle.search.specs.Waiting.{none, more}
 use Rattle.search.proofs.Waits.{walk-fits}
 use Rattle.search.proofs.waiting.pass_on.Goals as goal
 

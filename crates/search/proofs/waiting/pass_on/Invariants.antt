@@ -1,11 +1,7 @@
 -- The invariants and measures of `search::waiting::pass_on`.
-use Prim.Native.Nat.{ℕ, ◌≤◌, ◌<◌, ◌-◌}
-use native.Mathlib.Omega.{arith}
-use mathlib.Core.Path.{◌≡◌}
-use lib.ListN.{get_or}
+use Prim.Native.Nat.{◌≤◌, ◌-◌}
 use Rattle.lists.specs.Store.{filled}
-use Rattle.search.specs.Waiting.{Walk, none, more}
-use Rattle.search.proofs.Waits.{walk-fits}
+use Rattle.search.specs.Waiting.{Walk}
 use Rattle.search.proofs.waiting.pass_on.Given as goal
 
 abbrev pub invariant-loop-j : goal.invariant-loop-j

@@ -3,7 +3,6 @@
 use Prim.Native.Nat.{suc, ◌<◌}
 use native.Mathlib.Omega.{arith}
 use mathlib.Core.Path.{◌≡◌}
-use borrow.Author.Rules.{rules}
 use lib.ListN.{get_or, set}
 use Rattle.lists.specs.Store.{filled, filled-set, filled-lt}
 use Rattle.search.specs.Waiting.{same, kept, fresh}
