@@ -5,7 +5,7 @@ use Rattle.std.proofs.Math.Option.{Option, none, some}
 use Rattle.chart.specs.Region.{Region}
 use Rattle.theory_team.specs.State.{State}
 use Rattle.theory_traces.specs.Replay.{Play, begun, gathered, feed, outcome_of, play_of, replayed}
-use Rattle.theory_traces.proofs.ReplayLaws.{Own}
+use Rattle.theory_traces.specs.Owned.{Own}
 use Rattle.theory_traces.specs.declared.Replayed.{Replayed}
 use Rattle.answer_steps.specs.Tables.{Tabled, Shows}
 use Rattle.call_replay.specs.PairsMet.{Sheet, Kept}

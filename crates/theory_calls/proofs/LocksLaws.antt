@@ -31,7 +31,7 @@ use Rattle.theory_exact.specs.Answered.{ConcurrentFor}
 use Rattle.theory_exact.proofs.AnsweredFor.{exact-for}
 use Rattle.theory_exact.specs.Barred.{is_barred_for}
 use Rattle.theory_exact.proofs.BarredLaws.{barred-for-of}
-use Rattle.theory_exact.proofs.Unmet.{MeetsFor}
+use Rattle.theory_exact.specs.Answered.{MeetsFor}
 use Rattle.theory_exact.proofs.MetLaws.{meets-exact}
 use Rattle.theory_exact.specs.Droppable.{Droppable, AlwaysDroppable, Fits, Enough, AlwaysEnough}
 use Rattle.theory_calls.specs.Locks.{opening, is_critical, in_named, some_pair, needed, ever_needed}

@@ -6,7 +6,7 @@ use Rattle.chart.specs.Region.{opens, critical, Region}
 use Rattle.theory_team.specs.Locks.{InCritical}
 use Rattle.theory_answers.specs.declared.Size.{Size}
 use Rattle.theory_exact.specs.Answered.{ConcurrentFor}
-use Rattle.theory_exact.proofs.Unmet.{MeetsFor}
+use Rattle.theory_exact.specs.Answered.{MeetsFor}
 
 -- c is a critical of the region: its begin opens it there.
 abbrev pub CriticalOf : Region → ℕ → Type 0

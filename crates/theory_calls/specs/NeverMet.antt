@@ -23,7 +23,8 @@ use Rattle.theory_answers.specs.Numbers.{Asked, asked, asked-node, node-asked, b
 use Rattle.theory_answers.specs.Size.{size_rows}
 use Rattle.theory_answers.specs.declared.Size.{Size}
 use Rattle.theory_exact.proofs.BarredLaws.{answered-barred, start-barred}
-use Rattle.theory_exact.proofs.Unmet.{MeetsFor, chart-unmet}
+use Rattle.theory_exact.specs.Answered.{MeetsFor}
+use Rattle.theory_exact.proofs.Unmet.{chart-unmet}
 use Rattle.output.specs.Output.{output_rows}
 use Rattle.theory_calls.specs.Pair.{numbers_row, pair_rows_for}
 use Rattle.theory_calls.specs.PhasesCorrect.{Numbered, place, BitSet, PhaseBits, PhasesCorrect}

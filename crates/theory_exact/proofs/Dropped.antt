@@ -21,7 +21,8 @@ use Rattle.theory_exact.specs.Constructs.{inside-open}
 use Rattle.theory_exact.specs.Answered.{ConcurrentFor}
 use Rattle.theory_exact.proofs.AnsweredFor.{exact-for}
 use Rattle.theory_exact.specs.Barred.{BarredFor}
-use Rattle.theory_exact.proofs.Unmet.{MeetsFor, unmet}
+use Rattle.theory_exact.specs.Answered.{MeetsFor}
+use Rattle.theory_exact.proofs.Unmet.{unmet}
 use Rattle.theory_exact.specs.Synchronized.{some-excluded}
 use Rattle.theory_exact.specs.Droppable.{Clear, Never, Droppable, AlwaysDroppable, Unlocking, Fits, Enough, AlwaysEnough}
 

@@ -18,7 +18,8 @@ use Rattle.theory_answers.specs.declared.Size.{Size}
 use Rattle.theory_answers.specs.declared.Size.TheVariants.{Any, Of}
 use Rattle.theory_exact.specs.Barred.{one-thread, no-thread, in_all, BarredFor, is_barred_for}
 use Rattle.theory_exact.proofs.BarredLaws.{barred-for-of, not-barred}
-use Rattle.theory_exact.proofs.Unmet.{MeetsFor, unmet}
+use Rattle.theory_exact.specs.Answered.{MeetsFor}
+use Rattle.theory_exact.proofs.Unmet.{unmet}
 use Rattle.theory_exact.proofs.Exactness.{meeting-in, meeting}
 
 has-none : (R : Region) (m x : ℕ) → (Lacks R m x → ⊥) → HasThreads R m x

@@ -20,16 +20,12 @@ use Rattle.theory_team.specs.Meets.{Meets}
 use Rattle.theory_answers.specs.Unexcluded.{Returns, Common, HasThreads}
 use Rattle.theory_answers.specs.declared.Size.{Size}
 use Rattle.theory_answers.specs.declared.Size.TheVariants.{Any, Of}
+use Rattle.theory_exact.specs.Answered.{MeetsFor}
 use Rattle.theory_exact.specs.Barred.{BarredFor, Unbarred}
 use Rattle.theory_exact.proofs.BarredLaws.{unbarred-not, fitting-not}
 use Rattle.theory_exact.specs.Runs.{before}
 use Rattle.theory_exact.specs.Nesting.{inside-do, do-outermost, single-outermost, sections-outermost}
 use Rattle.theory_exact.specs.Invariant.{MasterOf, Since, Invariant, invariant, invariant-first}
-
--- Met in some team, or in a team of the size, by a run that need not finish.
-abbrev pub MeetsFor : Region → Size → ℕ → ℕ → Type 0
-MeetsFor R Any a b = (m : ℕ) × Meets R m a b
-MeetsFor R (Of m) a b = Meets R m a b
 
 module _ {R : Region} (W : WellFormed R) (C : Connected R) {m a b : ℕ} (M : Meets R m a b) where
   met-invariant : Invariant R m M.state

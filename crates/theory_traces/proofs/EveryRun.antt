@@ -18,10 +18,11 @@ use Rattle.theory_paths.specs.Connected.{Connected}
 use Rattle.theory_team.specs.State.{State, initial, released}
 use Rattle.theory_team.specs.Step.{Step, one, release}
 use Rattle.theory_team.specs.Run.{Run, done, step, StateOf, now, later}
+use Rattle.theory_traces.specs.Owned.{Own}
 use Rattle.theory_traces.specs.Replay.{Play, reached, begun, chosen_now, feed, going, onward, next, progress, replayed}
 use Rattle.theory_traces.specs.Legal.{Gathered, Together}
 use Rattle.theory_traces.specs.Outside.{target-kept}
-use Rattle.theory_traces.proofs.ReplayLaws.{together-of, Own, grows-reached}
+use Rattle.theory_traces.proofs.ReplayLaws.{together-of, grows-reached}
 use Rattle.theory_traces.proofs.Feeding.{pending, chosen-part, chosen-whole, release-gathered, step-fed, choice-fed}
 
 -- a release goes where the team's threads go

@@ -18,12 +18,13 @@ use Rattle.chart.specs.Region.{Region}
 use Rattle.chart.specs.WellFormed.{WellFormed}
 use Rattle.theory_team.specs.State.{State, initial, released}
 use Rattle.theory_team.specs.Step.{ThreadStep}
+use Rattle.theory_traces.specs.Owned.{Own}
 use Rattle.theory_traces.proofs.TestsLaws.{own}
 use Rattle.theory_traces.specs.Decide.{decide, allowed}
 use Rattle.theory_traces.proofs.DecideLaws.{cond_cases, decided-step}
 use Rattle.theory_traces.specs.Legal.{thread_at, target_at, Gathered, Chooses, Legal, begins, steps, chooses, releases, Together, MetBy}
 use Rattle.theory_traces.specs.Replay.{Play, reached, begun, gathered, chosen_now, choose, stepped, feed, Progress, going, stopped, onward, next, progress, play_of}
-use Rattle.theory_traces.proofs.ReplayLaws.{goes_on, together-of, Own, Grows, grows-reached, gathered-of}
+use Rattle.theory_traces.proofs.ReplayLaws.{goes_on, together-of, Grows, grows-reached, gathered-of}
 use Rattle.theory_traces.proofs.Feeding.{pending, chosen-part, chosen-whole, step-fed, choice-fed}
 
 -- a pair is met both ways round

@@ -25,6 +25,7 @@ use Rattle.theory_team.specs.Meets.{Meets, meets-concurrent}
 use Rattle.theory_answers.specs.Answer.{answer, answer_in}
 use Rattle.theory_exact.specs.Runs.{append, append-state}
 use Rattle.theory_exact.proofs.AnsweredLaws.{answer-exact, size_exact}
+use Rattle.theory_traces.specs.Owned.{Own}
 use Rattle.theory_traces.specs.Legal.{thread_at, target_at, Gathered, Together}
 use Rattle.theory_traces.proofs.TestsLaws.{own, every_of}
 use Rattle.theory_traces.specs.Decide.{decide, apply, allowed}
@@ -57,10 +58,6 @@ any_of n {f} p = ((λ h. let (k, l, g) = any_at n f h in (k, l, (p k).0 g)), λ 
 pub together-of : (m : ℕ) (σ : State) (a b : ℕ) → (together m σ a b ≡ true) ↔ Together m σ a b
 unfolding together
 together-of m σ a b = any_of m (λ t. any_of m (λ k. both_of (not-of (equal_of t k)) (both_of (equal_of (σ.node t) a) (equal_of (σ.node k) b))))
-
--- What is met in the state is marked.
-abbrev pub Own : ℕ → Play → Type 0
-Own m P = (a b : ℕ) → Together m P.state a b → P.met a b ≡ true
 
 -- What was marked stays so, and what is met in the state is marked still.
 pub record Grows (m : ℕ) (P Q : Play) : Type 0 where
