@@ -17,7 +17,7 @@ use Rattle.answer_claims.proofs.list.judge_claims.Goals as goal
 
 pub returns-then-claims-eq1 : goal.returns-then-claims-eq1
 unfolding answered first_of claim_rows odd_bytes
-returns-then-claims-eq1 c = rw (eq-eqb (length c.args.claims.now % 2) 1 (omega (arith, c.if-claims-eq1.true)))
+returns-then-claims-eq1 c = rw (eq-eqb (length c.args.claims.now % 2) 1 (omega arith))
 
 pub bad_numbers-requires : goal.bad_numbers-requires
 bad_numbers-requires c = (c.requires.0, c.requires.1.well-formed)
@@ -25,7 +25,7 @@ bad_numbers-requires c = (c.requires.0, c.requires.1.well-formed)
 pub returns-then-bad_numbers : goal.returns-then-bad_numbers
 unfolding answered first_of claim_rows odd_bytes
 returns-then-bad_numbers c =
-    let even = ne_eqb (length c.args.claims.now % 2) 1 (omega (arith, c.if-claims-eq1.false)) in
+    let even = ne_eqb (length c.args.claims.now % 2) 1 (omega arith) in
     rw (even, sym c.bad_numbers.ensures ∙ c.if-bad_numbers.true)
 
 -- past these rows the size's is left
@@ -37,7 +37,7 @@ returns-then-bad_size c =
     let good : bad_numbers R c.args.claims.now ≡ false =
     sym c.bad_numbers.ensures ∙ c.if-bad_numbers.false in
     let rest : first_of (claim_rows R c.args.size c.args.claims.now) ≡ first_of (size_rows c.args.size) =
-    rw (ne_eqb (length c.args.claims.now % 2) 1 (omega (arith, c.if-claims-eq1.false)), good) in
+    rw (ne_eqb (length c.args.claims.now % 2) 1 (omega arith), good) in
     rw (rest, c.bad_size.ensures, c.if-bad_size.true)
 
 pub sets_for-requires : goal.sets_for-requires
@@ -60,7 +60,7 @@ returns c =
     let good : bad_numbers R c.args.claims.now ≡ false =
     sym c.bad_numbers.ensures ∙ c.if-bad_numbers.false in
     let rest : first_of (claim_rows R c.args.size c.args.claims.now) ≡ first_of (size_rows c.args.size) =
-    rw (ne_eqb (length c.args.claims.now % 2) 1 (omega (arith, c.if-claims-eq1.false)), good) in
+    rw (ne_eqb (length c.args.claims.now % 2) 1 (omega arith), good) in
     let Z = c.sets_for.ensures.sized in
     let same = c.sets_for.ensures.kinds_value in
     rw (rest, c.bad_size.ensures, c.if-bad_size.false) (c.first_false.ensures R c.args.size (rw same c.requires.1) Z good)
