@@ -10,39 +10,34 @@ ghost use Rattle.theory_calls.specs.Judged.{claim_rows, verdict, answered};
 ghost use Rattle.answer_claims.specs.OfMarks.{OfMarks};
 
 use crate::numbers::bad_numbers;
-use answer_constructs::kinds::{KindTable, Sets};
+use answer_constructs::kinds::Sets;
 use answer_constructs::mask_table::MaskTable;
 use answer_constructs::sizes::{bad_size, sets_for};
 use answer_pairs::rules::pair;
-use chart::cursor::wide;
 use chart::format::{Chart, Refusal};
 use theory_answers::{Answer, Size};
-use theory_calls::Verdict;
 
 // Whether claim k is false.
 fn is_false(claims: &[u8], k: usize, marks: &MaskTable, sets: Sets) -> bool
     requires { (2 * k + 1 < length claims.now) × ((j : ℕ) → get_or claims.now j 0 < 192) }
     ensures { OfMarks marks.now sets claims.now (λ R size. result ≡ is_false (answer_for R size) claims.now k) }
 {
-    let a = wide(claims[2 * k]);
-    let b = wide(claims[2 * k + 1]);
+    let a = claims[2 * k] as usize;
+    let b = claims[2 * k + 1] as usize;
     pair(a, b, marks, sets) == Answer::CONCURRENT
 }
 
-// The verdict on a list that is not refused.
-fn first_false(claims: &[u8], marks: &MaskTable, sets: Sets) -> Verdict
+// The verdict on a list that is not refused: the index of its first false claim, where there is one.
+fn first_false(claims: &[u8], marks: &MaskTable, sets: Sets) -> Option<usize>
     requires { (j : ℕ) → get_or claims.now j 0 < 192 }
     ensures { OfMarks marks.now sets claims.now (λ R size. result ≡ verdict (answer_for R size) claims.now) }
 {
-    let n = claims.len() / 2;
-    let mut k = 0;
-    while k < n {
+    for k in 0..claims.len() / 2 {
         if is_false(claims, k, marks, sets) {
-            return Verdict::Failed(k);
+            return Some(k);
         }
-        k += 1;
     }
-    Verdict::Passed
+    None
 }
 
 // Rows 12 and 13 over the whole list, row 21 of the size, then the verdict.
@@ -52,20 +47,19 @@ pub fn judge_claims(
     size: Size,
     claims: &[u8],
     marks: &MaskTable,
-    kinds: &KindTable,
-) -> Verdict
-    requires { Accepted s.now chart × Marks (reading s.now chart) marks.now kinds.now }
+) -> Result<Option<usize>, Refusal>
+    requires { Accepted s.now chart × Marks (reading s.now chart) marks.now marks.now.kinds }
     ensures { let R = reading s.now chart in
         result ≡ answered (first_of (claim_rows R size claims.now)) (verdict (answer_for R size) claims.now) }
 {
     if claims.len() % 2 == 1 {
-        return Verdict::Refused(Refusal::CLAIMS);
+        return Err(Refusal::OddClaims);
     }
     if bad_numbers(s, chart, claims) {
-        return Verdict::Refused(Refusal::NUMBERS);
+        return Err(Refusal::BadNumber);
     }
     if bad_size(size) {
-        return Verdict::Refused(Refusal::SIZE);
+        return Err(Refusal::BadSize);
     }
-    first_false(claims, marks, sets_for(s, chart, size, kinds))
+    Ok(first_false(claims, marks, sets_for(s, chart, size, &marks.kinds)))
 }

@@ -8,10 +8,8 @@ ghost use Rattle.theory_answers.specs.Numbers.{bad_number};
 ghost use Rattle.theory_calls.specs.Claims.{bad_numbers};
 
 use answer_pairs::numbers::bad_number;
-use chart::cursor::wide;
 use chart::format::Chart;
 use mark_tables::closed::load_closed;
-use masks::bits::either;
 
 // Row 13, of each number that a byte can be.
 fn mark_bad(n: usize, closed: &[u8; Chart::NODES], bad: &mut [bool; 256])
@@ -19,10 +17,8 @@ fn mark_bad(n: usize, closed: &[u8; Chart::NODES], bad: &mut [bool; 256])
     ensures { (R : Region) → WellFormed R → R.nodes ≡ n → Closed R closed.now → (x : ℕ) → x < 256 → get_or bad.new x false ≡ bad_number R x }
 {
     *bad = [true; 256];
-    let mut x = 0;
-    while x < n {
+    for x in 0..n {
         bad[x] = bad_number(x, n, closed);
-        x += 1;
     }
 }
 
@@ -35,12 +31,9 @@ pub fn bad_numbers(s: &[u8], chart: Chart, claims: &[u8]) -> bool
     load_closed(s, chart, &mut closed);
     let mut bad = [false; 256];
     mark_bad(chart.nodes, &closed, &mut bad);
-    let n = claims.len();
     let mut found = false;
-    let mut j = 0;
-    while j < n {
-        found = either(found, bad[wide(claims[j])]);
-        j += 1;
+    for &x in claims {
+        found |= bad[x as usize];
     }
     found
 }

@@ -3,7 +3,7 @@
 -- Assumes nothing.
 use mathlib.Core.Path.{◌≡◌, refl, ap, sym, ◌∙◌, subst}
 use mathlib.Core.Logic.{◌⊎◌, inl, inr, ◌≢◌, ◌↔◌}
-use mathlib.Core.Bool.{Bool, true, false, cond}
+use mathlib.Core.Bool.{true, false, cond}
 use mathlib.Core.List.{List}
 use Prim.Native.Nat.{ℕ, zero, suc, ◌+◌, ◌^◌, ◌≤◌, ◌<◌}
 use native.Mathlib.Omega.{arith}
@@ -13,7 +13,7 @@ use lib.ListN.{length, set, length-set}
 use borrow.Author.Tests.{eqb-true, eq-eqb, ne_eqb}
 use Rattle.lists.specs.Truth.{truth, clash}
 use Rattle.lists.specs.Mask.{Mask, mask_of, mask-of, mask-carry}
-use Rattle.lists.specs.Bits.{has, has_of, mask_next}
+use Rattle.lists.specs.Bits.{has, has_of}
 use Rattle.lists.specs.Common.{mask-none, mask_one}
 use Rattle.lists.specs.Store.{stored}
 use Rattle.chart.specs.Format.{outside, decode, construct_at}
@@ -74,10 +74,6 @@ back (suc (suc (suc (suc (suc (suc zero)))))) l m = refl
 back (suc (suc (suc (suc (suc (suc (suc zero))))))) l m = refl
 back (suc (suc (suc (suc (suc (suc (suc (suc zero)))))))) l m = refl
 back (suc (suc (suc (suc (suc (suc (suc (suc (suc b))))))))) l m = absurd (omega arith)
-
--- one construct more, of which the test was made
-pub test-next : (f : ℕ → Bool) (c : ℕ) {b : Bool} {m n : ℕ} → b ≡ f c → m ≡ mask_of f c → n ≡ cond b (bit_or (2 ^ c) m) m → n ≡ mask_of f (c + 1)
-test-next f c q e h = rw (mask_next f c, ← e, ← q) h
 
 module _ (s : List ℕ) (chart : Chart) (A : Accepted s chart) where
   abbrev R : Region

@@ -24,8 +24,9 @@ use Rattle.mark_tables.specs.Tables.{Accepted}
 use Rattle.answer_constructs.specs.Chains.{is_over}
 use Rattle.answer_constructs.specs.Marks.{Lacked}
 use Rattle.answer_constructs.proofs.Constructs.{kind-byte}
+use Rattle.chart.specs.declared.format.Refusal.TheVariants.{BadSize}
 
-pub of_size : {size : Size} {m : ℕ} {r : Bool} → size ≡ Of m → (ltb m 1 || ltb 1024 m) ≡ r → first_of (size_rows size) ≡ cond r (some 21) none
+pub of_size : {size : Size} {m : ℕ} {r : Bool} → size ≡ Of m → (ltb m 1 || ltb 1024 m) ≡ r → first_of (size_rows size) ≡ cond r (some BadSize) none
 unfolding first_of size_row
 of_size q e = rw (q, e)
 

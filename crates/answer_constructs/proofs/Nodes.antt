@@ -3,12 +3,12 @@
 use mathlib.Core.Path.{◌≡◌, refl, sym, ◌∙◌, subst}
 use mathlib.Core.Logic.{◌⊎◌, inl, inr, ◌≢◌}
 use mathlib.Core.Bool.{true, false}
-use mathlib.Core.List.{List, [], ◌∷◌}
+use mathlib.Core.List.{List}
 use Prim.Native.Nat.{ℕ, ◌≤◌, ◌<◌}
 use native.Mathlib.Omega.{arith}
 use native.Mathlib.Decide.{ℕ_discrete, dec_lt}
 use lib.Bits.{bit_and, bit_or}
-use lib.ListN.{length, get_or, set, replicate}
+use lib.ListN.{length, get_or, replicate}
 use Rattle.lists.specs.Truth.{bad, clash}
 use Rattle.lists.specs.Mask.{Mask, mask-carry, mask-either}
 use Rattle.lists.specs.Common.{mask-both}
@@ -35,13 +35,6 @@ use Rattle.answer_constructs.specs.Marks.{Holds, Held, OfKind, Kinds, Marks}
 use Rattle.answer_constructs.specs.Chains.{Gives, HeldIn, Chains, mask_at}
 use Rattle.answer_constructs.proofs.Facts.{few, is_read}
 use Rattle.answer_constructs.proofs.Constructs.{no-bit, held_at, parent-lower}
-
-three : (marks : List (List ℕ)) → length marks ≡ 3 → (a b c : List ℕ) → set (set (set marks 0 a) 1 b) 2 c ≡ a ∷ b ∷ c ∷ []
-three [] l a b c = absurd (omega arith)
-three (x ∷ []) l a b c = absurd (omega arith)
-three (x ∷ y ∷ []) l a b c = absurd (omega arith)
-three (x ∷ y ∷ z ∷ []) l a b c = refl
-three (x ∷ y ∷ z ∷ w ∷ rest) l a b c = absurd (omega arith)
 
 module _ (s : List ℕ) (chart : Chart) (A : Accepted s chart) where
   abbrev R : Region
@@ -211,14 +204,14 @@ module _ (s : List ℕ) (chart : Chart) (A : Accepted s chart) where
   pub none-held : chart.constructs ≡ 0 → (x : ℕ) → Held (reading s chart) x (get_or (replicate 192 0) x 0)
   none-held z x = let none = constructs-length s chart A.laid in rw (zeros 192 x) (no-bit (λ b l h. omega arith))
 
-  -- all nodes, with the rows stored one by one
-  pub all-marks : (marks : List (List ℕ)) (starts ends held : List ℕ) {kinds : List ℕ} → length marks ≡ 3
+  -- all nodes
+  pub all-marks : (starts ends held : List ℕ) {noted kinds : List ℕ}
       → Masks forward (reading s chart) starts → Masks backward (reading s chart) ends
       → HeldBelow (reading s chart) chart.nodes held → Kinds (reading s chart) kinds
-      → Marks (reading s chart) (set (set (set marks 0 starts) 1 ends) 2 held) kinds
-  all-marks marks starts ends held l from to below K =
+      → Marks (reading s chart) (record { starts = starts; ends = ends; held = held; kinds = noted }) kinds
+  all-marks starts ends held from to below K =
       let n = nodes-length s chart A.laid in
-      rw (three marks l starts ends held) (record {
+      record {
         well-formed = well-formed s chart A;
         few = omega (arith, A.laid.nodes-most);
         has-starts = from;
@@ -226,4 +219,4 @@ module _ (s : List ℕ) (chart : Chart) (A : Accepted s chart) where
         has-held = λ x l. below.has-held x (omega arith);
         none-past = λ x l. below.rest x (omega arith);
         has-kinds = K;
-      })
+      }

@@ -1,7 +1,7 @@
 -- What the pair rules read of a node, as masks: its starts and ends, with a bit for each barrier, and the constructs that it holds. A rule
 -- is then a common bit of two nodes' masks (crate answer_pairs, specs/Rules.antt).
 -- Assumes nothing.
-use Rattle.std.specs.Prelude.{◌≡◌, true, false, List, [], ℕ, zero, suc, ◌≤◌, ◌<◌, leb, get_or}
+use Rattle.std.specs.Prelude.{◌≡◌, true, false, List, ℕ, zero, suc, ◌≤◌, ◌<◌, leb, get_or}
 use Rattle.lists.specs.Mask.{Mask}
 use Rattle.chart.specs.Region.{Kind, single, master, critical, loop, ordered, sections, section, parallel, Region}
 use Rattle.chart.specs.InOrdered.{InOrdered}
@@ -12,6 +12,7 @@ use Rattle.theory_answers.specs.declared.Size.{Size}
 use Rattle.theory_answers.specs.declared.Size.TheVariants.{Any, Of}
 use Rattle.theory_paths.specs.Phases.{forward, backward}
 use Rattle.mark_tables.specs.Tables.{Masks}
+use Rattle.answer_constructs.specs.declared.mask_table.MaskTable.{MaskTable}
 use Rattle.answer_constructs.specs.declared.kinds.Sets.{Sets}
 
 -- What makes node x hold construct d, by the kind of d. Two nodes that hold one construct in common are excluded by the rule of its kind.
@@ -52,22 +53,12 @@ abbrev pub Sized : Region → Size → Sets → Type 0
 Sized R Any sets = (sets.alone ≡ false) × (sets.missing ≡ 0)
 Sized R (Of m) sets = (sets.alone ≡ leb m 1) × Mask (Lacked R m) R.constructs sets.missing
 
--- The rows of a table of masks.
-abbrev pub starts_in : List (List ℕ) → List ℕ
-starts_in marks = get_or marks 0 []
-
-abbrev pub ends_in : List (List ℕ) → List ℕ
-ends_in marks = get_or marks 1 []
-
-abbrev pub held_in : List (List ℕ) → List ℕ
-held_in marks = get_or marks 2 []
-
 -- All masks of all nodes, and those of the rules' kinds.
-pub record Marks (R : Region) (marks : List (List ℕ)) (kinds : List ℕ) : Type 0 where
+pub record Marks (R : Region) (marks : MaskTable) (kinds : List ℕ) : Type 0 where
   pub well-formed : WellFormed R
   pub few : R.nodes ≤ 192
-  pub has-starts : Masks forward R (starts_in marks)
-  pub has-ends : Masks backward R (ends_in marks)
-  pub has-held : (x : ℕ) → x < R.nodes → Held R x (get_or (held_in marks) x 0)
-  pub none-past : (x : ℕ) → R.nodes ≤ x → get_or (held_in marks) x 0 ≡ 0
+  pub has-starts : Masks forward R marks.starts
+  pub has-ends : Masks backward R marks.ends
+  pub has-held : (x : ℕ) → x < R.nodes → Held R x (get_or marks.held x 0)
+  pub none-past : (x : ℕ) → R.nodes ≤ x → get_or marks.held x 0 ≡ 0
   pub has-kinds : Kinds R kinds

@@ -1,89 +1,58 @@
 // What a node in each construct holds, as masks of constructs.
-ghost use Rattle.std.specs.Prelude.{◌≡◌, ◌||◌, cond, ◌+◌, ◌<◌, eqb, length};
+ghost use Rattle.std.specs.Prelude.{◌≡◌, cond, ◌+◌, ◌<◌, length};
 ghost use Rattle.lists.specs.Bits.{has as has_bit};
 ghost use Rattle.lists.specs.Mask.{Mask, mask_of};
 ghost use Rattle.chart.specs.Format.{outside, decode, construct_at};
 ghost use Rattle.chart.specs.Region.{master};
-ghost use Rattle.chart.specs.Scope.{single_byte, master_byte, ordered_byte, section_byte};
+ghost use Rattle.chart.specs.Scope.{master_byte, ordered_byte, section_byte};
 ghost use Rattle.chart.specs.Nested.{counts_in};
 ghost use Rattle.chart.specs.Checked.{reading};
 ghost use Rattle.chart.proofs.RegionFacts.{Counts};
 ghost use Rattle.mark_tables.specs.Tables.{Accepted, Returned};
-ghost use Rattle.answer_constructs.specs.Chains.{Gives, Chains, mask_at, lasting_bit, own_mask};
+ghost use Rattle.answer_constructs.specs.Chains.{Gives, Chains, mask_at, own_mask};
 ghost use Rattle.answer_constructs.specs.Marks.{OfKind};
 
 use crate::members::members_of;
 use crate::peers::masters_like;
-use chart::cursor::wide;
 use chart::format::{Chart, Construct};
 use masks::bits::{bit, has};
 use masks::unions::BITS;
 
 // The mask of construct p, with no bit where p is none.
+#[tactic(auto, unfolding(crate::specs::Chains::mask_at))]
 pub fn mask_at(masks: &[u64; Chart::CONSTRUCTS], p: u8) -> u64
     requires { (p ≡ outside → ⊥) → p < 48 }
     ensures { result ≡ mask_at masks.now p }
 {
     if p == Construct::NONE {
-        return 0;
+        0
+    } else {
+        masks[p as usize]
     }
-    let c = wide(p);
-    masks[c]
-}
-
-// Bit c, where construct d does not return.
-fn lasting(c: usize, d: usize, returning: u64) -> u64
-    requires { (c < 64) × (d < 64) }
-    ensures { result ≡ lasting_bit returning d c }
-{
-    if has(returning, d) {
-        return 0;
-    }
-    bit(c)
-}
-
-// One of two constructs.
-fn pick(first: bool, a: usize, b: usize) -> usize
-    ensures { result ≡ cond first a b }
-{
-    if first {
-        return a;
-    }
-    b
-}
-
-// Whether a construct of this kind gives a bit that goes where a construct returns.
-fn may_last(kind: u8) -> bool
-    ensures { result ≡ (eqb kind single_byte || (eqb kind ordered_byte || eqb kind section_byte)) }
-{
-    if kind == Construct::SINGLE {
-        return true;
-    }
-    if kind == Construct::ORDERED {
-        return true;
-    }
-    kind == Construct::SECTION
 }
 
 // What a node holds for being inside construct c: a single and, for an ordered, its do, where they do not return; a section where its parent
 // does not; for a master the masters for its thread, since that one goes into all of them. The bit is made before the kind is asked, which
 // leaves less to a branch by the kind.
+#[tactic(auto, unfolding(crate::specs::Chains::own_mask, crate::specs::Chains::lasting_bit))]
 fn own(construct: Construct, c: usize, returning: u64, masters: u64) -> u64
     requires { (c < 48) × (construct.kind ≡ ordered_byte → construct.parent < 48) × (construct.kind ≡ section_byte → construct.parent < 48) }
     ensures { result ≡ own_mask construct.kind construct.parent c returning masters }
 {
     let kind = construct.kind;
-    let parent = wide(construct.parent) % BITS;
-    let given = pick(kind == Construct::ORDERED, parent, c);
-    let asked = pick(kind == Construct::SINGLE, c, parent);
-    let lasts = lasting(given, asked, returning);
-    if kind == Construct::MASTER {
-        return masters;
+    let parent = construct.parent as usize % BITS;
+    let given = if kind == Construct::ORDERED {
+        parent
+    } else {
+        c
+    };
+    let asked = if kind == Construct::SINGLE { c } else { parent };
+    let lasts = if has(returning, asked) { 0 } else { bit(given) };
+    match kind {
+        Construct::MASTER => masters,
+        Construct::SINGLE | Construct::ORDERED | Construct::SECTION => lasts,
+        _ => 0,
     }
-    if may_last(kind) {
-        return lasts;
-    }
-    0
 }
 
 // The same, where construct c is one of the region's; a deeper one gives nothing.
@@ -91,10 +60,11 @@ fn gives(construct: Construct, c: usize, members: u64, returning: u64, masters: 
     requires { (c < 48) × (construct.kind ≡ ordered_byte → construct.parent < 48) × (construct.kind ≡ section_byte → construct.parent < 48) }
     ensures { result ≡ cond (has_bit members c) (own_mask construct.kind construct.parent c returning masters) 0 }
 {
-    if !has(members, c) {
-        return 0;
+    if has(members, c) {
+        own(construct, c, returning, masters)
+    } else {
+        0
     }
-    own(construct, c, returning, masters)
 }
 
 // One construct more, given the masters for its thread if it is one. Its parent is lower, and so done.
@@ -131,11 +101,8 @@ pub fn fill_chains(
 {
     let members = members_of(s, chart);
     let mut known = [0u64; BITS];
-    let n = chart.constructs;
-    let mut c = 0;
-    while c < n {
+    for c in 0..chart.constructs {
         let like = masters_like(s, chart, c, masters, &mut known);
         add_construct(s, chart, c, members, returning, like, held);
-        c += 1;
     }
 }

@@ -6,7 +6,7 @@ ghost use Rattle.answer_constructs.specs.Marks.{Kinds};
 ghost use Rattle.answer_constructs.specs.Below.{HeldBelow};
 
 use crate::chains::fill_chains;
-use crate::kinds::{KindTable, MASTERS, SECTIONS, kinds_of};
+use crate::kinds::{KindTable, kinds_of};
 use crate::places::lay_out;
 use chart::format::Chart;
 
@@ -23,12 +23,12 @@ pub fn fill_held(
     ensures held_below { HeldBelow (reading s.now chart) chart.nodes held.new }
 {
     let kinds = kinds_of(s, chart);
-    let n = chart.constructs;
-    if n == 0 {
+    if chart.constructs == 0 {
         return kinds;
     }
+    let [masters, _, _, sections] = kinds;
     let mut chains = [0u64; Chart::CONSTRUCTS];
-    fill_chains(s, chart, returning, kinds[MASTERS], &mut chains);
-    lay_out(s, chart, &chains, kinds[SECTIONS], held);
+    fill_chains(s, chart, returning, masters, &mut chains);
+    lay_out(s, chart, &chains, sections, held);
     kinds
 }

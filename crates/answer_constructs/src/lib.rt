@@ -8,6 +8,7 @@ pub mod held;
 pub mod kinds;
 pub mod mask_table;
 pub mod members;
+pub mod passing;
 pub mod peers;
 pub mod places;
 pub mod sizes;

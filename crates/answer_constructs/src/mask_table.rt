@@ -1,13 +1,23 @@
-// The rows of the table of the masks of nodes.
+// The masks of a region.
+use crate::kinds::{KindTable, RULES};
 use chart::format::Chart;
 
-// The masks of all nodes, with these rows.
-pub type MaskTable = [[u64; Chart::NODES]; ROWS];
+// What the pair rules read of a region: of each node, by its number, its starts, its ends and the constructs that it holds, and the constructs of
+// each rule's kind. The tables are large, so they are lent and not copied.
+#[derive(Drop)]
+pub struct MaskTable {
+    pub starts: [u64; Chart::NODES],
+    pub ends: [u64; Chart::NODES],
+    pub held: [u64; Chart::NODES],
+    pub kinds: KindTable,
+}
 
-pub const ROWS: usize = 3;
-
-pub const STARTS: usize = 0;
-
-pub const ENDS: usize = 1;
-
-pub const HELD: usize = 2;
+impl MaskTable {
+    // Nothing is known yet.
+    pub const NONE: MaskTable = MaskTable {
+        starts: [0; Chart::NODES],
+        ends: [0; Chart::NODES],
+        held: [0; Chart::NODES],
+        kinds: [0; RULES],
+    };
+}

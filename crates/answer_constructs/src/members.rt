@@ -6,41 +6,26 @@ ghost use Rattle.chart.specs.Nested.{counts_in};
 ghost use Rattle.mark_tables.specs.Tables.{Accepted};
 ghost use Rattle.answer_constructs.specs.Chains.{is_member};
 
-use crate::peers::add_if;
-use chart::cursor::wide;
+use crate::passing::passing;
 use chart::format::{Chart, Construct};
 use masks::bits::has;
 
 // Whether a construct is one of the region, given those of lower numbers that are: no parallel, and directly in the region or in one of them.
+#[tactic(auto, unfolding(crate::specs::Chains::is_member))]
 fn is_member(construct: Construct, region: usize, members: u64) -> bool
     requires { (construct.parent ≡ outside → ⊥) → construct.parent < 48 }
     ensures { result ≡ is_member construct.kind construct.parent region members }
 {
-    let above = construct.parent;
-    if construct.kind == Construct::PARALLEL {
-        return false;
-    }
-    let parent = wide(above);
-    if parent == region {
-        return true;
-    }
-    if above == Construct::NONE {
-        return false;
-    }
-    has(members, parent)
+    let parent = construct.parent as usize;
+    construct.kind != Construct::PARALLEL
+        && (parent == region || (construct.parent != Construct::NONE && has(members, parent)))
 }
 
 pub fn members_of(s: &[u8], chart: Chart) -> u64
     requires { Accepted s.now chart }
     ensures { result ≡ mask_of (counts_in (decode s.now).constructs chart.region) chart.constructs }
 {
-    let n = chart.constructs;
-    let mut members = 0;
-    let mut c = 0;
-    while c < n {
-        let construct = Construct::read(s, chart, c);
-        members = add_if(is_member(construct, chart.region, members), c, members);
-        c += 1;
-    }
-    members
+    passing(chart.constructs, |c, members| {
+        is_member(Construct::read(s, chart, c), chart.region, members)
+    })
 }

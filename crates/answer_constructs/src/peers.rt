@@ -1,6 +1,5 @@
 // Constructs that a rule takes together: those of one kind with the same number, as the masters for one thread.
-ghost use Rattle.std.specs.Prelude.{◌≡◌, ◌&&◌, cond, ◌^◌, ◌<◌, eqb};
-ghost use Rattle.std.specs.Int.Bits.{bit_or};
+ghost use Rattle.std.specs.Prelude.{◌≡◌, ◌&&◌, ◌<◌, eqb};
 ghost use Rattle.lists.specs.Mask.{Mask, mask_of};
 ghost use Rattle.chart.specs.Format.{decode, construct_at};
 ghost use Rattle.chart.specs.Region.{master};
@@ -10,30 +9,16 @@ ghost use Rattle.mark_tables.specs.Tables.{Accepted};
 ghost use Rattle.answer_constructs.specs.Chains.{Gives, is_like, like_mask, Known};
 ghost use Rattle.answer_constructs.specs.Marks.{OfKind};
 
+use crate::passing::passing;
 use chart::format::{Chart, Construct};
-use masks::bits::{bit, both};
 use masks::unions::{BITS, add};
 
-// The mask, with bit c where a test of construct c holds.
-pub fn add_if(holds: bool, c: usize, mask: u64) -> u64
-    requires { c < 64 }
-    ensures { result ≡ cond holds (bit_or (2 ^ c) mask) mask }
-{
-    if holds {
-        return bit(c) | mask;
-    }
-    mask
-}
-
-// Of one kind, with the same name and filter. Only criticals have names and only masters have filters: of each kind one number is compared. All three
-// are compared at once, since on a chart that was not seen before none foretells the next.
+// Of one kind, with the same name and filter, whatever their parents, which `==` would compare too. Only criticals have names and only masters have
+// filters: of each kind one number is compared. All three are compared at once, since on a chart that was not seen before none foretells the next.
 fn alike(a: Construct, b: Construct) -> bool
     ensures { result ≡ (eqb a.kind b.kind && (eqb a.name b.name && eqb a.filter b.filter)) }
 {
-    let kind = a.kind == b.kind;
-    let name = a.name == b.name;
-    let filter = a.filter == b.filter;
-    both(kind, both(name, filter))
+    (a.kind == b.kind) & ((a.name == b.name) & (a.filter == b.filter))
 }
 
 // The constructs like this one.
@@ -41,14 +26,9 @@ pub fn peers(s: &[u8], chart: Chart, construct: Construct) -> u64
     requires { Laid s.now chart }
     ensures { result ≡ mask_of (is_like (decode s.now).constructs construct.kind construct.name construct.filter) chart.constructs }
 {
-    let n = chart.constructs;
-    let mut mask = 0;
-    let mut d = 0;
-    while d < n {
-        mask = add_if(alike(Construct::read(s, chart, d), construct), d, mask);
-        d += 1;
-    }
-    mask
+    passing(chart.constructs, |d, _| {
+        alike(Construct::read(s, chart, d), construct)
+    })
 }
 
 // The constructs like construct c. They are noted for each of them, so that one pass is made for all of them.
@@ -56,6 +36,7 @@ pub fn noted_peers(s: &[u8], chart: Chart, c: usize, known: &mut [u64; BITS]) ->
     requires { Laid s.now chart × (c < chart.constructs) × Known (decode s.now).constructs known.old }
     ensures { (result ≡ like_mask (decode s.now).constructs c) × Known (decode s.now).constructs known.new }
 {
+    // No Option: the places are a set by bit, which `add` writes, and no construct is unlike itself.
     let noted = known[c];
     if noted != 0 {
         return noted;

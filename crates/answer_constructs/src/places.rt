@@ -4,7 +4,6 @@ ghost use Rattle.chart.specs.Format.{decode};
 ghost use Rattle.mark_tables.specs.Tables.{Accepted};
 ghost use Rattle.answer_constructs.specs.Below.{place_of, Places, LaidOut};
 
-use chart::cursor::wide;
 use chart::format::{Chart, Construct, Node};
 
 // Masks by the nodes' records: a node that lies in a construct finds its own in the first half, the construct's begin and end in the second. A
@@ -25,14 +24,11 @@ fn fill_places(
     requires { Accepted s.now chart × (places.old ≡ replicate 128 0) }
     ensures { Places (decode s.now) chains.now inside chart.constructs places.new }
 {
-    let n = chart.constructs;
-    let mut c = 0;
-    while c < n {
+    for c in 0..chart.constructs {
         let construct = Construct::read(s, chart, c);
-        let above = places[wide(construct.parent) % 64];
+        let above = places[construct.parent as usize % 64];
         places[c] = chains[c];
         places[64 + c] = above | (chains[c] & inside);
-        c += 1;
     }
 }
 
@@ -41,8 +37,8 @@ fn find(node: Node, places: &PlaceTable) -> u64
     requires { node.kind ≤ 3 }
     ensures { result ≡ get_or places.now (place_of node.kind node.number) 0 }
 {
-    let half = wide(node.kind) / 2;
-    places[half * 64 + wide(node.number) % 64]
+    let half = node.kind as usize / 2;
+    places[half * 64 + node.number as usize % 64]
 }
 
 // The masks of all nodes, given those of the constructs.
@@ -58,10 +54,7 @@ pub fn lay_out(
 {
     let mut places = [0u64; PLACES];
     fill_places(s, chart, chains, inside, &mut places);
-    let n = chart.nodes;
-    let mut x = 0;
-    while x < n {
+    for x in 0..chart.nodes {
         masks[x] = find(Node::read(s, chart, x), &places);
-        x += 1;
     }
 }

@@ -11,65 +11,50 @@ ghost use Rattle.mark_tables.specs.Tables.{Accepted};
 ghost use Rattle.output.specs.Output.{output_rows, written_by};
 ghost use Rattle.answer_constructs.specs.Chains.{is_over};
 ghost use Rattle.answer_constructs.specs.Marks.{Sized};
+ghost use Rattle.chart.specs.declared.format.Refusal.TheVariants.{BadSize};
 
 use crate::kinds::{KindTable, Sets};
-use crate::peers::add_if;
+use crate::passing::passing;
 use chart::format::{Chart, Construct, Refusal};
-use output::{Written, room_for};
+use output::room_for;
 use theory_answers::Size;
 
 // Row 21.
+#[tactic(auto, unfolding(chart::specs::Refusal::first_of, theory_answers::specs::Size::size_row))]
 pub fn bad_size(size: Size) -> bool
-    ensures { first_of (size_rows size) ≡ cond result (some 21) none }
+    ensures { first_of (size_rows size) ≡ cond result (some BadSize) none }
 {
     match size {
         Size::Any => false,
-        Size::Of(threads) => {
-            if threads < Size::LEAST {
-                return true;
-            }
-            threads > Size::MOST
-        }
+        Size::Of(threads) => { threads < Size::LEAST || threads > Size::MOST }
     }
 }
 
 // Rows 11 and 21, for a result of so many bytes.
-pub fn room_sized(bytes: usize, room: usize, size: Size) -> Written
+pub fn room_sized(bytes: usize, room: usize, size: Size) -> Result<usize, Refusal>
     ensures { result ≡ written_by (output_rows [] room bytes (size_rows size)) bytes }
 {
-    match room_for(bytes, room) {
-        Written::Refused(refusal) => Written::Refused(refusal),
-        Written::Bytes(count) => {
-            if bad_size(size) {
-                return Written::Refused(Refusal::SIZE);
-            }
-            Written::Bytes(count)
-        }
+    let count = room_for(bytes, room)?;
+    if bad_size(size) {
+        return Err(Refusal::BadSize);
     }
+    Ok(count)
 }
 
 // Whether a construct is a master for a thread that a team of so many lacks.
 fn over(construct: Construct, threads: usize) -> bool
     ensures { result ≡ (eqb construct.kind master_byte && leb threads construct.filter) }
 {
-    if construct.kind != Construct::MASTER {
-        return false;
-    }
-    construct.filter >= threads
+    construct.kind == Construct::MASTER && construct.filter >= threads
 }
 
 fn missing_of(s: &[u8], chart: Chart, threads: usize) -> u64
     requires { Laid s.now chart }
     ensures { result ≡ mask_of (is_over (decode s.now).constructs threads) chart.constructs }
 {
-    let n = chart.constructs;
-    let mut mask = 0;
-    let mut c = 0;
-    while c < n {
-        mask = add_if(over(Construct::read(s, chart, c), threads), c, mask);
-        c += 1;
-    }
-    mask
+    passing(chart.constructs, |c, _| {
+        over(Construct::read(s, chart, c), threads)
+    })
 }
 
 // What the rules read of teams of this size, given the constructs of their kinds.

@@ -21,8 +21,9 @@ use Rattle.theory_answers.specs.declared.Size.{Size}
 use Rattle.theory_calls.specs.Locks.{is_critical, in_named, some_pair, needed, ever_needed, lock_byte}
 use Rattle.theory_calls.proofs.LocksLaws.{critical-of}
 use Rattle.mark_tables.specs.Tables.{Closed}
-use Rattle.answer_constructs.specs.Marks.{Sized, held_in, Marks}
+use Rattle.answer_constructs.specs.Marks.{Sized, Marks}
 use Rattle.answer_constructs.specs.declared.kinds.Sets.{Sets}
+use Rattle.answer_constructs.specs.declared.mask_table.MaskTable.{MaskTable}
 use Rattle.answer_pairs.specs.Rules.{profile_at}
 use Rattle.answer_names.specs.Names.{Names, InCriticals}
 use Rattle.answer_met.specs.Meets.{unbarred, meets}
@@ -37,8 +38,8 @@ use Rattle.answer_locks.proofs.Sized.{lacks, answer-fitting, barred-fitting, lac
 abbrev pub InsideAsked : Region → Type 0
 InsideAsked R = (x c : ℕ) → R.inside x c ≡ true → asked R x ≡ true
 
-module _ {R : Region} {marks : List (List ℕ)} {kinds : List ℕ} {sets : Sets} (M : Marks R marks kinds) (size : Size) (Z : Sized R size sets) {closed shut : List ℕ} (C : Closed R closed)
-    (F : Fitting R.nodes sets (held_in marks) closed shut) where
+module _ {R : Region} {marks : MaskTable} {kinds : List ℕ} {sets : Sets} (M : Marks R marks kinds) (size : Size) (Z : Sized R size sets) {closed shut : List ℕ} (C : Closed R closed)
+    (F : Fitting R.nodes sets marks.held closed shut) where
   -- a node is open where a claim may name it and the team can have it
   shut_at : (x : ℕ) → x < R.nodes → eqb (get_or shut x 0) 0 ≡ (asked R x && not (lacks R size x))
   shut_at x l = F.at x l ∙ rw (C.at x l, ← lacks-held sets M size Z x l) (ap (λ (b : Bool). b && not (lacks R size x)) (flag (asked R x)))

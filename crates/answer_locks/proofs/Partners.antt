@@ -18,7 +18,8 @@ use Rattle.masks.specs.declared.unions.Words.{Words}
 use Rattle.answer_nodes.specs.Gathered.{having}
 use Rattle.answer_nodes.specs.Shared.{common-of}
 use Rattle.answer_nodes.proofs.Joining.{three-words}
-use Rattle.answer_met.specs.Meets.{SetFrom, NodeSet, Named}
+use Rattle.answer_met.specs.Meets.{SetFrom, NodeSet}
+use Rattle.answer_nodes.specs.NodeSets.{ByBit}
 use Rattle.answer_locks.specs.Search.{has_named, partner}
 
 module _ (closed names : List ℕ) (test : ℕ → Bool) (c : ℕ) where
@@ -44,7 +45,7 @@ module _ (closed names : List ℕ) (test : ℕ → Bool) (c : ℕ) where
         (common-of set bits).1 (j, (eqb-true _ 1 (S j l ∙ both-and _ _ o t), rw q ((mask-of (having closed names first c) 64).all j l n))),
   )
 
-  pub partner-by : {set : Words} {named : List (List ℕ)} → c < 64 → NodeSet closed test set → Named closed names named → has_named set named c ≡ partner closed names test c
+  pub partner-by : {set : Words} {named : List (List ℕ)} → c < 64 → NodeSet closed test set → ByBit closed names named → has_named set named c ≡ partner closed names test c
   unfolding has_named partner
   partner-by {set} {named} l S N = same_truth _ _
       (λ h. elim (or_cases one (two || three) h) [

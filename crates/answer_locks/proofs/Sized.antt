@@ -13,8 +13,9 @@ use Rattle.theory_answers.specs.Answer.{answer, lacks_thread, answer_in, answer_
 use Rattle.theory_answers.specs.declared.Size.{Size}
 use Rattle.theory_answers.specs.declared.Size.TheVariants.{Any, Of}
 use Rattle.theory_exact.specs.Barred.{is_barred, is_barred_in, is_barred_for}
-use Rattle.answer_constructs.specs.Marks.{Sized, held_in, Marks}
+use Rattle.answer_constructs.specs.Marks.{Sized, Marks}
 use Rattle.answer_constructs.specs.declared.kinds.Sets.{Sets}
+use Rattle.answer_constructs.specs.declared.mask_table.MaskTable.{MaskTable}
 use Rattle.answer_pairs.specs.Rules.{lacks-by, lacks-none}
 use Rattle.answer_locks.specs.Fitting.{lacking}
 
@@ -47,16 +48,16 @@ barred-fitting R (Of m) a b = go (leb m 1) (lacks_thread R m a) (lacks_thread R 
     go false false false = refl
 
 -- read off what the node holds
-pub lacks-held : {R : Region} {marks : List (List ℕ)} {kinds : List ℕ} (sets : Sets) → Marks R marks kinds → (size : Size) → Sized R size sets → (x : ℕ) → x < R.nodes
-    → lacks R size x ≡ lacking sets (get_or (held_in marks) x 0)
+pub lacks-held : {R : Region} {marks : MaskTable} {kinds : List ℕ} (sets : Sets) → Marks R marks kinds → (size : Size) → Sized R size sets → (x : ℕ) → x < R.nodes
+    → lacks R size x ≡ lacking sets (get_or marks.held x 0)
 unfolding lacking
-lacks-held {marks = marks} sets M Any Z x l = sym (rw (Z.0, lacks-none (get_or (held_in marks) x 0) Z.1))
+lacks-held {marks = marks} sets M Any Z x l = sym (rw (Z.0, lacks-none (get_or marks.held x 0) Z.1))
 lacks-held {R} {marks} sets M (Of m) Z x l = rw (Z.0, one) refl
   where
     twice : (b : Bool) → (b || b) ≡ b
     twice true = refl
     twice false = refl
 
-    one : lacks_thread R m x ≡ common (get_or (held_in marks) x 0) sets.missing
+    one : lacks_thread R m x ≡ common (get_or marks.held x 0) sets.missing
     one = sym (twice (lacks_thread R m x)) ∙ lacks-by M.well-formed m x x (M.has-held x l) (M.has-held x l) Z.1
-        ∙ ap (λ (h : ℕ). common h sets.missing) (or_self (get_or (held_in marks) x 0))
+        ∙ ap (λ (h : ℕ). common h sets.missing) (or_self (get_or marks.held x 0))

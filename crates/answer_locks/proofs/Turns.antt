@@ -17,10 +17,12 @@ use Rattle.answer_nodes.proofs.BitTests.{has-or}
 use Rattle.answer_pairs.specs.Rules.{profile_at}
 use Rattle.answer_pairs.specs.declared.rules.Profile.{Profile}
 use Rattle.masks.specs.declared.unions.Words.{Words}
-use Rattle.answer_met.specs.Meets.{unbarred, meets, NodeSet, Named}
+use Rattle.answer_met.specs.Meets.{unbarred, meets, NodeSet}
+use Rattle.answer_nodes.specs.NodeSets.{ByBit}
 use Rattle.answer_locks.specs.Search.{has_named, partner, pairs, some_pair, Skips, shut, bare, again, Covers, Kept, Adds, Tries, Searched}
 use Rattle.answer_locks.specs.declared.needed.Tried.{Tried}
 use Rattle.answer_locks.proofs.Partners.{partner-by, partner-more}
+use Rattle.answer_constructs.specs.declared.mask_table.MaskTable.{MaskTable}
 
 absorbed : (a p : Bool) → (p ≡ true → a ≡ true) → a ≡ (a || p)
 absorbed true p f = refl
@@ -50,11 +52,11 @@ module _ (closed names : List ℕ) where
     adds-covers : (old new : ℕ) → Adds closed names test flag around old new → Covers closed names test around new
     adds-covers old new A c l h = A c l ∙ or_right (has old c) _ (rw (eq-eqb flag 0 o) h)
 
-met-unbarred : (own : Profile) (marks : List (List ℕ)) (y : ℕ) → meets own marks y ≡ true → unbarred own marks y ≡ true
+met-unbarred : (own : Profile) (marks : MaskTable) (y : ℕ) → meets own marks y ≡ true → unbarred own marks y ≡ true
 unfolding meets
 met-unbarred own marks y h = (and_both (unbarred own marks y) _ h).0
 
-module _ {closed : List ℕ} {marks : List (List ℕ)} {names : List ℕ} where
+module _ {closed : List ℕ} {marks : MaskTable} {names : List ℕ} where
   pub skip-tries : {flag : ℕ} {own : Profile} {around : ℕ} {last : Tried} → Skips flag own around last → Kept closed marks names last
       → Tries closed marks names flag own around last last
   skip-tries {last = last} k K = record {
@@ -63,7 +65,7 @@ module _ {closed : List ℕ} {marks : List (List ℕ)} {names : List ℕ} where
     kept = K;
   }
 
-  module _ {named : List (List ℕ)} (N : Named closed names named) {flag : ℕ} (o : flag ≡ 0) (own : Profile) (around : ℕ) (last : Tried) where
+  module _ {named : List (List ℕ)} (N : ByBit closed names named) {flag : ℕ} (o : flag ≡ 0) (own : Profile) (around : ℕ) (last : Tried) where
     pub new-tries : {set met : Words} (ever needed : ℕ) → NodeSet closed (unbarred own marks) set → NodeSet closed (meets own marks) met
         → ((c : ℕ) → has ever c ≡ (has around c && has_named set named c)) → ((c : ℕ) → has needed c ≡ (has ever c && has_named met named c))
         → Tries closed marks names flag own around last (record { own = own; around = around; ever = bit_or last.ever ever; needed = bit_or last.needed needed })

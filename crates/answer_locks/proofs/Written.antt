@@ -31,10 +31,11 @@ use Rattle.theory_calls.specs.Locks.{is_critical, lock_byte, locks_result}
 use Rattle.theory_calls.proofs.LocksLaws.{critical-of}
 use Rattle.mark_tables.specs.Tables.{Accepted, Closed}
 use Rattle.mark_tables.proofs.Accepted.{tables}
-use Rattle.answer_constructs.specs.Marks.{Sized, held_in, Marks}
+use Rattle.answer_constructs.specs.Marks.{Sized, Marks}
 use Rattle.answer_constructs.specs.declared.kinds.Sets.{Sets}
 use Rattle.answer_constructs.proofs.Constructs.{no-bit}
 use Rattle.answer_constructs.proofs.Facts.{few, is_read}
+use Rattle.answer_constructs.specs.declared.mask_table.MaskTable.{MaskTable}
 use Rattle.answer_names.specs.Names.{Given, Spread, Criticals, InCriticals}
 use Rattle.answer_names.proofs.Peers.{critical-byte, spread-names}
 use Rattle.answer_locks.specs.Fitting.{Fitting}
@@ -73,8 +74,8 @@ module _ (s : List ℕ) (chart : Chart) (A : Accepted s chart) where
       other : (c : ℕ) → c < R.constructs → lock_byte R size c ≡ byte_by 0 0 0 c
       other c l = rw (critical-bit (no-bit (λ d m h. no-critical d m h.1)) c l, ne_eqb _ 1 (has-none c))
 
-  module _ {marks : List (List ℕ)} {kinds : List ℕ} {sets : Sets} (M : Marks R marks kinds) (size : Size) (Z : Sized R size sets) {closed shut : List ℕ} (C : Closed R closed)
-      (F : Fitting chart.nodes sets (held_in marks) closed shut) {given names around : List ℕ} (G : Given R (Counts (decode s) chart.region) given)
+  module _ {marks : MaskTable} {kinds : List ℕ} {sets : Sets} (M : Marks R marks kinds) (size : Size) (Z : Sized R size sets) {closed shut : List ℕ} (C : Closed R closed)
+      (F : Fitting chart.nodes sets marks.held closed shut) {given names around : List ℕ} (G : Given R (Counts (decode s) chart.region) given)
       (T : Spread R (lies (decode s)) given (replicate 192 0) names) (I : InCriticals R around) {found : Tried} (S : Searched shut marks names around chart.nodes found) where
     inside-asked : InsideAsked R
     inside-asked x c i = node-asked R x (inside-kept (decode s) (tables s chart A) chart.region x c i, inside-open M.well-formed i)
@@ -83,6 +84,6 @@ module _ (s : List ℕ) (chart : Chart) (A : Accepted s chart) where
         → Put criticals found.ever found.needed chart.constructs old new → new ≡ locks_result R size ++ drop (length (locks_result R size)) old
     locks-put {criticals} K =
         let q = nodes-length s chart A.laid in
-        let fits = subst (λ (n : ℕ). Fitting n sets (held_in marks) closed shut) (sym q) F in
+        let fits = subst (λ (n : ℕ). Fitting n sets marks.held closed shut) (sym q) F in
         let searched = subst (λ (n : ℕ). Searched shut marks names around n found) (sym q) S in
         front-put size (byte-by M size Z C fits names inside-asked (spread-names s chart A G T) (λ y b. T.past y b ∙ zeros 192 y) I searched criticals (critical-bit K) (few s chart A))

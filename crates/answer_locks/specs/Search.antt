@@ -9,6 +9,7 @@ use Rattle.answer_pairs.specs.Rules.{profile_at}
 use Rattle.answer_pairs.specs.declared.rules.Profile.{Profile}
 use Rattle.answer_met.specs.Meets.{unbarred, meets}
 use Rattle.answer_locks.specs.declared.needed.Tried.{Tried}
+use Rattle.answer_constructs.specs.declared.mask_table.MaskTable.{MaskTable}
 
 -- A node of the set has bit c of the names.
 unfoldable pub has_named : Words → List (List ℕ) → ℕ → Bool
@@ -38,7 +39,7 @@ abbrev pub Covers : List ℕ → List ℕ → (ℕ → Bool) → ℕ → ℕ →
 Covers closed names test around mask = (c : ℕ) → c < 64 → (has around c && partner closed names test c) ≡ true → has mask c ≡ true
 
 -- Both masks have what the last node adds.
-pub record Kept (closed : List ℕ) (marks : List (List ℕ)) (names : List ℕ) (t : Tried) : Type 0 where
+pub record Kept (closed : List ℕ) (marks : MaskTable) (names : List ℕ) (t : Tried) : Type 0 where
   pub ever : Covers closed names (unbarred t.own marks) t.around t.ever
   pub needed : Covers closed names (meets t.own marks) t.around t.needed
 
@@ -47,13 +48,13 @@ abbrev pub Adds : List ℕ → List ℕ → (ℕ → Bool) → ℕ → ℕ → �
 Adds closed names test flag around old new = (c : ℕ) → c < 64 → has new c ≡ (has old c || pairs closed names test flag around c)
 
 -- One node more.
-pub record Tries (closed : List ℕ) (marks : List (List ℕ)) (names : List ℕ) (flag : ℕ) (own : Profile) (around : ℕ) (last r : Tried) : Type 0 where
+pub record Tries (closed : List ℕ) (marks : MaskTable) (names : List ℕ) (flag : ℕ) (own : Profile) (around : ℕ) (last r : Tried) : Type 0 where
   pub ever : Adds closed names (unbarred own marks) flag around last.ever r.ever
   pub needed : Adds closed names (meets own marks) flag around last.needed r.needed
   pub kept : Kept closed marks names r
 
 -- The first n nodes.
-pub record Searched (closed : List ℕ) (marks : List (List ℕ)) (names around : List ℕ) (n : ℕ) (t : Tried) : Type 0 where
+pub record Searched (closed : List ℕ) (marks : MaskTable) (names around : List ℕ) (n : ℕ) (t : Tried) : Type 0 where
   pub ever : (c : ℕ) → c < 64 → has t.ever c ≡ some_pair closed names around (λ x. unbarred (profile_at marks x) marks) n c
   pub needed : (c : ℕ) → c < 64 → has t.needed c ≡ some_pair closed names around (λ x. meets (profile_at marks x) marks) n c
   pub kept : Kept closed marks names t

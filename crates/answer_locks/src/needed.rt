@@ -1,43 +1,38 @@
 // The criticals that some pair of nodes needs: one inside the critical, and one inside a critical of its name that it may meet.
 ghost use Rattle.std.specs.Prelude.{◌≡◌, true, false, ◌&&◌, List, ℕ, ◌≤◌, ◌<◌};
 ghost use Rattle.lists.specs.Bits.{has};
-ghost use Rattle.answer_nodes.specs.NodeSets.{InSets};
-ghost use Rattle.answer_met.specs.Meets.{Named};
+ghost use Rattle.answer_nodes.specs.NodeSets.{ByBit, InSets};
 ghost use Rattle.answer_locks.specs.Search.{has_named, Skips, Kept, Tries, Searched};
 
 use answer_constructs::mask_table::MaskTable;
-use answer_constructs::peers::add_if;
-use answer_met::{NameSets, met_nodes, unbarred_nodes};
-use answer_nodes::NodeSets;
-use answer_pairs::rules::{Profile, profile_of, same};
+use answer_met::{met_nodes, unbarred_nodes};
+use answer_nodes::{BitSets, NodeSets};
+use answer_pairs::rules::{Profile, profile_of};
 use chart::format::Chart;
-use masks::bits::{common, lowest};
+use masks::bits::{bit, common, lowest};
 use masks::unions::Words;
 
 // Whether a node of the set has bit c of the names.
-fn has_named(set: Words, c: usize, named: &NameSets) -> bool
+#[tactic(auto, unfolding(crate::specs::Search::has_named))]
+fn has_named(set: Words, c: usize, named: &BitSets) -> bool
     requires { c < 64 }
     ensures { result ≡ has_named set named.now c }
 {
-    if common(set.low, named[0][c]) {
-        return true;
-    }
-    if common(set.middle, named[1][c]) {
-        return true;
-    }
-    common(set.high, named[2][c])
+    common(set.low, named[0][c]) || common(set.middle, named[1][c]) || common(set.high, named[2][c])
 }
 
 // The bits of the mask that some node of the set has, lowest first.
-fn needing(mask: u64, set: Words, named: &NameSets) -> u64
+fn needing(mask: u64, set: Words, named: &BitSets) -> u64
     ensures { (c : ℕ) → has result c ≡ (has mask c && has_named set named.now c) }
 {
     let mut found = 0;
     let mut rest = mask;
     while rest != 0 {
         let c = lowest(rest);
-        found = add_if(has_named(set, c, named), c, found);
-        rest = rest & (rest - 1);
+        if has_named(set, c, named) {
+            found |= bit(c);
+        }
+        rest &= rest - 1;
     }
     found
 }
@@ -55,17 +50,7 @@ pub struct Tried {
 fn skips(own: Profile, closed: u8, around: u64, last: Tried) -> bool
     ensures { (result ≡ true → Skips closed own around last) × (result ≡ false → closed ≡ 0) }
 {
-    if closed != 0 {
-        return true;
-    }
-    if around == 0 {
-        return true;
-    }
-    if around != last.around {
-        return false;
-    }
-    let known = last.own;
-    same(own, known)
+    closed != 0 || around == 0 || around == last.around && own == last.own
 }
 
 // One node more, with these masks and these criticals around it.
@@ -75,9 +60,9 @@ fn try_node(
     around: u64,
     last: Tried,
     nodes: &NodeSets,
-    named: &NameSets,
+    named: &BitSets,
 ) -> Tried
-    ensures { (shut : List ℕ) (marks : List (List ℕ)) (names : List ℕ) → InSets shut marks nodes.now → Named shut names named.now
+    ensures { (shut : List ℕ) (marks : MaskTable) (names : List ℕ) → InSets shut marks nodes.now → ByBit shut names named.now
         → Kept shut marks names last → Tries shut marks names closed own around last result }
 {
     if skips(own, closed, around, last) {
@@ -101,10 +86,10 @@ pub fn search(
     around: &[u64; Chart::NODES],
     closed: &[u8; Chart::NODES],
     nodes: &NodeSets,
-    named: &NameSets,
+    named: &BitSets,
 ) -> Tried
     requires { (n ≤ 192) × InSets closed.now marks.now nodes.now }
-    ensures { (names : List ℕ) → Named closed.now names named.now
+    ensures { (names : List ℕ) → ByBit closed.now names named.now
         → Searched closed.now marks.now names around.now n result }
 {
     let mut tried = Tried {
@@ -113,8 +98,7 @@ pub fn search(
         ever: 0,
         needed: 0,
     };
-    let mut x = 0;
-    while x < n {
+    for x in 0..n {
         tried = try_node(
             profile_of(x, marks),
             closed[x],
@@ -123,7 +107,6 @@ pub fn search(
             nodes,
             named,
         );
-        x += 1;
     }
     tried
 }

@@ -6,7 +6,8 @@ use Rattle.chart.specs.Checked.{reading}
 use Rattle.chart.specs.declared.format.Chart.{Chart}
 use Rattle.mark_tables.specs.Tables.{Accepted}
 use Rattle.answer_constructs.specs.Marks.{Marks}
+use Rattle.answer_constructs.specs.declared.mask_table.MaskTable.{MaskTable}
 
-pub record Survey (s : List ℕ) (chart : Chart) (marks : List (List ℕ)) (kinds : List ℕ) : Type 0 where
+pub record Survey (s : List ℕ) (chart : Chart) (marks : MaskTable) : Type 0 where
   pub accepted : Accepted s chart
-  pub marked : Marks (reading s chart) marks kinds
+  pub marked : Marks (reading s chart) marks marks.kinds

@@ -1,20 +1,18 @@
 // The entrance of the calls that answer pairs: rows 1 to 10 and 23 of the refusals, and everything that the answers of a region are read off.
 #![tactic(auto)]
 
-ghost use Rattle.std.specs.Prelude.{◌≡◌, ◌≢◌, replicate};
+ghost use Rattle.std.specs.Prelude.{◌≡◌, ◌≢◌};
 ghost use Rattle.chart.specs.Format.{outside, decode};
 ghost use Rattle.chart.specs.Refusal.{first_of};
 ghost use Rattle.chart.specs.Checked.{counts_of, read_for, checked_by, checked};
-ghost use Rattle.chart.specs.declared.format.Checked.TheVariants.{Passed};
 ghost use Rattle.check_nodes.specs.Framed.{BothFramed};
 ghost use Rattle.theory_paths.specs.Admission.{admit_rows, region_rows};
 ghost use Rattle.mark_tables.specs.Tables.{Accepted};
 ghost use Rattle.answer_masks.specs.Survey.{Survey};
 
 use answer_constructs::held::fill_held;
-use answer_constructs::kinds::KindTable;
-use answer_constructs::mask_table::{ENDS, HELD, MaskTable, ROWS, STARTS};
-use chart::format::{Chart, Checked, Construct, Frames, Refusal};
+use answer_constructs::mask_table::MaskTable;
+use chart::format::{Chart, Framing, Refusal};
 use check_chart::check::check;
 use mark::boundaries::conclude;
 use mark::returns::{add_ends, asked, returns};
@@ -29,15 +27,13 @@ use search::search::boundaries;
 fn survey_region(
     s: &[u8],
     chart: Chart,
-    begin_nodes: &Frames,
-    end_nodes: &Frames,
+    framing: &Framing,
     marks: &mut MaskTable,
-    kinds: &mut KindTable,
-) -> Checked
-    requires accepted { Accepted s.now chart × (chart.region ≡ outside → checked s.now ≡ Passed chart) × (marks.old ≡ replicate 3 (replicate 192 0)) }
-    requires both_framed { BothFramed (decode s.now) begin_nodes.now end_nodes.now }
-    ensures value { (chart.region ≡ outside → result ≡ checked_by (first_of (admit_rows s.now)) (counts_of s.now)) × (chart.region ≢ outside → result ≡ Passed chart) }
-    ensures survey { (chart : Chart) → result ≡ Passed chart → Survey s.now chart marks.new kinds.new }
+) -> Result<Chart, Refusal>
+    requires accepted { Accepted s.now chart × (chart.region ≡ outside → checked s.now ≡ Ok chart) × (marks.old ≡ MaskTable.NONE) }
+    requires both_framed { BothFramed (decode s.now) framing.now.begins framing.now.ends }
+    ensures value { (chart.region ≡ outside → result ≡ checked_by (first_of (admit_rows s.now)) (counts_of s.now)) × (chart.region ≢ outside → result ≡ Ok chart) }
+    ensures survey { (chart : Chart) → result ≡ Ok chart → Survey s.now chart marks.new }
 {
     let mut edges = [[0u8; Chart::EDGES]; Parts::ROWS];
     let mut places = [0usize; Chart::PLACES];
@@ -47,33 +43,30 @@ fn survey_region(
     let loaded = load_tables(s, chart, &mut edges, &mut places, &mut stops, &mut nodes);
     let barriers = loaded.barriers;
     let parts = loaded.parts;
-    let n = asked(s, chart, begin_nodes, end_nodes, parts);
-    let total = add_ends(end_nodes, n, barriers, &mut nodes);
+    let n = asked(s, chart, framing, parts);
+    let total = add_ends(&framing.ends, n, barriers, &mut nodes);
     let extent = Extent {
         barriers,
         total,
         nodes: loaded.nodes,
         parts,
     };
-    let mut ends = [0u64; Chart::NODES];
-    let starts = &mut marks[STARTS];
     boundaries(
         &edges,
         &places,
         extent,
         &nodes,
-        starts,
+        &mut marks.starts,
         &mut levels,
-        &mut ends,
+        &mut marks.ends,
     );
-    let returning = returns(begin_nodes, end_nodes, n, &edges, &places, extent, starts);
-    let lost = conclude(&edges, &nodes, extent, starts, &ends);
-    marks[ENDS] = ends;
+    let returning = returns(framing, n, &edges, &places, extent, &mut marks.starts);
+    let lost = conclude(&edges, &nodes, extent, &mut marks.starts, &marks.ends);
     if refuses(chart, lost) {
-        return Checked::Refused(Refusal::PATHS);
+        return Err(Refusal::BadPaths);
     }
-    *kinds = fill_held(s, chart, returning, &mut marks[HELD]);
-    Checked::Passed(chart)
+    marks.kinds = fill_held(s, chart, returning, &mut marks.held);
+    Ok(chart)
 }
 
 // Rows 10 and 23, and all masks of all nodes of a parallel's region, of a chart that rows 1 to 9 let pass. The outermost region is marked
@@ -82,44 +75,33 @@ fn survey_inner(
     s: &[u8],
     chart: Chart,
     region: usize,
-    begin_nodes: &Frames,
-    end_nodes: &Frames,
+    framing: &Framing,
     marks: &mut MaskTable,
-    kinds: &mut KindTable,
-) -> Checked
-    requires s_value { (checked s.now ≡ Passed chart) × (region ≢ outside) × (marks.old ≡ replicate 3 (replicate 192 0)) }
-    requires both_framed { BothFramed (decode s.now) begin_nodes.now end_nodes.now }
+) -> Result<Chart, Refusal>
+    requires s_value { (checked s.now ≡ Ok chart) × (region ≢ outside) × (marks.old ≡ MaskTable.NONE) }
+    requires both_framed { BothFramed (decode s.now) framing.now.begins framing.now.ends }
     ensures value { result ≡ checked_by (first_of (region_rows s.now region)) (read_for (counts_of s.now) region) }
-    ensures survey { (chart : Chart) → result ≡ Passed chart → Survey s.now chart marks.new kinds.new }
+    ensures survey { (chart : Chart) → result ≡ Ok chart → Survey s.now chart marks.new }
 {
-    match survey_region(s, chart, begin_nodes, end_nodes, marks, kinds) {
-        Checked::Refused(refusal) => Checked::Refused(refusal),
-        Checked::Passed(whole) => {
-            if bad_region(s, whole, region) {
-                return Checked::Refused(Refusal::REGION);
-            }
-            let inner = whole.read_for(region);
-            *marks = [[0u64; Chart::NODES]; ROWS];
-            survey_region(s, inner, begin_nodes, end_nodes, marks, kinds)
-        }
+    let whole = survey_region(s, chart, framing, marks)?;
+    if bad_region(s, whole, region) {
+        return Err(Refusal::NoRegion);
     }
+    let inner = whole.read_for(region);
+    *marks = MaskTable::NONE;
+    survey_region(s, inner, framing, marks)
 }
 
-// The first of rows 1 to 10 and 23 that applies, or all masks of all nodes of the region, which are 0 before, and the constructs of each rule's kind.
-pub fn survey(s: &[u8], region: usize, marks: &mut MaskTable, kinds: &mut KindTable) -> Checked
-    requires { marks.old ≡ replicate 3 (replicate 192 0) }
+// The first of rows 1 to 10 and 23 that applies, or all masks of the region, which are 0 before.
+pub fn survey(s: &[u8], region: usize, marks: &mut MaskTable) -> Result<Chart, Refusal>
+    requires { marks.old ≡ MaskTable.NONE }
     ensures value { result ≡ checked_by (first_of (region_rows s.now region)) (read_for (counts_of s.now) region) }
-    ensures survey { (chart : Chart) → result ≡ Passed chart → Survey s.now chart marks.new kinds.new }
+    ensures survey { (chart : Chart) → result ≡ Ok chart → Survey s.now chart marks.new }
 {
-    let mut begin_nodes = [0u8; Construct::FRAMES];
-    let mut end_nodes = [0u8; Construct::FRAMES];
-    match check(s, &mut begin_nodes, &mut end_nodes) {
-        Checked::Refused(refusal) => Checked::Refused(refusal),
-        Checked::Passed(chart) => {
-            if region == Chart::OUTERMOST {
-                return survey_region(s, chart, &begin_nodes, &end_nodes, marks, kinds);
-            }
-            survey_inner(s, chart, region, &begin_nodes, &end_nodes, marks, kinds)
-        }
+    let mut framing = Framing::NONE;
+    let chart = check(s, &mut framing)?;
+    if region == Chart::OUTERMOST {
+        return survey_region(s, chart, &framing, marks);
     }
+    survey_inner(s, chart, region, &framing, marks)
 }

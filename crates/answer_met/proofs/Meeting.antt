@@ -15,16 +15,17 @@ use Rattle.chart.specs.Region.{Kind, single, master, critical, loop, ordered, se
 use Rattle.theory_answers.specs.Answer.{no_common, both_in_masters, both_in_single, both_in_ordereds, both_in_section, answer}
 use Rattle.theory_exact.specs.Barred.{is_barred}
 use Rattle.theory_paths.specs.Phases.{forward}
-use Rattle.answer_constructs.specs.Marks.{Holds, rule_kind, starts_in, ends_in, held_in, Marks}
+use Rattle.answer_constructs.specs.Marks.{Holds, rule_kind, Marks}
+use Rattle.answer_constructs.specs.declared.mask_table.MaskTable.{MaskTable}
 use Rattle.answer_pairs.specs.Rules.{profile_at, numbered, by_rules, rule_by, ruled_by, rule_of, apart_by, rule-by, ruled-by}
 use Rattle.answer_met.specs.Meets.{unbarred, meets}
 
-module _ {R : Region} {marks : List (List ℕ)} {kinds : List ℕ} (M : Marks R marks kinds) (a b : ℕ) (la : a < R.nodes) (lb : b < R.nodes) where
+module _ {R : Region} {marks : MaskTable} {kinds : List ℕ} (M : Marks R marks kinds) (a b : ℕ) (la : a < R.nodes) (lb : b < R.nodes) where
   -- a rule from rule 2 on, by what both hold
   abbrev rule : ℕ → Bool
-  rule = rule_by kinds (get_or (held_in marks) a 0) (get_or (held_in marks) b 0)
+  rule = rule_by kinds (get_or marks.held a 0) (get_or marks.held b 0)
 
-  met-rule : (k : ℕ) → k < 4 → rule k ≡ true → common (get_or (held_in marks) a 0) (get_or (held_in marks) b 0) ≡ true
+  met-rule : (k : ℕ) → k < 4 → rule k ≡ true → common (get_or marks.held a 0) (get_or marks.held b 0) ≡ true
   met-rule k l h =
       let v = M.has-held a la in
       let w = M.has-held b lb in
@@ -44,7 +45,7 @@ module _ {R : Region} {marks : List (List ℕ)} {kinds : List ℕ} (M : Marks R 
   by_kind d l sections q x y = absurd (subst (Holds R a d) q x)
   by_kind d l parallel q x y = absurd (subst (Holds R a d) q x)
 
-  held_by : any 4 rule ≡ common (get_or (held_in marks) a 0) (get_or (held_in marks) b 0)
+  held_by : any 4 rule ≡ common (get_or marks.held a 0) (get_or marks.held b 0)
   held_by = same_truth _ _
       (λ h. let (k, l, p) = any_at 4 rule h in met-rule k l p)
       (λ h. let (d, (l, (x, y))) = (common-test (M.has-held a la) (M.has-held b lb)).0 h in by_kind d l (R.kind d) refl x y)
@@ -52,7 +53,7 @@ module _ {R : Region} {marks : List (List ℕ)} {kinds : List ℕ} (M : Marks R 
   pub met_by : eqb (answer R a b) 0 ≡ meets (profile_at marks a) marks b
   unfolding meets unbarred ruled_by by_rules numbered profile_at
   met_by = rw (ruled-by M a b la lb, ← held_by) (go
-      (common (get_or (starts_in marks) a 0) (get_or (starts_in marks) b 0)) (common (get_or (ends_in marks) a 0) (get_or (ends_in marks) b 0)) (any 4 rule) (first 4 rule))
+      (common (get_or marks.starts a 0) (get_or marks.starts b 0)) (common (get_or marks.ends a 0) (get_or marks.ends b 0)) (any 4 rule) (first 4 rule))
     where
       go : (s e r : Bool) (k : ℕ) → eqb (cond (not (s && e)) 1 (cond r (k + 2) 0)) 0 ≡ ((s && not r) && e)
       go false e r k = refl
@@ -75,7 +76,7 @@ module _ {R : Region} {marks : List (List ℕ)} {kinds : List ℕ} (M : Marks R 
         apart_by W a b forward,
         ← M.has-starts a (omega (arith, M.few)),
         ← M.has-starts b (omega (arith, M.few)),
-      ) (go (common (get_or (starts_in marks) a 0) (get_or (starts_in marks) b 0)) (common (get_or (held_in marks) a 0) (get_or (held_in marks) b 0)))
+      ) (go (common (get_or marks.starts a 0) (get_or marks.starts b 0)) (common (get_or marks.held a 0) (get_or marks.held b 0)))
     where
       in_row : (p m k d c : Bool) → (p || (m || (k || (d || c)))) ≡ (p || (((m || k) || d) || c))
       in_row true m k d c = refl

@@ -16,7 +16,8 @@ ghost use Rattle.answer_names.specs.Names.{GivesName, Given, Small, Chained, Spr
 
 use answer_constructs::chains::mask_at;
 use answer_constructs::members::members_of;
-use answer_constructs::peers::{add_if, noted_peers};
+use answer_constructs::passing::passing;
+use answer_constructs::peers::noted_peers;
 use answer_constructs::places::lay_out;
 use chart::format::{Chart, Construct};
 use masks::bits::{bit, has};
@@ -34,14 +35,11 @@ fn gives(s: &[u8], chart: Chart, c: usize, members: u64, known: &mut [u64; BITS]
         Mask (GivesName R (Counts (decode s.now) chart.region) c) R.constructs result }
     ensures known { Known (decode s.now).constructs known.new }
 {
-    if !has(members, c) {
-        return 0;
+    if has(members, c) && Construct::read(s, chart, c).kind == Construct::CRITICAL {
+        noted_peers(s, chart, c, known)
+    } else {
+        0
     }
-    let construct = Construct::read(s, chart, c);
-    if construct.kind != Construct::CRITICAL {
-        return 0;
-    }
-    noted_peers(s, chart, c, known)
 }
 
 // The same of every construct.
@@ -51,11 +49,8 @@ pub fn fill_given(s: &[u8], chart: Chart, given: &mut Table)
 {
     let members = members_of(s, chart);
     let mut known = [0u64; BITS];
-    let n = chart.constructs;
-    let mut c = 0;
-    while c < n {
+    for c in 0..chart.constructs {
         given[c] = gives(s, chart, c, members, &mut known);
-        c += 1;
     }
 }
 
@@ -64,12 +59,9 @@ fn fill_chains(s: &[u8], chart: Chart, given: &Table, chains: &mut Table)
     requires { Accepted s.now chart × Small (reading s.now chart) given.now × (length chains.old ≡ 48) }
     ensures { Chained (reading s.now chart) given.now chart.constructs chains.new }
 {
-    let n = chart.constructs;
-    let mut c = 0;
-    while c < n {
+    for c in 0..chart.constructs {
         let construct = Construct::read(s, chart, c);
         chains[c] = mask_at(chains, construct.parent) | given[c];
-        c += 1;
     }
 }
 
@@ -100,14 +92,10 @@ fn own_bits(n: usize, given: &Table, own: &mut Table) -> u64
     ensures value { result ≡ mask_of (λ c. has_bit (get_or given.now c 0) c) n }
     ensures own_bits { OwnBits n given.now own.new }
 {
-    let mut all = 0;
-    let mut c = 0;
-    while c < n {
+    for c in 0..n {
         own[c] = given[c] & bit(c);
-        all = add_if(has(given[c], c), c, all);
-        c += 1;
     }
-    all
+    passing(n, |c, _| has(given[c], c))
 }
 
 // The criticals of the region that each node is inside of. Returns all that there are: a critical of the region gives itself.

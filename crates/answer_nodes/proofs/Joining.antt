@@ -1,33 +1,21 @@
--- Sets of a row of masks joined, three words by one law, and rows that are stored one by one.
+-- The masks past the last node, three words by one law, and rows that are stored one by one.
 -- Assumes nothing.
 use mathlib.Core.Path.{◌≡◌, refl, subst}
 use mathlib.Core.List.{List, []}
-use Prim.Native.Nat.{ℕ, zero, suc, ◌+◌, ◌*◌, ◌-◌, ◌/◌, ◌%◌, ◌^◌, ◌<◌}
+use Prim.Native.Nat.{ℕ, zero, suc, ◌+◌, ◌*◌, ◌-◌, ◌<◌}
 use native.Mathlib.Omega.{arith}
 use native.Mathlib.Decide.{ℕ_discrete, dec_lt}
 use lib.ListN.{length, get_or, set, replicate}
 use lib.Seq.{get_or-set_same, get_or-set_other}
-use Rattle.masks.specs.Unions.{Joined}
-use Rattle.masks.specs.declared.unions.Words.{Words}
-use Rattle.answer_nodes.specs.Gathered.{Gathered}
-use Rattle.answer_nodes.specs.Shared.{shared}
-use Rattle.answer_nodes.specs.NodeSets.{InSets, Sharing}
+use Rattle.chart.specs.Region.{Region}
+use Rattle.answer_constructs.specs.declared.mask_table.MaskTable.{MaskTable}
+use Rattle.answer_constructs.specs.Marks.{Marks}
+use Rattle.answer_constructs.proofs.Past.{starts-past, ends-past, held-past}
+use Rattle.answer_nodes.specs.Gathered.{RowsPast}
 
--- the sets of a row of masks, joined
-pub sharing-by : (closed : List ℕ) (marks nodes : List (List ℕ)) (mask row : ℕ) (r : Words) → InSets closed marks nodes → row < 3 → mask < 2 ^ 64
-    → Joined mask (get_or nodes (3 * row) []) r.low → Joined mask (get_or nodes (3 * row + 1) []) r.middle → Joined mask (get_or nodes (3 * row + 2) []) r.high
-    → Sharing closed (get_or marks row []) mask r
-sharing-by closed marks nodes mask row r I l bound A B C = record {
-  low = shared (of 0 (3 * row) (omega arith) (omega arith)) A bound;
-  middle = shared (of 1 (3 * row + 1) (omega arith) (omega arith)) B bound;
-  high = shared (of 2 (3 * row + 2) (omega arith) (omega arith)) C bound;
-}
-  where
-    of : (w k : ℕ) → w < 3 → k ≡ 3 * row + w → Gathered closed (get_or marks row []) (64 * w) (get_or nodes k [])
-    of w k m q =
-        let in_row : k / 3 ≡ row = omega arith in
-        let in-word : k % 3 ≡ w = omega arith in
-        rw (in_row, in-word) at (I.sets k (omega arith))
+-- no row has a bit past the last node
+pub rows-past : {R : Region} {marks : MaskTable} {kinds : List ℕ} → Marks R marks kinds → {n : ℕ} → R.nodes ≡ n → RowsPast n marks
+rows-past M q = record { starts = starts-past M q; ends = ends-past M q; held = held-past M q }
 
 -- three times 64 entries
 pub three-words : (P : ℕ → Type 0) → ((j : ℕ) → j < 64 → P (64 * 0 + j)) → ((j : ℕ) → j < 64 → P (64 * 1 + j)) → ((j : ℕ) → j < 64 → P (64 * 2 + j))

@@ -4,6 +4,7 @@ use Rattle.std.specs.Prelude.{◌≡◌, Bool, ◌&&◌, cond, List, ℕ, ◌+�
 use Rattle.std.specs.Int.Bits.{bit_or}
 use Rattle.lists.specs.Mask.{mask_of}
 use Rattle.lists.specs.Bits.{has}
+use Rattle.answer_constructs.specs.declared.mask_table.MaskTable.{MaskTable}
 
 -- Node first + j is not closed, and its mask has bit b.
 abbrev pub having : List ℕ → List ℕ → ℕ → ℕ → ℕ → Bool
@@ -12,6 +13,12 @@ having closed masks first b j = eqb (get_or closed (first + j) 0) 0 && has (get_
 -- No mask has a bit from entry n on.
 abbrev pub Past : ℕ → List ℕ → Type 0
 Past n masks = (x : ℕ) → n ≤ x → x < 192 → get_or masks x 0 ≡ 0
+
+-- Nor has one of any kind.
+pub record RowsPast (n : ℕ) (marks : MaskTable) : Type 0 where
+  pub starts : Past n marks.starts
+  pub ends : Past n marks.ends
+  pub held : Past n marks.held
 
 -- For each bit the nodes from `first` on, 64 of them, that have it.
 pub record Gathered (closed masks : List ℕ) (first : ℕ) (sets : List ℕ) : Type 0 where

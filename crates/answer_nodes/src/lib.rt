@@ -2,9 +2,9 @@
 // and Locks are read off them.
 #![tactic(auto)]
 
-ghost use Rattle.std.specs.Prelude.{◌≡◌, List, [], ℕ, ◌<◌, get_or, replicate};
-ghost use Rattle.answer_nodes.specs.Gathered.{Past};
-ghost use Rattle.answer_nodes.specs.NodeSets.{InSets, Sharing};
+ghost use Rattle.std.specs.Prelude.{◌≡◌, List, ℕ, replicate};
+ghost use Rattle.answer_nodes.specs.Gathered.{Past, RowsPast};
+ghost use Rattle.answer_nodes.specs.NodeSets.{ByBit, InSets, Sharing};
 
 use crate::sets::gather;
 use answer_constructs::mask_table::MaskTable;
@@ -13,28 +13,58 @@ use masks::unions::{BITS, Words, join};
 
 pub mod sets;
 
-// For each row of the table of masks three sets by bit, of 64 nodes each.
-pub type NodeSets = [[u64; BITS]; SETS];
+// For each bit of a mask the nodes that have it, 64 nodes a word.
+pub type BitSets = [[u64; BITS]; THIRDS];
 
-pub const SETS: usize = 9;
+pub const THIRDS: usize = 3;
 
-// Set k is of row k / 3 of the masks and of the 64 nodes from 64 * (k % 3) on, of n nodes in all.
-pub fn gather_all(n: usize, marks: &MaskTable, closed: &[u8; Chart::NODES], nodes: &mut NodeSets)
-    requires { ((r : ℕ) → r < 3 → Past n (get_or marks.now r [])) × (nodes.old ≡ replicate 9 (replicate 64 0)) }
-    ensures { InSets closed.now marks.now nodes.new }
+// No node has any bit.
+pub const NO_SETS: BitSets = [[0; BITS]; THIRDS];
+
+// These sets of each kind of masks. They are large, so they are lent and not copied.
+#[derive(Drop)]
+pub struct NodeSets {
+    pub starts: BitSets,
+    pub ends: BitSets,
+    pub held: BitSets,
+}
+
+impl NodeSets {
+    pub const NONE: NodeSets = NodeSets {
+        starts: NO_SETS,
+        ends: NO_SETS,
+        held: NO_SETS,
+    };
+}
+
+// The sets of masks of n nodes, those of closed nodes left out.
+pub fn gather_sets(
+    n: usize,
+    masks: &[u64; Chart::NODES],
+    closed: &[u8; Chart::NODES],
+    sets: &mut BitSets,
+)
+    requires { Past n masks.now × (sets.old ≡ replicate 3 (replicate 64 0)) }
+    ensures { ByBit closed.now masks.now sets.new }
 {
-    let mut k = 0;
-    while k < SETS {
-        gather(&marks[k / 3], closed, 64 * (k % 3), n, &mut nodes[k]);
-        k += 1;
+    for w in 0..THIRDS {
+        gather(masks, closed, 64 * w, n, &mut sets[w]);
     }
 }
 
-// The nodes that are not closed and share a bit with the mask, in this row of the table of masks.
-pub fn sharing(mask: u64, row: usize, nodes: &NodeSets) -> Words
-    requires { row < 3 }
-    ensures { (closed : List ℕ) (marks : List (List ℕ)) → InSets closed marks nodes.now → Sharing closed (get_or marks row []) mask result }
+// Those of each kind of masks.
+pub fn gather_all(n: usize, marks: &MaskTable, closed: &[u8; Chart::NODES], nodes: &mut NodeSets)
+    requires { RowsPast n marks.now × (nodes.old ≡ NodeSets.NONE) }
+    ensures { InSets closed.now marks.now nodes.new }
 {
-    let k = 3 * row;
-    join(mask, &nodes[k], &nodes[k + 1], &nodes[k + 2])
+    gather_sets(n, &marks.starts, closed, &mut nodes.starts);
+    gather_sets(n, &marks.ends, closed, &mut nodes.ends);
+    gather_sets(n, &marks.held, closed, &mut nodes.held);
+}
+
+// The nodes that are not closed and share a bit with the mask, by the sets of the nodes' masks.
+pub fn sharing(mask: u64, sets: &BitSets) -> Words
+    ensures { (closed masks : List ℕ) → ByBit closed masks sets.now → Sharing closed masks mask result }
+{
+    join(mask, &sets[0], &sets[1], &sets[2])
 }

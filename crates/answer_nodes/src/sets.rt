@@ -58,10 +58,8 @@ pub fn gather(
 {
     let end = count_from(first, n);
     let mut run = Run { mask: 0, set: 0 };
-    let mut j = 0;
-    while j < end {
+    for j in 0..end {
         run = take(sets, run, closed[first + j], masks[first + j], j);
-        j += 1;
     }
     add(sets, run.mask, run.set);
 }

@@ -1,2 +1,1 @@
 pub mod BadNumbers
-pub mod Profiles

@@ -22,13 +22,14 @@ use Rattle.theory_answers.specs.Unexcluded.{Common}
 use Rattle.theory_answers.proofs.AnswerLaws.{do-below, no-common-of, masters-of, single_of, ordereds-of, section-of}
 use Rattle.theory_paths.specs.Phases.{Direction, forward, backward, Boundary, barriers, barrier_at, marked, marks}
 use Rattle.theory_paths.specs.PhasesLaws.{Marked, marked-means, barrier-number}
-use Rattle.answer_constructs.specs.Marks.{Holds, Held, OfKind, Kinds, Lacked, Sized, starts_in, ends_in, held_in, Marks}
+use Rattle.answer_constructs.specs.Marks.{Holds, Held, OfKind, Kinds, Lacked, Sized, Marks}
 use Rattle.answer_constructs.specs.declared.kinds.Sets.{Sets}
+use Rattle.answer_constructs.specs.declared.mask_table.MaskTable.{MaskTable}
 use Rattle.answer_pairs.specs.declared.rules.Profile.{Profile}
 
 -- The masks of node x.
-unfoldable pub profile_at : List (List ℕ) → ℕ → Profile
-profile_at marks x = record { starts = get_or (starts_in marks) x 0; ends = get_or (ends_in marks) x 0; held = get_or (held_in marks) x 0 }
+unfoldable pub profile_at : MaskTable → ℕ → Profile
+profile_at marks x = record { starts = get_or marks.starts x 0; ends = get_or marks.ends x 0; held = get_or marks.held x 0 }
 
 -- The number of the first of n rules that applies, of those from rule 2 on; 0 where none does.
 unfoldable pub numbered : ℕ → (ℕ → Bool) → ℕ
@@ -176,12 +177,12 @@ module _ {R : Region} (W : WellFormed R) where
         ])
 
 -- The answer, read off the masks of two nodes: for all teams, and for those of a size.
-pub ruled-by : {R : Region} {marks : List (List ℕ)} {kinds : List ℕ} → Marks R marks kinds → (a b : ℕ) → a < R.nodes → b < R.nodes
+pub ruled-by : {R : Region} {marks : MaskTable} {kinds : List ℕ} → Marks R marks kinds → (a b : ℕ) → a < R.nodes → b < R.nodes
     → answer R a b ≡ ruled_by kinds (profile_at marks a) (profile_at marks b)
 unfolding profile_at ruled_by by_rules
 ruled-by {R} {marks} {kinds} M a b la lb =
     let W = M.well-formed in
-    let rules = numbered-same 4 (rule_of R a b) (rule_by kinds (get_or (held_in marks) a 0) (get_or (held_in marks) b 0)) (rule-by W a b kinds (M.has-held a la) (M.has-held b lb) M.has-kinds) in
+    let rules = numbered-same 4 (rule_of R a b) (rule_by kinds (get_or marks.held a 0) (get_or marks.held b 0)) (rule-by W a b kinds (M.has-held a la) (M.has-held b lb) M.has-kinds) in
     answer-ruled R a b ∙ rw (
       phase-by W a b,
       rules,
@@ -200,11 +201,11 @@ sized-by sets x y p q = cc
 pub lacks-none : (both : ℕ) {missing : ℕ} → missing ≡ 0 → common both missing ≡ false
 lacks-none both q = rw (q, and_zero_r both)
 
-pub answer-by : {R : Region} {marks : List (List ℕ)} (sets : Sets) → Marks R marks sets.kinds → (size : Size) → Sized R size sets
+pub answer-by : {R : Region} {marks : MaskTable} (sets : Sets) → Marks R marks sets.kinds → (size : Size) → Sized R size sets
     → (a b : ℕ) → a < R.nodes → b < R.nodes → answer_for R size a b ≡ answer_by sets (profile_at marks a) (profile_at marks b)
 unfolding profile_at answer_in
 answer-by {marks = marks} sets M Any Z a b la lb =
-    ruled-by M a b la lb ∙ sym (sized-by sets (profile_at marks a) (profile_at marks b) Z.0 (lacks-none (bit_or (get_or (held_in marks) a 0) (get_or (held_in marks) b 0)) Z.1))
+    ruled-by M a b la lb ∙ sym (sized-by sets (profile_at marks a) (profile_at marks b) Z.0 (lacks-none (bit_or (get_or marks.held a 0) (get_or marks.held b 0)) Z.1))
 answer-by {marks = marks} sets M (Of m) Z a b la lb =
     let lacks = lacks-by M.well-formed m a b (M.has-held a la) (M.has-held b lb) Z.1 in
     rw (ruled-by M a b la lb) (sym (sized-by sets (profile_at marks a) (profile_at marks b) Z.0 (sym lacks)))

@@ -14,10 +14,7 @@ pub fn bad_number(x: usize, n: usize, closed: &[u8; Chart::NODES]) -> bool
     requires { n ≤ 192 }
     ensures { (R : Region) → WellFormed R → R.nodes ≡ n → Closed R closed.now → result ≡ bad_number R x }
 {
-    if x >= n {
-        return true;
-    }
-    closed[x] != 0
+    x >= n || closed[x] != 0
 }
 
 // The same of a chart, where few numbers are asked about.
@@ -25,8 +22,5 @@ pub fn bad_node(s: &[u8], chart: Chart, x: usize) -> bool
     requires { Accepted s.now chart × WellFormed (reading s.now chart) }
     ensures { result ≡ bad_number (reading s.now chart) x }
 {
-    if x >= chart.nodes {
-        return true;
-    }
-    closed_at(s, chart, x) != 0
+    x >= chart.nodes || closed_at(s, chart, x) != 0
 }

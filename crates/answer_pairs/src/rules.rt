@@ -1,5 +1,5 @@
 // The answer for two nodes, by their masks.
-ghost use Rattle.std.specs.Prelude.{◌≡◌, true, ◌<◌};
+ghost use Rattle.std.specs.Prelude.{◌≡◌, ◌<◌};
 ghost use Rattle.chart.specs.Region.{Region};
 ghost use Rattle.theory_answers.specs.Answer.{answer_for};
 ghost use Rattle.theory_answers.specs.declared.Size.{Size};
@@ -7,12 +7,12 @@ ghost use Rattle.answer_constructs.specs.Marks.{Sized, Marks};
 ghost use Rattle.answer_pairs.specs.Rules.{profile_at, ruled_by, answer_by};
 
 use answer_constructs::kinds::{RULES, Sets};
-use answer_constructs::mask_table::{ENDS, HELD, MaskTable, STARTS};
+use answer_constructs::mask_table::MaskTable;
 use masks::bits::common;
 use theory_answers::Answer;
 
-// What the rules read of one node: its bits in each row of the table of masks.
-#[derive(Clone, Copy)]
+// What the rules read of one node: its masks. Two nodes with the same profile have the same answers.
+#[derive(Clone, Copy, PartialEq)]
 pub struct Profile {
     pub starts: u64,
     pub ends: u64,
@@ -24,43 +24,24 @@ pub fn profile_of(x: usize, marks: &MaskTable) -> Profile
     ensures { result ≡ profile_at marks.now x }
 {
     Profile {
-        starts: marks[STARTS][x],
-        ends: marks[ENDS][x],
-        held: marks[HELD][x],
+        starts: marks.starts[x],
+        ends: marks.ends[x],
+        held: marks.held[x],
     }
-}
-
-// Two nodes with the same profile have the same answers.
-pub fn same(x: Profile, y: Profile) -> bool
-    ensures { result ≡ true → x ≡ y }
-{
-    if x.starts != y.starts {
-        return false;
-    }
-    if x.ends != y.ends {
-        return false;
-    }
-    x.held == y.held
 }
 
 // The rules for all teams in their order; from rule 2 on, each asks for a construct of its kind that both hold.
 fn ruled_by(sets: Sets, x: Profile, y: Profile) -> u8
     ensures { result ≡ ruled_by sets.kinds x y }
 {
-    if !common(x.starts, y.starts) {
-        return Answer::NO_COMMON_PHASE;
-    }
-    if !common(x.ends, y.ends) {
+    if !common(x.starts, y.starts) || !common(x.ends, y.ends) {
         return Answer::NO_COMMON_PHASE;
     }
     let both = x.held & y.held;
-    let kinds = sets.kinds;
-    let mut k = 0;
-    while k < RULES {
-        if common(both, kinds[k]) {
+    for k in 0..RULES {
+        if common(both, sets.kinds[k]) {
             return Answer::MASTER + k as u8;
         }
-        k += 1;
     }
     Answer::CONCURRENT
 }
@@ -71,15 +52,12 @@ pub fn answer_by(sets: Sets, x: Profile, y: Profile) -> u8
     ensures { result ≡ answer_by sets x y }
 {
     if sets.alone {
-        return Answer::ALONE;
+        Answer::ALONE
+    } else if sets.missing != 0 && common(x.held | y.held, sets.missing) {
+        Answer::MISSING
+    } else {
+        ruled_by(sets, x, y)
     }
-    if sets.missing == 0 {
-        return ruled_by(sets, x, y);
-    }
-    if common(x.held | y.held, sets.missing) {
-        return Answer::MISSING;
-    }
-    ruled_by(sets, x, y)
 }
 
 // The answer for nodes a and b.

@@ -2,8 +2,8 @@
 -- Assumes nothing.
 use mathlib.Core.Path.{◌≡◌, refl, ap, ◌∙◌}
 use mathlib.Core.Bool.{true, false}
-use mathlib.Core.List.{List, [], ◌++◌}
-use Prim.Native.Nat.{ℕ, zero, suc, ◌+◌, ◌*◌, ◌-◌, ◌≤◌, ◌<◌}
+use mathlib.Core.List.{List, ◌++◌}
+use Prim.Native.Nat.{ℕ, zero, suc, ◌+◌, ◌*◌, ◌≤◌, ◌<◌}
 use native.Mathlib.Omega.{arith}
 use native.Mathlib.Decide.{dec_lt}
 use lib.ListN.{length, get_or, get_or-eq_default}
@@ -16,12 +16,14 @@ use Rattle.chart.specs.WellFormed.{WellFormed}
 use Rattle.theory_answers.specs.Numbers.{asked, bad_number, good-number}
 use Rattle.mark_tables.specs.Tables.{Closed}
 use Rattle.answer_constructs.specs.Marks.{Marks}
+use Rattle.answer_constructs.specs.declared.mask_table.MaskTable.{MaskTable}
 use Rattle.answer_pairs.specs.Rules.{profile_at}
 use Rattle.theory_calls.specs.Access.{total, access_at, bad_accesses}
 use Rattle.theory_calls.specs.Races.{race, races}
 use Rattle.theory_calls.proofs.RaceLaws.{whole-accesses, good-access}
 use Rattle.answer_names.specs.Names.{Names}
-use Rattle.answer_races.specs.Bytes.{by_line}
+use Rattle.answer_races.specs.declared.rows.Line.{Line}
+use Rattle.answer_races.specs.Bytes.{line_at, by_line}
 use Rattle.answer_races.proofs.Filled.{filled-tab}
 use Rattle.answer_races.specs.Lines.{LineOf}
 use Rattle.answer_races.specs.PairsLines.{line_byte}
@@ -55,8 +57,8 @@ module _ (R : Region) (list : List ℕ) (W : WellFormed R) (good : bad_accesses 
   unfolding bad_number
   named j l = let h = (good-access R list good j l).1 in ((good-number R _ W h).0, not-false _ h)
 
-  module _ {closed : List ℕ} {kinds : List ℕ} {marks : List (List ℕ)} {names : List ℕ} (lines : List (List ℕ)) (M : Marks R marks kinds) (C : Closed R closed) (N : Names R names)
-      (L : (a : ℕ) → a < R.nodes → get_or closed a 0 ≡ 0 → LineOf closed marks names (profile_at marks a) (get_or names a 0) (get_or lines a [])) where
+  module _ {closed : List ℕ} {kinds : List ℕ} {marks : MaskTable} {names : List ℕ} (lines : List Line) (M : Marks R marks kinds) (C : Closed R closed) (N : Names R names)
+      (L : (a : ℕ) → a < R.nodes → get_or closed a 0 ≡ 0 → LineOf closed marks names (profile_at marks a) (get_or names a 0) (line_at lines a)) where
     pair-byte : (i k : ℕ) → i < total list → i + k < total list → line_byte lines list i k ≡ race R (access_at list i) (access_at list (i + k))
     unfolding by_line race
     pair-byte i k l m =

@@ -2,13 +2,14 @@
 -- Assumes nothing.
 use mathlib.Core.Path.{◌≡◌, sym, ◌∙◌}
 use mathlib.Core.List.{List}
-use Prim.Native.Nat.{ℕ, ◌+◌, ◌*◌, ◌≤◌, ◌<◌}
+use Prim.Native.Nat.{ℕ, ◌+◌, ◌≤◌, ◌<◌}
 use native.Mathlib.Omega.{arith}
 use native.Mathlib.Decide.{ℕ_discrete, dec_lt}
-use lib.ListN.{length, get_or, set, length-set}
+use lib.ListN.{length, length-set}
 use lib.Seq.{get_or-set_same, get_or-set_other}
 use Rattle.theory_calls.specs.Access.{total, access_at}
-use Rattle.answer_races.specs.Linked.{FirstFrom, Same, Beside, Linked, linked_to}
+use Rattle.answer_races.specs.declared.same_variable.NextTwo.{NextTwo}
+use Rattle.answer_races.specs.Linked.{FirstFrom, Same, Beside, Linked, none, link_at, linked_to}
 
 -- to a write each access of its variable is one that it may race with
 pub beside-write : (list : List ℕ) (variable : ℕ) {n i k : ℕ} → FirstFrom (Same list variable) n i k → FirstFrom (Beside list 1 variable) n i k
@@ -34,26 +35,17 @@ module _ (list : List ℕ) (i : ℕ) {k : ℕ} (few : total list ≤ 1024) (F : 
       go x h p u q (no y) (yes e) = let w : 0 < 0 + (access_at list k).write = rw e at q.1 in omega arith
       go x h p u q (no y) (no e) = G.none x (omega arith) p u (q.0 ∙ sym (F.own l), q.1)
 
-module _ (links : List ℕ) (j k : ℕ) (long : length links ≡ 2050) (low : j < 1024) where
-  next-own : get_or (linked_to links j k) (2 * j) 0 ≡ k
-  next-own = get_or-set_same (set links (2 * j + 1) (get_or links (2 * k) 0)) (2 * j) k 0 (omega (arith, length-set links (2 * j + 1) (get_or links (2 * k) 0)))
+module _ (links : List NextTwo) (j k : ℕ) (long : length links ≡ 1025) (low : j < 1024) where
+  own : link_at (linked_to links j k) j ≡ record { first = k; second = (link_at links k).first }
+  own = get_or-set_same links j _ none (omega arith)
 
-  next-other : (x : ℕ) → (x ≡ j → ⊥) → get_or (linked_to links j k) (2 * x) 0 ≡ get_or links (2 * x) 0
-  next-other x d = get_or-set_other (set links (2 * j + 1) (get_or links (2 * k) 0)) (2 * j) (2 * x) k 0 (λ q. d (omega arith))
-      ∙ get_or-set_other links (2 * j + 1) (2 * x) (get_or links (2 * k) 0) 0 (λ q. omega arith)
+  other : (x : ℕ) → (x ≡ j → ⊥) → link_at (linked_to links j k) x ≡ link_at links x
+  other x d = get_or-set_other links j x _ none (λ q. d q)
 
-  second-own : get_or (linked_to links j k) (2 * j + 1) 0 ≡ get_or links (2 * k) 0
-  second-own = get_or-set_other (set links (2 * j + 1) (get_or links (2 * k) 0)) (2 * j) (2 * j + 1) k 0 (λ q. omega arith)
-      ∙ get_or-set_same links (2 * j + 1) (get_or links (2 * k) 0) 0 (omega arith)
+  pub link-length : length (linked_to links j k) ≡ 1025
+  link-length = length-set links j _ ∙ long
 
-  second-other : (x : ℕ) → (x ≡ j → ⊥) → get_or (linked_to links j k) (2 * x + 1) 0 ≡ get_or links (2 * x + 1) 0
-  second-other x d = get_or-set_other (set links (2 * j + 1) (get_or links (2 * k) 0)) (2 * j) (2 * x + 1) k 0 (λ q. omega arith)
-      ∙ get_or-set_other links (2 * j + 1) (2 * x + 1) (get_or links (2 * k) 0) 0 (λ q. d (omega arith))
-
-  pub link-length : length (linked_to links j k) ≡ 2050
-  link-length = length-set (set links (2 * j + 1) (get_or links (2 * k) 0)) (2 * j) k ∙ length-set links (2 * j + 1) (get_or links (2 * k) 0) ∙ long
-
-module _ (list : List ℕ) {links : List ℕ} (write i k : ℕ) {m : ℕ} (long : length links ≡ 2050) (low : i < 1024) (e : m ≡ i + 1) (small : k ≤ 1024)
+module _ (list : List ℕ) {links : List NextTwo} (write i k : ℕ) {m : ℕ} (long : length links ≡ 1025) (low : i < 1024) (e : m ≡ i + 1) (small : k ≤ 1024)
     (F : FirstFrom (Beside list write (access_at list i).variable) (total list) (i + 1) k) (L : Linked list write m links) where
   pub linked-more : Linked list write i (linked_to links i k)
   linked-more = record {
@@ -63,16 +55,15 @@ module _ (list : List ℕ) {links : List ℕ} (write i k : ℕ) {m : ℕ} (long 
   }
     where
       next : (j : ℕ) → i ≤ j → j < total list → Dec (j ≡ i)
-          → FirstFrom (Beside list write (access_at list j).variable) (total list) (j + 1) (get_or (linked_to links i k) (2 * j) 0)
-      next j h l (yes q) = rw (q, next-own links i k long low) F
-      next j h l (no q) = rw (next-other links i k long low j q) (L.next j (omega arith) l)
+          → FirstFrom (Beside list write (access_at list j).variable) (total list) (j + 1) (link_at (linked_to links i k) j).first
+      next j h l (yes q) = rw (q, own links i k long low) F
+      next j h l (no q) = rw (other links i k long low j q) (L.next j (omega arith) l)
 
-      second : (j : ℕ) → i ≤ j → j < total list → Dec (j ≡ i) → get_or (linked_to links i k) (2 * j) 0 < total list
-          → FirstFrom (Beside list write (access_at list j).variable) (total list) (get_or (linked_to links i k) (2 * j) 0 + 1) (get_or (linked_to links i k) (2 * j + 1) 0)
-      second j h l (yes q) =
-          rw (q, next-own links i k long low, second-own links i k long low) (λ b. rw (F.own b).0 at (L.next k (omega (arith, F.from)) b))
-      second j h l (no q) = rw (next-other links i k long low j q, second-other links i k long low j q) (L.second j (omega arith) l)
+      second : (j : ℕ) → i ≤ j → j < total list → Dec (j ≡ i) → (link_at (linked_to links i k) j).first < total list
+          → FirstFrom (Beside list write (access_at list j).variable) (total list) ((link_at (linked_to links i k) j).first + 1) (link_at (linked_to links i k) j).second
+      second j h l (yes q) = rw (q, own links i k long low) (λ b. rw (F.own b).0 at (L.next k (omega (arith, F.from)) b))
+      second j h l (no q) = rw (other links i k long low j q) (L.second j (omega arith) l)
 
-      few : (j : ℕ) → i ≤ j → j < total list → Dec (j ≡ i) → get_or (linked_to links i k) (2 * j) 0 ≤ 1024
-      few j h l (yes q) = rw (q, next-own links i k long low) small
-      few j h l (no q) = rw (next-other links i k long low j q) (L.small j (omega arith) l)
+      few : (j : ℕ) → i ≤ j → j < total list → Dec (j ≡ i) → (link_at (linked_to links i k) j).first ≤ 1024
+      few j h l (yes q) = rw (q, own links i k long low) small
+      few j h l (no q) = rw (other links i k long low j q) (L.small j (omega arith) l)

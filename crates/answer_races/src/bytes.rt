@@ -9,14 +9,12 @@ ghost use Rattle.theory_calls.specs.Races.{races as races_of};
 
 use crate::lines::fill_lines;
 use crate::pairs::fill_races;
-use crate::rows::WORDS;
+use crate::rows::Line;
 use answer_constructs::mask_table::MaskTable;
-use answer_met::{THIRDS, gather_names};
 use answer_names::fill_names;
-use answer_nodes::{SETS, gather_all};
+use answer_nodes::{NO_SETS, NodeSets, gather_all, gather_sets};
 use chart::format::Chart;
 use mark_tables::closed::load_closed;
-use masks::unions::BITS;
 
 // The bytes, of a list that row 20 lets pass.
 pub fn put_races(s: &[u8], chart: Chart, marks: &MaskTable, accesses: &[u8], out: &mut [u8])
@@ -31,11 +29,11 @@ pub fn put_races(s: &[u8], chart: Chart, marks: &MaskTable, accesses: &[u8], out
     fill_names(s, chart, &mut names);
     let mut closed = [0u8; Chart::NODES];
     load_closed(s, chart, &mut closed);
-    let mut nodes = [[0u64; BITS]; SETS];
+    let mut nodes = NodeSets::NONE;
     gather_all(chart.nodes, marks, &closed, &mut nodes);
-    let mut named = [[0u64; BITS]; THIRDS];
-    gather_names(chart.nodes, &names, &closed, &mut named);
-    let mut lines = [[0u64; WORDS]; Chart::NODES];
+    let mut named = NO_SETS;
+    gather_sets(chart.nodes, &names, &closed, &mut named);
+    let mut lines = [Line::EMPTY; Chart::NODES];
     fill_lines(
         chart.nodes,
         marks,

@@ -7,8 +7,7 @@ ghost use Rattle.answer_races.specs.PairsLines.{line_byte};
 
 use crate::lines::Lines;
 use crate::rows::fill_row;
-use crate::same_variable::{PLACES, link};
-use chart::cursor::wide;
+use crate::same_variable::{NextTwo, PLACES, link};
 use theory_calls::Access;
 
 // All rows fill the front of `out`: row i is the part after the rows before it.
@@ -20,17 +19,15 @@ pub fn fill_races(accesses: &[u8], lines: &Lines, out: &mut [u8])
         let result = rows_by (pairs_from (total list)) (line_byte lines.now list) (total list) in
         out.new ≡ result ++ drop (length result) out.old }
 {
-    let mut all = [0u16; PLACES];
-    let mut writes = [0u16; PLACES];
+    let mut all = [NextTwo::UNKNOWN; PLACES];
+    let mut writes = [NextTwo::UNKNOWN; PLACES];
     link(accesses, &mut all, &mut writes);
     let n = accesses.len() / Access::BYTES;
     let mut at = 0;
-    let mut i = 0;
-    while i < n {
-        let node = wide(accesses[Access::BYTES * i]);
+    for i in 0..n {
+        let node = usize::from(accesses[Access::BYTES * i]);
         let end = at + (n - i);
         fill_row(accesses, i, &all, &writes, &lines[node], &mut out[at..end]);
         at = end;
-        i += 1;
     }
 }

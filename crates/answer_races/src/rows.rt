@@ -7,14 +7,23 @@ ghost use Rattle.answer_races.specs.Linked.{Linked};
 ghost use Rattle.answer_races.specs.Bytes.{line_race, by_line};
 ghost use Rattle.answer_races.specs.Walked.{Walked};
 
-use crate::same_variable::{Links, place};
-use chart::cursor::wide;
+use crate::same_variable::Links;
+use answer_nodes::THIRDS;
 use theory_calls::{Access, RaceByte};
 
-// Two sets of nodes, three words each.
-pub type Line = [u64; WORDS];
+// The nodes that a node may meet, and those of them that it has no name in common with: a word for each third of the nodes.
+#[derive(Clone, Copy)]
+pub struct Line {
+    pub meet: [u64; THIRDS],
+    pub free: [u64; THIRDS],
+}
 
-pub const WORDS: usize = 6;
+impl Line {
+    pub const EMPTY: Line = Line {
+        meet: [0; THIRDS],
+        free: [0; THIRDS],
+    };
+}
 
 // What the row's node is to node b: no race where they never meet, synchronization where they have a name in common, data where they have none. The numbers
 // of these are how many of the two sets b is in.
@@ -22,8 +31,8 @@ fn race_at(line: &Line, b: usize) -> u8
     requires { b < 192 }
     ensures { result ≡ line_race line.now b }
 {
-    let meet = (line[b / 64] >> (b % 64)) % 2;
-    let free = (line[b / 64 + 3] >> (b % 64)) % 2;
+    let meet = (line.meet[b / 64] >> (b % 64)) % 2;
+    let free = (line.free[b / 64] >> (b % 64)) % 2;
     (meet + free) as u8
 }
 
@@ -32,19 +41,7 @@ fn race_of(accesses: &[u8], k: usize, line: &Line) -> u8
     requires { (4 * k + 3 < length accesses.now) × ((access_at accesses.now k).node < 192) }
     ensures { result ≡ line_race line.now (access_at accesses.now k).node }
 {
-    race_at(line, wide(accesses[Access::BYTES * k]))
-}
-
-// No race with any.
-fn clear(out: &mut [u8])
-    ensures { (length out.new ≡ length out.old) × ((x : ℕ) → get_or out.new x 0 ≡ 0) }
-{
-    let n = out.len();
-    let mut k = 0;
-    while k < n {
-        out[k] = RaceByte::NONE;
-        k += 1;
-    }
+    race_at(line, usize::from(accesses[Access::BYTES * k]))
 }
 
 // The bytes of the accesses that the links of access i lead to, two in each turn: the second link is read beside the first, so that no turn waits long
@@ -61,16 +58,16 @@ fn walk(accesses: &[u8], i: usize, links: &Links, line: &Line, out: &mut [u8])
 {
     let n = i + out.len();
     let mut j = i;
-    let mut k = place(links, 2 * i);
+    let mut k = usize::from(links[i].first);
     while k < n {
         out[k - i] = race_of(accesses, k, line);
-        let l = place(links, 2 * j + 1);
+        let l = usize::from(links[j].second);
         if l >= n {
             return;
         }
         out[l - i] = race_of(accesses, l, line);
         j = l;
-        k = place(links, 2 * l);
+        k = usize::from(links[l].first);
     }
 }
 
@@ -86,7 +83,7 @@ pub fn fill_row(accesses: &[u8], i: usize, all: &Links, writes: &Links, line: &L
     ensures { let list = accesses.now in
         out.new ≡ tab (length out.old) (λ x. by_line line.now (access_at list i) (access_at list (i + x))) }
 {
-    clear(out);
+    out.fill(RaceByte::NONE);
     if accesses[Access::BYTES * i + 1] == Access::READ {
         walk(accesses, i, writes, line, out);
         return;

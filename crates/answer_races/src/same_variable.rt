@@ -3,7 +3,6 @@ ghost use Rattle.std.specs.Prelude.{◌≡◌, ℕ, ◌+◌, ◌*◌, ◌≤◌,
 ghost use Rattle.theory_calls.specs.Access.{total, access_at};
 ghost use Rattle.answer_races.specs.Linked.{FirstFrom, Same, Beside, Chained, Linked, linked_to};
 
-use chart::cursor::wide;
 use theory_calls::Access;
 
 // Variables with the same remainder by this lie in one bucket. It is a prime, so that variables which have either byte in common seldom do.
@@ -12,10 +11,24 @@ const BUCKETS: usize = 1021;
 // The place of no access.
 const NONE: u16 = Access::MOST as u16;
 
-// For each place, that of no access among them, the two after it.
-pub type Links = [u16; PLACES];
+// The places of the two accesses after one. They are numbers of 16 bits with one for none, since an Option of each would make the tables twice as large.
+#[derive(Clone, Copy)]
+pub struct NextTwo {
+    pub first: u16,
+    pub second: u16,
+}
 
-pub const PLACES: usize = 2 * (Access::MOST + 1);
+impl NextTwo {
+    pub const UNKNOWN: NextTwo = NextTwo {
+        first: 0,
+        second: 0,
+    };
+}
+
+// For each place, that of no access among them.
+pub type Links = [NextTwo; PLACES];
+
+pub const PLACES: usize = Access::MOST + 1;
 
 // The variable of access i.
 fn variable_at(accesses: &[u8], i: usize) -> usize
@@ -23,22 +36,7 @@ fn variable_at(accesses: &[u8], i: usize) -> usize
     ensures { result ≡ (access_at accesses.now i).variable }
 {
     let at = Access::BYTES * i;
-    wide(accesses[at + 2]) + 256 * wide(accesses[at + 3])
-}
-
-// A place as an index.
-fn index(place: u16) -> usize
-    ensures { result ≡ place }
-{
-    place as usize
-}
-
-// Entry x of the links.
-pub fn place(links: &Links, x: usize) -> usize
-    requires { x < 2050 }
-    ensures { result ≡ get_or links.now x 0 }
-{
-    index(links[x])
+    usize::from(u16::from_le_bytes([accesses[at + 2], accesses[at + 3]]))
 }
 
 // For each access the place of the next of its bucket, from the last access on to the first.
@@ -47,9 +45,7 @@ fn chain(accesses: &[u8], under: &mut [u16; Access::MOST])
     ensures { Chained accesses.now under.new }
 {
     let mut heads = [NONE; BUCKETS];
-    let mut i = accesses.len() / Access::BYTES;
-    while i > 0 {
-        i -= 1;
+    for i in (0..accesses.len() / Access::BYTES).rev() {
         let bucket = variable_at(accesses, i) % BUCKETS;
         under[i] = heads[bucket];
         heads[bucket] = i as u16;
@@ -64,12 +60,12 @@ fn next_of(accesses: &[u8], i: usize, under: &[u16; Access::MOST]) -> usize
 {
     let n = accesses.len() / Access::BYTES;
     let variable = variable_at(accesses, i);
-    let mut k = index(under[i]);
+    let mut k = usize::from(under[i]);
     while k < n {
         if variable_at(accesses, k) == variable {
             return k;
         }
-        k = index(under[k]);
+        k = usize::from(under[k]);
     }
     Access::MOST
 }
@@ -87,28 +83,28 @@ fn write_from(accesses: &[u8], k: usize, writes: &Links) -> usize
     if accesses[Access::BYTES * k + 1] != Access::READ {
         return k;
     }
-    place(writes, 2 * k)
+    usize::from(writes[k].first)
 }
 
 // The place after j, and with it the one after that.
 fn put(links: &mut Links, j: usize, k: usize)
-    requires { (length links.old ≡ 2050) × (j < 1024) × (k ≤ 1024) }
+    requires { (length links.old ≡ 1025) × (j < 1024) × (k ≤ 1024) }
     ensures { links.new ≡ linked_to links.old j k }
 {
-    links[2 * j + 1] = links[2 * k];
-    links[2 * j] = k as u16;
+    links[j] = NextTwo {
+        first: k as u16,
+        second: links[k].first,
+    };
 }
 
 // From each access the next two of its variable, and the next two writes.
 pub fn link(accesses: &[u8], all: &mut Links, writes: &mut Links)
-    requires { (length accesses.now ≤ 4096) × (length all.old ≡ 2050) × (length writes.old ≡ 2050) }
+    requires { (length accesses.now ≤ 4096) × (length all.old ≡ 1025) × (length writes.old ≡ 1025) }
     ensures { Linked accesses.now 1 0 all.new × Linked accesses.now 0 0 writes.new }
 {
     let mut under = [0u16; Access::MOST];
     chain(accesses, &mut under);
-    let mut i = accesses.len() / Access::BYTES;
-    while i > 0 {
-        i -= 1;
+    for i in (0..accesses.len() / Access::BYTES).rev() {
         let k = next_of(accesses, i, &under);
         put(all, i, k);
         let w = write_from(accesses, k, writes);

@@ -18,6 +18,7 @@ use Rattle.theory_answers.specs.declared.Size.{Size}
 use Rattle.mark_tables.specs.Tables.{Closed}
 use Rattle.answer_constructs.specs.Marks.{Sized, Marks}
 use Rattle.answer_constructs.specs.declared.kinds.Sets.{Sets}
+use Rattle.answer_constructs.specs.declared.mask_table.MaskTable.{MaskTable}
 use Rattle.answer_pairs.specs.Rules.{profile_at, answer-by}
 use Rattle.answer_pairs.specs.declared.rules.Profile.{Profile}
 use Rattle.answer_sheet.specs.Eights.{covered}
@@ -39,7 +40,7 @@ unfolding entry
 entry_closed R f a b h = rw h
 
 -- the row of a node that a claim may name, by masks
-module _ {R : Region} {marks : List (List ℕ)} {closed : List ℕ} (sets : Sets) (M : Marks R marks sets.kinds) (size : Size) (Z : Sized R size sets) (C : Closed R closed) where
+module _ {R : Region} {marks : MaskTable} {closed : List ℕ} (sets : Sets) (M : Marks R marks sets.kinds) (size : Size) (Z : Sized R size sets) (C : Closed R closed) where
   entry-by : (a j : ℕ) → a < R.nodes → j < R.nodes → asked R a ≡ true → row_of closed sets marks (profile_at marks a) j ≡ entry R (answer_for R size) a j
   unfolding row_of covered entry
   entry-by a j la lj o = elim (truth (asked R j)) [

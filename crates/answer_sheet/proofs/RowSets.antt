@@ -13,8 +13,8 @@ use Rattle.lists.specs.Truth.{same_truth, and-false, or_cases as either, or_left
 use Rattle.lists.specs.Mask.{or_cases, or_left as in_left, or_right as in_right, or-more}
 use Rattle.lists.specs.Bits.{has}
 use Rattle.lists.specs.Common.{and_both, both-and, common}
-use Rattle.answer_constructs.specs.Marks.{starts_in, ends_in, held_in}
 use Rattle.answer_constructs.specs.declared.kinds.Sets.{Sets}
+use Rattle.answer_constructs.specs.declared.mask_table.MaskTable.{MaskTable}
 use Rattle.masks.specs.declared.unions.Words.{Words}
 use Rattle.answer_pairs.specs.Rules.{profile_at, numbered-same, by_rules, by_size, rule_by, ruled_by, answer_by}
 use Rattle.answer_pairs.specs.declared.rules.Profile.{Profile}
@@ -53,7 +53,7 @@ pub or-none : (a b : ℕ) → bit_or a b ≡ 0 → (a ≡ 0) × (b ≡ 0)
 or-none a b e = (omega (arith, or-more a b), omega (arith, or-more b a, or_comm a b))
 
 -- one entry, where the sets have no node that is closed
-module _ (closed : List ℕ) (marks : List (List ℕ)) (sets : Sets) (own : Profile) (x : ℕ) where
+module _ (closed : List ℕ) (marks : MaskTable) (sets : Sets) (own : Profile) (x : ℕ) where
   -- the entry by what of the sets have the node, and by what the team lacks
   abbrev made : (s e z : Bool) (rule : ℕ → Bool) → ℕ
   made s e z rule = by_size sets.alone (common own.held sets.missing || z) (by_rules (s && e) rule)
@@ -83,10 +83,10 @@ module _ (closed : List ℕ) (marks : List (List ℕ)) (sets : Sets) (own : Prof
       go false S E T Z = refl
 
 -- 64 entries, by their numbers before and after the team's size is looked at
-word_row : (closed : List ℕ) (marks : List (List ℕ)) (sets : Sets) (own : Profile) (w : ℕ) (f g : ℕ → ℕ) (s e z : ℕ) (rule : ℕ → ℕ)
-    → SharedFrom closed (starts_in marks) own.starts (64 * w) s → SharedFrom closed (ends_in marks) own.ends (64 * w) e
-    → ((k : ℕ) → k < 4 → SharedFrom closed (held_in marks) (bit_and own.held (get_or sets.kinds k 0)) (64 * w) (rule k))
-    → SharedFrom closed (held_in marks) sets.missing (64 * w) z
+word_row : (closed : List ℕ) (marks : MaskTable) (sets : Sets) (own : Profile) (w : ℕ) (f g : ℕ → ℕ) (s e z : ℕ) (rule : ℕ → ℕ)
+    → SharedFrom closed marks.starts own.starts (64 * w) s → SharedFrom closed marks.ends own.ends (64 * w) e
+    → ((k : ℕ) → k < 4 → SharedFrom closed marks.held (bit_and own.held (get_or sets.kinds k 0)) (64 * w) (rule k))
+    → SharedFrom closed marks.held sets.missing (64 * w) z
     → ((j : ℕ) → f j ≡ by_rules (has (bit_and s e) j) (λ k. has (rule k) j))
     → ((j : ℕ) → j < 64 → g j ≡ by_size sets.alone (common own.held sets.missing || has z j) (f j))
     → (j : ℕ) → j < 64 → covered closed (64 * w + j) (g j) ≡ row_of closed sets marks own (64 * w + j)
@@ -102,25 +102,25 @@ none-shared : (closed masks : List ℕ) (first mask : ℕ) → mask ≡ 0 → Sh
 none-shared closed masks first mask q j l = rw (q, none_has j, and_zero_l (get_or masks (first + j) 0)) (sym (and-false (eqb (get_or closed (first + j) 0) 0)))
 
 -- 64 entries of a node to which only the first rule can apply: no other set has a node
-pub phase-word : (closed : List ℕ) (marks : List (List ℕ)) (sets : Sets) (own : Profile) (w s e : ℕ) → PhaseOnly sets own.held
-    → SharedFrom closed (starts_in marks) own.starts (64 * w) s → SharedFrom closed (ends_in marks) own.ends (64 * w) e
+pub phase-word : (closed : List ℕ) (marks : MaskTable) (sets : Sets) (own : Profile) (w s e : ℕ) → PhaseOnly sets own.held
+    → SharedFrom closed marks.starts own.starts (64 * w) s → SharedFrom closed marks.ends own.ends (64 * w) e
     → (j : ℕ) → j < 64 → covered closed (64 * w + j) (1 - bit_and s e / 2 ^ j % 2) ≡ row_of closed sets marks own (64 * w + j)
 unfolding by_size
 phase-word closed marks sets own w s e O S E =
     word_row closed marks sets own w number number s e 0 (λ k. 0) S E kind
-    (none-shared closed (held_in marks) (64 * w) sets.missing O.lacks-none) (λ j. rw (none_has j) (phase-digit (bit_and s e) j))
+    (none-shared closed marks.held (64 * w) sets.missing O.lacks-none) (λ j. rw (none_has j) (phase-digit (bit_and s e) j))
     (λ j l. rw (O.several, O.holds-none, and_zero_l sets.missing, none_has j))
   where
     number : ℕ → ℕ
     number j = 1 - bit_and s e / 2 ^ j % 2
 
-    kind : (k : ℕ) → k < 4 → SharedFrom closed (held_in marks) (bit_and own.held (get_or sets.kinds k 0)) (64 * w) 0
-    kind k l = none-shared closed (held_in marks) (64 * w) (bit_and own.held (get_or sets.kinds k 0)) (rw O.holds-none (and_zero_l (get_or sets.kinds k 0)))
+    kind : (k : ℕ) → k < 4 → SharedFrom closed marks.held (bit_and own.held (get_or sets.kinds k 0)) (64 * w) 0
+    kind k l = none-shared closed marks.held (64 * w) (bit_and own.held (get_or sets.kinds k 0)) (rw O.holds-none (and_zero_l (get_or sets.kinds k 0)))
 
-module _ (closed : List ℕ) (marks : List (List ℕ)) (sets : Sets) (own : Profile) {s e z : Words} {low middle high : List ℕ}
-    (S : Sharing closed (starts_in marks) own.starts s) (E : Sharing closed (ends_in marks) own.ends e)
-    (T : RuleSets closed (held_in marks) own.held sets.kinds low middle high)
-    (Z : Sharing closed (held_in marks) sets.missing z) {lacks : Bool} (L : lacks ≡ common own.held sets.missing)
+module _ (closed : List ℕ) (marks : MaskTable) (sets : Sets) (own : Profile) {s e z : Words} {low middle high : List ℕ}
+    (S : Sharing closed marks.starts own.starts s) (E : Sharing closed marks.ends own.ends e)
+    (T : RuleSets closed marks.held own.held sets.kinds low middle high)
+    (Z : Sharing closed marks.held sets.missing z) {lacks : Bool} (L : lacks ≡ common own.held sets.missing)
   where
     pub low-row : (p q : Planes) → ((j : ℕ) → digit p j ≡ by_rules (has (bit_and s.low e.low) j) (λ k. has (get_or low k 0) j))
         → ((j : ℕ) → j < 64 → digit q j ≡ by_size sets.alone (lacks || has z.low j) (digit p j))

@@ -19,10 +19,8 @@ pub fn fill_spread(table: &mut [u64; BYTES])
     ensures { Spread table.new }
 {
     *table = [0u64; BYTES];
-    let mut b = 1;
-    while b < 256 {
+    for b in 1..BYTES {
         table[b] = 256 * table[b / 2] + (b % 2) as u64;
-        b += 1;
     }
 }
 
@@ -61,13 +59,7 @@ fn put(word: u64, at: usize, row: &mut [u8; Chart::NODES])
     requires { (length row.old ≡ 192) × (at + 8 ≤ 192) }
     ensures { PutBytes word at row.old row.new }
 {
-    let mut rest = word;
-    let mut k = 0;
-    while k < 8 {
-        row[at + k] = (rest % 256) as u8;
-        rest = rest / 256;
-        k += 1;
-    }
+    row[at..at + 8].copy_from_slice(&word.to_le_bytes());
 }
 
 // Entries 64 * w to 64 * w + 63 of a row, those of closed nodes covered.
@@ -82,14 +74,12 @@ pub fn put_word(
     ensures { PutNumbers (digit p) w fence.now row.old row.new }
 {
     let rest = p.odd | p.twos | p.fours;
-    let mut i = 0;
-    while i < 8 {
+    for i in 0..8 {
         put(
             eight(p, rest, i, table) | fence[8 * w + i],
             64 * w + 8 * i,
             row,
         );
-        i += 1;
     }
 }
 
@@ -104,14 +94,12 @@ pub fn put_phase(
     requires { (w < 3) × Spread table.now × (length row.old ≡ 192) }
     ensures { PutNumbers (λ j. 1 - both / 2 ^ j % 2) w fence.now row.old row.new }
 {
-    let mut i = 0;
-    while i < 8 {
+    for i in 0..8 {
         put(
             (EACH - spread(both, i, table)) | fence[8 * w + i],
             64 * w + 8 * i,
             row,
         );
-        i += 1;
     }
 }
 
@@ -119,10 +107,7 @@ pub fn put_phase(
 fn cover(closed: u8) -> u64
     ensures { (result ≡ cond (eqb closed 0) 0 255) × (result ≤ 255) }
 {
-    if closed != 0 {
-        return ALL;
-    }
-    0
+    if closed == 0 { 0 } else { ALL }
 }
 
 // Eight covers, from node `at` on.
@@ -131,9 +116,7 @@ fn pack(closed: &[u8; Chart::NODES], at: usize) -> u64
     ensures { result ≡ fan (λ i. cond (eqb (get_or closed.now (at + i) 0) 0) 0 255) 8 }
 {
     let mut word = 0;
-    let mut i = 8;
-    while i > 0 {
-        i -= 1;
+    for i in (0..8).rev() {
         word = 256 * word + cover(closed[at + i]);
     }
     word
@@ -144,9 +127,7 @@ pub fn fill_fence(closed: &[u8; Chart::NODES], fence: &mut [u64; WORDS])
     ensures { Fence closed.now fence.new }
 {
     *fence = [0u64; WORDS];
-    let mut k = 0;
-    while k < 24 {
+    for k in 0..24 {
         fence[k] = pack(closed, 8 * k);
-        k += 1;
     }
 }

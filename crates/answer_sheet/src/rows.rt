@@ -1,7 +1,6 @@
 // The row of a node, from sets of nodes: for each bit of a mask the nodes that have it.
 ghost use Rattle.std.specs.Prelude.{◌≡◌, true, ◌||◌, cond, ℕ, ◌<◌, eqb, length, get_or};
 ghost use Rattle.lists.specs.Bits.{has};
-ghost use Rattle.answer_constructs.specs.Marks.{held_in};
 ghost use Rattle.answer_pairs.specs.Rules.{by_rules, by_size};
 ghost use Rattle.answer_nodes.specs.NodeSets.{OfSets};
 ghost use Rattle.answer_sheet.specs.Eights.{Spread, Fence, digit};
@@ -9,9 +8,8 @@ ghost use Rattle.answer_sheet.specs.Sheet.{RowIs, PhaseOnly, PhaseRow, RuleSets}
 
 use crate::eights::{BYTES, Planes, WORDS, put_phase, put_word};
 use answer_constructs::kinds::{RULES, Sets};
-use answer_constructs::mask_table::{ENDS, HELD, STARTS};
 use answer_nodes::{NodeSets, sharing};
-use answer_pairs::rules::{Profile, same};
+use answer_pairs::rules::Profile;
 use chart::format::Chart;
 use masks::bits::common;
 use masks::unions::Words;
@@ -23,10 +21,7 @@ const ALL: u64 = 0xffff_ffff_ffff_ffff;
 fn part(nodes: u64, digit: usize) -> u64
     ensures { result ≡ cond (eqb digit 0) 0 nodes }
 {
-    if digit == 0 {
-        return 0;
-    }
-    nodes
+    if digit == 0 { 0 } else { nodes }
 }
 
 // The nodes of a set, which had none so far, get this number.
@@ -35,10 +30,10 @@ fn give(p: Planes, nodes: u64, number: usize) -> Planes
     ensures { (j : ℕ) → (has nodes j ≡ true → digit p j ≡ 0) → digit result j ≡ cond (has nodes j) number (digit p j) }
 {
     Planes {
-        both: p.both,
         odd: p.odd | part(nodes, number % 2),
         twos: p.twos | part(nodes, number / 2 % 2),
         fours: p.fours | part(nodes, number / 4),
+        ..p
     }
 }
 
@@ -53,12 +48,10 @@ fn planes(both: u64, rules: &[u64; RULES]) -> Planes
         fours: 0,
     };
     let mut left = both;
-    let mut k = 0;
-    while k < RULES {
+    for k in 0..RULES {
         let hit = left & rules[k];
         p = give(p, hit, k + 2);
-        left = left ^ hit;
-        k += 1;
+        left ^= hit;
     }
     p
 }
@@ -101,16 +94,14 @@ fn fill_rules(
     high: &mut [u64; RULES],
 )
     requires { (length low.old ≡ 4) × (length middle.old ≡ 4) × (length high.old ≡ 4) }
-    ensures { OfSets nodes.now (λ closed marks. RuleSets closed (held_in marks) held sets.kinds low.new middle.new high.new) }
+    ensures { OfSets nodes.now (λ closed marks. RuleSets closed marks.held held sets.kinds low.new middle.new high.new) }
 {
     let kinds = sets.kinds;
-    let mut k = 0;
-    while k < RULES {
-        let words = sharing(held & kinds[k], HELD, nodes);
+    for k in 0..RULES {
+        let words = sharing(held & kinds[k], &nodes.held);
         low[k] = words.low;
         middle[k] = words.middle;
         high[k] = words.high;
-        k += 1;
     }
 }
 
@@ -118,10 +109,7 @@ fn fill_rules(
 fn phase_only(held: u64, sets: Sets) -> bool
     ensures { result ≡ true → PhaseOnly sets held }
 {
-    if sets.alone {
-        return false;
-    }
-    (held | sets.missing) == 0
+    !sets.alone && (held | sets.missing) == 0
 }
 
 // The row of such a node, from the nodes that share a start with it and those that share an end: no set of a kind of construct is joined.
@@ -152,8 +140,8 @@ pub fn work_row(
     requires { Spread spread.now × (length last.old ≡ 192) }
     ensures { (length last.new ≡ 192) × OfSets nodes.now (λ closed marks. Fence closed fence.now → RowIs closed sets marks own last.new) }
 {
-    let s = sharing(own.starts, STARTS, nodes);
-    let e = sharing(own.ends, ENDS, nodes);
+    let s = sharing(own.starts, &nodes.starts);
+    let e = sharing(own.ends, &nodes.ends);
     if phase_only(own.held, sets) {
         work_phase_row(s, e, fence, spread, last);
         return;
@@ -162,7 +150,7 @@ pub fn work_row(
     let mut middle = [0u64; RULES];
     let mut high = [0u64; RULES];
     fill_rules(own.held, sets, nodes, &mut low, &mut middle, &mut high);
-    let z = sharing(sets.missing, HELD, nodes);
+    let z = sharing(sets.missing, &nodes.held);
     let lacks = common(own.held, sets.missing);
     let first = ahead(planes(s.low & e.low, &low), sets.alone, lacks, z.low);
     put_word(first, 0, fence, spread, last);
@@ -194,10 +182,7 @@ pub fn keep_row(
         × (closed ≡ 0 → result ≡ own)
         × OfSets nodes.now (λ shut marks. Fence shut fence.now → RowIs shut sets marks kept last.old → RowIs shut sets marks result last.new) }
 {
-    if closed != 0 {
-        return kept;
-    }
-    if same(own, kept) {
+    if closed != 0 || own == kept {
         return kept;
     }
     work_row(own, sets, nodes, fence, spread, last);

@@ -10,40 +10,13 @@ ghost use Rattle.answer_constructs.specs.Marks.{Marks};
 
 use crate::eights::{BYTES, WORDS, fill_fence, fill_spread};
 use crate::rows::{keep_row, work_row};
-use answer_constructs::kinds::KindTable;
 use answer_constructs::mask_table::MaskTable;
 use answer_constructs::sizes::sets_for;
-use answer_nodes::{SETS, gather_all};
+use answer_nodes::{NodeSets, gather_all};
 use answer_pairs::rules::{Profile, profile_of};
 use chart::format::Chart;
 use mark_tables::closed::load_closed;
-use masks::unions::BITS;
 use theory_answers::{Answer, Size};
-
-// The scratch row, copied.
-fn copy_row(last: &[u8; Chart::NODES], out: &mut [u8])
-    requires { length out.old ≤ 192 }
-    ensures { (length out.new ≡ length out.old) × ((j : ℕ) → j < length out.old → get_or out.new j 0 ≡ get_or last.now j 0) }
-{
-    let n = out.len();
-    let mut b = 0;
-    while b < n {
-        out[b] = last[b];
-        b += 1;
-    }
-}
-
-// The row of a node that no claim may name.
-fn bar_row(out: &mut [u8])
-    ensures { (length out.new ≡ length out.old) × ((j : ℕ) → j < length out.old → get_or out.new j 0 ≡ 255) }
-{
-    let n = out.len();
-    let mut b = 0;
-    while b < n {
-        out[b] = Answer::BARRIER;
-        b += 1;
-    }
-}
 
 // Row a of the sheet fills `out`, which is the row's part of the buffer and nothing else. Where a claim may name node a, `last` is its row.
 pub fn fill_row(a: usize, closed: &[u8; Chart::NODES], last: &[u8; Chart::NODES], out: &mut [u8])
@@ -53,30 +26,23 @@ pub fn fill_row(a: usize, closed: &[u8; Chart::NODES], last: &[u8; Chart::NODES]
         → out.new ≡ row R f a }
 {
     if closed[a] != 0 {
-        bar_row(out);
-        return;
+        out.fill(Answer::BARRIER);
+    } else {
+        out.copy_from_slice(&last[..out.len()]);
     }
-    copy_row(last, out);
 }
 
 // The sheet fills the front of `out`: row a is the part that starts at a * n, lent on to the row's filler.
-pub fn fill_sheet(
-    s: &[u8],
-    chart: Chart,
-    size: Size,
-    marks: &MaskTable,
-    kinds: &KindTable,
-    out: &mut [u8],
-)
-    requires { Accepted s.now chart × Marks (reading s.now chart) marks.now kinds.now × (chart.nodes * chart.nodes ≤ length out.old) }
+pub fn fill_sheet(s: &[u8], chart: Chart, size: Size, marks: &MaskTable, out: &mut [u8])
+    requires { Accepted s.now chart × Marks (reading s.now chart) marks.now marks.now.kinds × (chart.nodes * chart.nodes ≤ length out.old) }
     ensures { let R = reading s.now chart in
         let result = sheet R (answer_for R size) in
         out.new ≡ result ++ drop (length result) out.old }
 {
-    let sets = sets_for(s, chart, size, kinds);
+    let sets = sets_for(s, chart, size, &marks.kinds);
     let mut closed = [0u8; Chart::NODES];
     load_closed(s, chart, &mut closed);
-    let mut nodes = [[0u64; BITS]; SETS];
+    let mut nodes = NodeSets::NONE;
     gather_all(chart.nodes, marks, &closed, &mut nodes);
     let mut fence = [0u64; WORDS];
     fill_fence(&closed, &mut fence);
@@ -90,8 +56,7 @@ pub fn fill_sheet(
     };
     work_row(kept, sets, &nodes, &fence, &spread, &mut last);
     let n = chart.nodes;
-    let mut a = 0;
-    while a < n {
+    for a in 0..n {
         kept = keep_row(
             profile_of(a, marks),
             closed[a],
@@ -103,6 +68,5 @@ pub fn fill_sheet(
             &mut last,
         );
         fill_row(a, &closed, &last, &mut out[a * n..(a + 1) * n]);
-        a += 1;
     }
 }

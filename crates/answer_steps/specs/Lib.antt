@@ -1,3 +1,4 @@
+pub mod Teams
 pub mod Tables
 pub mod Words
 pub mod Children

@@ -10,6 +10,8 @@ use Rattle.theory_answers.specs.Answer.{in_ordered_of}
 use Rattle.theory_traces.specs.Tests.{is_kind, is_section_of}
 use Rattle.theory_traces.specs.Decide.{taking}
 use Rattle.theory_traces.specs.declared.Effect.{Effect}
+use Rattle.answer_steps.specs.declared.tables.TeamTable.{TeamTable}
+use Rattle.answer_steps.specs.Teams.{thread_at, count_at, taken_at}
 use Rattle.theory_traces.specs.declared.Effect.TheVariants.{None, Moves, Leaves, Takes, TakesNext}
 
 -- A role, as its code and the number of its construct.
@@ -48,26 +50,28 @@ pub record Tabled (R : Region) (table : List ℕ) : Type 0 where
   pub ordereds : (d : ℕ) → d < 48 → get_or table (2085 + d) 0 ≡ mask_of (λ o. (is_kind (R.kind o) ordered && has (get_or table 2032 0) o) && eqb (R.parent o) d) R.constructs
 
 -- The table of a team.
-pub record Shows (σ : State) (team : List ℕ) : Type 0 where
-  pub long : length team ≡ 786
-  pub node : (t : ℕ) → t < 8 → get_or team (97 * t) 0 ≡ σ.node t
-  pub byte : (t : ℕ) → t < 8 → get_or team (97 * t) 0 < 256
-  pub count : (t c : ℕ) → t < 8 → c < 48 → get_or team (97 * t + 1 + c) 0 ≡ σ.encounters t c
-  pub taken : (t c : ℕ) → t < 8 → c < 48 → get_or team (97 * t + 49 + c) 0 ≡ mask_of (σ.taken t c) 48
+pub record Shows (σ : State) (team : TeamTable) : Type 0 where
+  pub long : length team.threads ≡ 8
+  pub room : length team.chosen ≡ 8
+  pub wide : (t : ℕ) → t < 8 → (length (thread_at team t).counts ≡ 48) × (length (thread_at team t).taken ≡ 48)
+  pub node : (t : ℕ) → t < 8 → (thread_at team t).node ≡ σ.node t
+  pub byte : (t : ℕ) → t < 8 → (thread_at team t).node < 256
+  pub count : (t c : ℕ) → t < 8 → c < 48 → count_at team t c ≡ σ.encounters t c
+  pub taken : (t c : ℕ) → t < 8 → c < 48 → taken_at team t c ≡ mask_of (σ.taken t c) 48
   -- the constructs that a release sets back: of any other nothing is counted and nothing taken
-  pub left : get_or team 785 0 < 2 ^ 48
-  pub others : (t c : ℕ) → t < 8 → c < 48 → (Has (get_or team 785 0) c → ⊥) → (get_or team (97 * t + 1 + c) 0 ≡ 0) × (get_or team (97 * t + 49 + c) 0 ≡ 0)
+  pub left : team.left < 2 ^ 48
+  pub others : (t c : ℕ) → t < 8 → c < 48 → (Has team.left c → ⊥) → (count_at team t c ≡ 0) × (taken_at team t c ≡ 0)
 
 -- Some region and some state have these tables, and no count is so large that one more could not be held.
-pub record Sound (table team : List ℕ) : Type 0 where
+pub record Sound (table : List ℕ) (team : TeamTable) : Type 0 where
   pub region : Region
   pub state : State
   pub tabled : Tabled region table
   pub shows : Shows state team
-  pub low : (t c : ℕ) → t < 8 → c < 48 → get_or team (97 * t + 1 + c) 0 + 1 < 18446744073709551616
+  pub low : (t c : ℕ) → t < 8 → c < 48 → count_at team t c + 1 < 18446744073709551616
 
 -- What holds of every region and every state that have these tables.
-abbrev pub OfStates : List ℕ → List ℕ → (Region → State → Type 0) → Type 0
+abbrev pub OfStates : List ℕ → TeamTable → (Region → State → Type 0) → Type 0
 OfStates table team X = (R : Region) (σ : State) → Tabled R table → Shows σ team → X R σ
 
 -- Thread k is t, or not inside an ordered of the do d, or in another instance of d.

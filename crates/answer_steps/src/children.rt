@@ -5,7 +5,6 @@ ghost use Rattle.answer_steps.specs.Children.{section_at, ordered_at, sort_at, C
 use crate::tables::{
     BEGINS, CONSTRUCTS, KINDS, MEMBERS, NUMBERS, OPENS, PARENTS, ROLES, RegionTable, SECTIONS, at,
 };
-use chart::cursor::wide;
 use chart::format::{Chart, Construct};
 use masks::bits::{bit, has};
 
@@ -21,7 +20,7 @@ fn is_section(table: &RegionTable, x: usize) -> bool
     if at(table, NUMBERS + begin) != x {
         return false;
     }
-    at(table, KINDS + x) == wide(Construct::SECTION)
+    at(table, KINDS + x) == usize::from(Construct::SECTION)
 }
 
 // x is an ordered of the region.
@@ -29,7 +28,7 @@ fn is_ordered(table: &RegionTable, x: usize) -> bool
     requires { (length table.now ≡ 2133) × (x < 48) }
     ensures { result ≡ ordered_at table.now x }
 {
-    if at(table, KINDS + x) != wide(Construct::ORDERED) {
+    if at(table, KINDS + x) != usize::from(Construct::ORDERED) {
         return false;
     }
     has(table[MEMBERS], x)
@@ -69,9 +68,7 @@ pub fn fill_children(which: usize, table: &mut RegionTable)
     ensures { Children which (get_or table.old 2033 0) table.old table.new }
 {
     let n = at(table, CONSTRUCTS);
-    let mut x = 0;
-    while x < n {
+    for x in 0..n {
         add_child(which, x, table);
-        x += 1;
     }
 }

@@ -8,8 +8,7 @@ ghost use Rattle.answer_steps.specs.Words.{Column, role_code, node_word, constru
 
 use crate::tables::{BYTES, KINDS, ROLES, RegionTable};
 use answer_constructs::chains::mask_at;
-use chart::cursor::wide;
-use chart::format::{Chart, Construct, Frames, Node};
+use chart::format::{Chart, Construct, Framing, Node};
 use masks::bits::{bit, has};
 
 // What a node is for the region.
@@ -20,7 +19,7 @@ fn role_code(node: Node, region: usize, members: u64) -> u64
     if node.kind == Node::PLAIN {
         return 0;
     }
-    let number = wide(node.number);
+    let number = usize::from(node.number);
     if number == region {
         return 1;
     }
@@ -42,7 +41,7 @@ fn place_of(s: &[u8], chart: Chart, x: usize) -> u8
     if node.kind < Node::BEGIN {
         return node.number;
     }
-    Construct::read(s, chart, wide(node.number)).parent
+    Construct::read(s, chart, usize::from(node.number)).parent
 }
 
 // One construct more, with those around it. Its parent is lower, and so done.
@@ -59,11 +58,8 @@ pub fn fill_above(s: &[u8], chart: Chart, above: &mut [u64; Chart::CONSTRUCTS])
     requires { Accepted s.now chart × (length above.old ≡ 48) }
     ensures { Above (decode s.now) chart.constructs above.new }
 {
-    let n = chart.constructs;
-    let mut c = 0;
-    while c < n {
+    for c in 0..chart.constructs {
         add_above(s, chart, c, above);
-        c += 1;
     }
 }
 
@@ -104,25 +100,15 @@ pub fn fill_nodes(
     requires { Accepted s.now chart × Above (decode s.now) chart.constructs above.now × (which < 3) × (length table.old ≡ 2133) }
     ensures { Column (1024 + 256 * which) chart.nodes (node_word (decode s.now) chart.region members which) table.old table.new }
 {
-    let n = chart.nodes;
-    let mut x = 0;
-    while x < n {
+    for x in 0..chart.nodes {
         table[ROLES + BYTES * which + x] = node_word(s, chart, members, above, which, x);
-        x += 1;
     }
 }
 
 // A word of construct c.
-fn construct_word(
-    s: &[u8],
-    chart: Chart,
-    begins: &Frames,
-    ends: &Frames,
-    which: usize,
-    c: usize,
-) -> u64
-    requires { Accepted s.now chart × (c < chart.constructs) × Nodes begins.now × Nodes ends.now }
-    ensures { result ≡ construct_word (decode s.now) begins.now ends.now which c }
+fn construct_word(s: &[u8], chart: Chart, framing: &Framing, which: usize, c: usize) -> u64
+    requires { Accepted s.now chart × (c < chart.constructs) × Nodes framing.now.begins × Nodes framing.now.ends }
+    ensures { result ≡ construct_word (decode s.now) framing.now.begins framing.now.ends which c }
 {
     let construct = Construct::read(s, chart, c);
     if which == 0 {
@@ -135,30 +121,24 @@ fn construct_word(
         return construct.filter as u64;
     }
     if which == 3 {
-        return begins[c] as u64;
+        return framing.begins[c] as u64;
     }
-    ends[c] as u64
+    framing.ends[c] as u64
 }
 
 // A column of the constructs.
 pub fn fill_constructs(
     s: &[u8],
     chart: Chart,
-    begins: &Frames,
-    ends: &Frames,
+    framing: &Framing,
     which: usize,
     table: &mut RegionTable,
 )
-    requires { Accepted s.now chart × (which < 5) × (length table.old ≡ 2133) × Nodes begins.now × Nodes ends.now }
-    ensures { let word = construct_word (decode s.now) begins.now ends.now which in
+    requires { Accepted s.now chart × (which < 5) × (length table.old ≡ 2133) × Nodes framing.now.begins × Nodes framing.now.ends }
+    ensures { let word = construct_word (decode s.now) framing.now.begins framing.now.ends which in
         Column (1792 + 48 * which) chart.constructs word table.old table.new }
 {
-    let n = chart.constructs;
-    let mut c = 0;
-    while c < n {
-        table[KINDS + Chart::CONSTRUCTS * which + c] = construct_word(
-            s, chart, begins, ends, which, c,
-        );
-        c += 1;
+    for c in 0..chart.constructs {
+        table[KINDS + Chart::CONSTRUCTS * which + c] = construct_word(s, chart, framing, which, c);
     }
 }

@@ -14,7 +14,6 @@ use crate::tables::{
     at, count_of, leads, node_of,
 };
 use crate::tests::{is_untaken, may_enter, may_leave, may_pass};
-use chart::cursor::wide;
 use chart::format::Construct;
 use theory_traces::Effect;
 
@@ -27,10 +26,10 @@ fn takes(table: &RegionTable, team: &TeamTable, m: usize, c: usize, instance: u6
         return false;
     }
     let x = at(table, NUMBERS + v);
-    if at(table, KINDS + c) != wide(Construct::SECTIONS) {
+    if at(table, KINDS + c) != usize::from(Construct::SECTIONS) {
         return false;
     }
-    if at(table, KINDS + x) != wide(Construct::SECTION) {
+    if at(table, KINDS + x) != usize::from(Construct::SECTION) {
         return false;
     }
     if at(table, PARENTS + x) != c {
@@ -77,7 +76,7 @@ fn again(table: &RegionTable, v: usize, c: usize) -> bool
     requires { (R : Region) × Tabled R table.now × (v < 256) × (c < get_or table.now 2033 0) }
     ensures { (R : Region) → Tabled R table.now → result ≡ (is_kind (R.kind c) loop && R.edge (R.begin c) v) }
 {
-    if at(table, KINDS + c) != wide(Construct::DO) {
+    if at(table, KINDS + c) != usize::from(Construct::DO) {
         return false;
     }
     leads(table, at(table, BEGINS + c), v)

@@ -7,7 +7,6 @@ ghost use Rattle.answer_steps.specs.Tables.{Leads};
 ghost use Rattle.answer_steps.specs.Words.{Beside, Nodes, Marked};
 
 use crate::tables::{RegionTable, WORDS};
-use chart::cursor::wide;
 use chart::format::Chart;
 use mark_tables::fill::load_edges;
 use masks::bits::bit;
@@ -19,13 +18,11 @@ fn mark_edges(edges: &[[u8; Chart::EDGES]; Parts::ROWS], n: usize, table: &mut R
     requires by_index { (j : ℕ) → j < 1024 → get_or table.old j 0 ≡ 0 }
     ensures { Marked (row edges.now 0) (row edges.now 1) n table.new × Beside 0 1024 table.old table.new }
 {
-    let mut i = 0;
-    while i < n {
-        let from = wide(edges[Parts::FROM][i]);
-        let to = wide(edges[Parts::TO][i]);
+    for i in 0..n {
+        let from = usize::from(edges[Parts::FROM][i]);
+        let to = usize::from(edges[Parts::TO][i]);
         let at = WORDS * from + to / 64;
         table[at] = bit(to % 64) | table[at];
-        i += 1;
     }
 }
 

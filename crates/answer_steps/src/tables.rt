@@ -1,6 +1,7 @@
 // What a step reads: a table of the region, made once for a trace, and the table of the team.
 ghost use Rattle.std.specs.Prelude.{◌≡◌, ◌+◌, ◌*◌, ◌/◌, ◌%◌, ◌<◌, length, get_or};
 ghost use Rattle.lists.specs.Bits.{has as has_bit};
+ghost use Rattle.answer_steps.specs.Teams.{thread_at, count_at, taken_at};
 
 use chart::format::Chart;
 use masks::bits::has;
@@ -56,24 +57,29 @@ pub const OPENS: usize = 2;
 
 pub const CLOSES: usize = 3;
 
-// The table of a team: for each thread its node, its counts and the masks of the sections that it has taken; then the nodes chosen for a release
-// that is not yet whole, how many they are, and what a release sets back.
-pub type TeamTable = [u64; TEAM];
+// The table of a team: what each thread has done, the nodes chosen for a release that is not yet whole and how many they are, and what a release sets back.
+#[derive(Clone, Copy)]
+pub struct TeamTable {
+    pub threads: [Thread; Thread::MOST],
+    pub chosen: [u8; Thread::MOST],
+    pub pending: usize,
+    // the mask of the constructs of which some thread has a count, or sections taken
+    pub left: u64,
+}
 
-pub const COUNTS: usize = 1;
-
-pub const TAKEN: usize = COUNTS + Chart::CONSTRUCTS;
-
-pub const THREAD: usize = TAKEN + Chart::CONSTRUCTS;
-
-pub const CHOSEN: usize = Thread::MOST * THREAD;
-
-pub const PENDING: usize = CHOSEN + Thread::MOST;
-
-// The mask of the constructs of which some thread has a count, or sections taken.
-pub const LEFT: usize = PENDING + 1;
-
-pub const TEAM: usize = LEFT + 1;
+impl TeamTable {
+    // Of which nothing is known.
+    pub const BLANK: TeamTable = TeamTable {
+        threads: [Thread {
+            node: 0,
+            counts: [0; Chart::CONSTRUCTS],
+            taken: [0; Chart::CONSTRUCTS],
+        }; Thread::MOST],
+        chosen: [0; Thread::MOST],
+        pending: 0,
+        left: 0,
+    };
+}
 
 // A number of the region's table.
 pub fn at(table: &RegionTable, place: usize) -> usize
@@ -93,24 +99,24 @@ pub fn leads(table: &RegionTable, x: usize, y: usize) -> bool
 
 // The node of a thread.
 pub fn node_of(team: &TeamTable, t: usize) -> usize
-    requires { (length team.now ≡ 786) × (t < 8) }
-    ensures { result ≡ get_or team.now (97 * t) 0 }
+    requires { t < 8 }
+    ensures { result ≡ (thread_at team.now t).node }
 {
-    team[THREAD * t] as usize
+    usize::from(team.threads[t].node)
 }
 
 // How often it has left the begin of c.
 pub fn count_of(team: &TeamTable, t: usize, c: usize) -> u64
-    requires { (length team.now ≡ 786) × (t < 8) × (c < 48) }
-    ensures { result ≡ get_or team.now (97 * t + 1 + c) 0 }
+    requires { (t < 8) × (c < 48) }
+    ensures { result ≡ count_at team.now t c }
 {
-    team[THREAD * t + COUNTS + c]
+    team.threads[t].counts[c]
 }
 
 // The sections that it has taken of c.
 pub fn taken_of(team: &TeamTable, t: usize, c: usize) -> u64
-    requires { (length team.now ≡ 786) × (t < 8) × (c < 48) }
-    ensures { result ≡ get_or team.now (97 * t + 49 + c) 0 }
+    requires { (t < 8) × (c < 48) }
+    ensures { result ≡ taken_at team.now t c }
 {
-    team[THREAD * t + TAKEN + c]
+    team.threads[t].taken[c]
 }

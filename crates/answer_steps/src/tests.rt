@@ -10,22 +10,19 @@ use crate::tables::{
     INSIDES, KINDS, ORDEREDS, PARENTS, RegionTable, SECTIONS, THREADS, TeamTable, at, count_of,
     node_of, taken_of,
 };
-use chart::cursor::wide;
 use chart::format::Construct;
 use masks::bits::{common, has};
 
 // No thread has left the begin of c as often as t is about to.
 fn is_first(team: &TeamTable, m: usize, t: usize, c: usize) -> bool
-    requires { (length team.now ≡ 786) × (m ≤ 8) × (t < 8) × (c < 48) }
+    requires { (m ≤ 8) × (t < 8) × (c < 48) }
     ensures { (σ : State) → Shows σ team.now → result ≡ is_first m σ t c }
 {
     let own = count_of(team, t, c);
-    let mut k = 0;
-    while k < m {
+    for k in 0..m {
         if own < count_of(team, k, c) {
             return false;
         }
-        k += 1;
     }
     true
 }
@@ -57,19 +54,17 @@ fn none_ordered(table: &RegionTable, team: &TeamTable, m: usize, t: usize, d: us
     requires { Sound table.now team.now × (m ≤ 8) × (t < 8) × (d < 48) }
     ensures { OfStates table.now team.now (λ R σ. result ≡ none_ordered R m σ t d) }
 {
-    let mut k = 0;
-    while k < m {
+    for k in 0..m {
         if !not_beside(table, team, t, d, k) {
             return false;
         }
-        k += 1;
     }
     true
 }
 
 // Thread t is not past the given instance of c, and has not taken the section x there.
 fn untaken_by(team: &TeamTable, c: usize, instance: u64, x: usize, t: usize) -> bool
-    requires { (length team.now ≡ 786) × (c < 48) × (x < 48) × (t < 8) }
+    requires { (c < 48) × (x < 48) × (t < 8) }
     ensures { (σ : State) → Shows σ team.now → result ≡ untaken_by σ c instance x t }
 {
     let own = count_of(team, t, c);
@@ -84,15 +79,13 @@ fn untaken_by(team: &TeamTable, c: usize, instance: u64, x: usize, t: usize) -> 
 
 // No thread is past that instance of c, and none has taken the section x there.
 pub fn is_untaken(team: &TeamTable, m: usize, c: usize, instance: u64, x: usize) -> bool
-    requires { (length team.now ≡ 786) × (m ≤ 8) × (c < 48) × (x < 48) }
+    requires { (m ≤ 8) × (c < 48) × (x < 48) }
     ensures { (σ : State) → Shows σ team.now → result ≡ is_untaken m σ c instance x }
 {
-    let mut t = 0;
-    while t < m {
+    for t in 0..m {
         if !untaken_by(team, c, instance, x, t) {
             return false;
         }
-        t += 1;
     }
     true
 }
@@ -118,10 +111,8 @@ fn all_taken(table: &RegionTable, team: &TeamTable, m: usize, c: usize, instance
     ensures { OfStates table.now team.now (λ R σ. result ≡ all_taken R m σ c instance) }
 {
     let mut taken = 0;
-    let mut t = 0;
-    while t < m {
+    for t in 0..m {
         taken = taken | taken_by(table, team, c, instance, t);
-        t += 1;
     }
     let sections = table[SECTIONS + c];
     (taken & sections) == sections
@@ -133,19 +124,19 @@ pub fn may_enter(table: &RegionTable, team: &TeamTable, m: usize, t: usize, c: u
     ensures { OfStates table.now team.now (λ R σ. result ≡ may_enter R m σ t c (R.kind c)) }
 {
     let kind = at(table, KINDS + c);
-    if kind == wide(Construct::SINGLE) {
+    if kind == usize::from(Construct::SINGLE) {
         return is_first(team, m, t, c);
     }
-    if kind == wide(Construct::MASTER) {
+    if kind == usize::from(Construct::MASTER) {
         return t == at(table, THREADS + c);
     }
-    if kind == wide(Construct::ORDERED) {
+    if kind == usize::from(Construct::ORDERED) {
         return none_ordered(table, team, m, t, at(table, PARENTS + c));
     }
-    if kind == wide(Construct::SECTIONS) {
+    if kind == usize::from(Construct::SECTIONS) {
         return false;
     }
-    kind != wide(Construct::PARALLEL)
+    kind != usize::from(Construct::PARALLEL)
 }
 
 // It may go straight to the end of c. A single or a master is passed by whoever may not enter it.
@@ -154,16 +145,16 @@ pub fn may_pass(table: &RegionTable, team: &TeamTable, m: usize, t: usize, c: us
     ensures { OfStates table.now team.now (λ R σ. result ≡ may_pass R m σ t c (R.kind c)) }
 {
     let kind = at(table, KINDS + c);
-    if kind == wide(Construct::SINGLE) {
+    if kind == usize::from(Construct::SINGLE) {
         return !may_enter(table, team, m, t, c);
     }
-    if kind == wide(Construct::MASTER) {
+    if kind == usize::from(Construct::MASTER) {
         return !may_enter(table, team, m, t, c);
     }
-    if kind == wide(Construct::SECTIONS) {
+    if kind == usize::from(Construct::SECTIONS) {
         return all_taken(table, team, m, c, count_of(team, t, c) + 1);
     }
-    kind == wide(Construct::DO)
+    kind == usize::from(Construct::DO)
 }
 
 // Thread t, at the end of c, may take an edge.
@@ -171,7 +162,7 @@ pub fn may_leave(table: &RegionTable, team: &TeamTable, m: usize, t: usize, c: u
     requires { Sound table.now team.now × (m ≤ 8) × (t < 8) × (c < get_or table.now 2033 0) }
     ensures { OfStates table.now team.now (λ R σ. result ≡ may_leave R m σ t c) }
 {
-    if at(table, KINDS + c) != wide(Construct::SECTIONS) {
+    if at(table, KINDS + c) != usize::from(Construct::SECTIONS) {
         return true;
     }
     all_taken(table, team, m, c, count_of(team, t, c))

@@ -8,17 +8,15 @@ ghost use Rattle.theory_calls.specs.Judged.{judged_for, number_of as judged_numb
 
 use crate::written;
 use call_judge::number::number_of;
-use chart::cursor::wide;
 use output::signed::{counted, negated};
 use theory_answers::Size;
-use theory_calls::Answered;
 
 pub fn pair(chart: &[u8], region: usize, size: Size, a: usize, b: usize) -> i64
     ensures { result ≡ pair_number_of (pair_answered_for chart.now region size a b) }
 {
     match call_pair::pair::pair(chart, region, size, a, b) {
-        Answered::Answer(answer) => counted(wide(answer.number)),
-        Answered::Refused(refusal) => negated(refusal),
+        Ok(answer) => counted(usize::from(answer.number)),
+        Err(refusal) => negated(refusal),
     }
 }
 

@@ -2,15 +2,14 @@
 ghost use Rattle.std.specs.Prelude.{◌≡◌};
 ghost use Rattle.theory_calls.specs.Witness.{number_of};
 
+use chart::format::Refusal;
 use output::signed::{counted, negated};
-use theory_calls::Witnessed;
 
-pub fn number_of(witnessed: Witnessed) -> i64
+pub fn number_of(witnessed: Result<bool, Refusal>) -> i64
     ensures { result ≡ number_of witnessed }
 {
     match witnessed {
-        Witnessed::Yes => counted(1),
-        Witnessed::No => counted(0),
-        Witnessed::Refused(refusal) => negated(refusal),
+        Ok(holds) => { if holds { counted(1) } else { counted(0) } }
+        Err(refusal) => negated(refusal),
     }
 }

@@ -2,21 +2,20 @@
 -- the nodes that have it are united, node by node; and their number is summed, start by start.
 -- Assumes nothing.
 use mathlib.Core.Path.{◌≡◌, refl, sym, ◌∙◌}
-use mathlib.Core.Bool.{Bool, true, false, ◌&&◌, ◌||◌, cond}
+use mathlib.Core.Bool.{Bool, true, false, ◌&&◌, ◌||◌, not, cond}
 use mathlib.Core.List.{List}
 use Prim.Native.Nat.{ℕ, ◌+◌, ◌/◌, ◌%◌, ◌^◌, ◌<◌}
-use native.Mathlib.Decide.{ℕ_discrete}
 use native.Mathlib.Numerals.{add-one}
 use lib.Bits.{bit_or}
 use lib.Count.{ones}
 use lib.Dec.{eqb}
-use lib.ListN.{length, get_or, replicate, length-replicate}
-use borrow.Author.Tests.{eq-eqb, ne_eqb}
+use lib.ListN.{length, get_or, replicate}
+use borrow.Author.Tests.{eqb-true, ne_eqb}
 use Rattle.lists.specs.Range.{any, count_pairs, count-pairs-more}
 use Rattle.lists.specs.Mask.{has-none, mask_of}
 use Rattle.lists.specs.Bits.{has, has_of, mask-empty, mask-same, or-mask, or-again, ones-mask}
 use Rattle.lists.specs.Store.{zeros}
-use Rattle.lists.specs.Truth.{or-false}
+use Rattle.lists.specs.Truth.{and_both, or-false}
 use Rattle.chart.specs.Region.{Region}
 use Rattle.theory_paths.specs.Phases.{forward, backward, barriers, marked, marks, phase}
 use Rattle.mark_tables.specs.Tables.{Masks}
@@ -24,7 +23,7 @@ use Rattle.masks.specs.Unions.{Added}
 use Rattle.call_admit.specs.Unions.{among, United}
 
 -- adding the same once more changes nothing
-added-again : {old : List ℕ} {starts ends : ℕ} {new : List ℕ} → Added old starts ends new → Added new starts ends new
+pub added-again : {old : List ℕ} {starts ends : ℕ} {new : List ℕ} → Added old starts ends new → Added new starts ends new
 added-again {old} {starts} {ends} {new} a = record { long = a.long; at = λ b l. go b l (has starts b) (a.at b l) }
   where
     go : (b : ℕ) → b < 64 → (t : Bool) → get_or new b 0 ≡ cond t (bit_or (get_or old b 0) ends) (get_or old b 0)
@@ -32,20 +31,20 @@ added-again {old} {starts} {ends} {new} a = record { long = a.long; at = λ b l.
     go b l true e = rw (e, or-again (get_or old b 0) ends)
     go b l false e = refl
 
--- nor does adding what was added last, whichever node this was
-pub added-latest : {old : List ℕ} {starts ends last-starts last-ends : ℕ} {new : List ℕ} (r v : ℕ) → Added old last-starts last-ends old
-    → Added old starts ends new → r ≡ cond (eqb starts 0) last-starts starts → v ≡ cond (eqb starts 0) last-ends ends → Added new r v new
-added-latest {old} {starts} {ends} {last-starts} {last-ends} {new} r v o a e f = go (ℕ_discrete starts 0)
+-- nor does adding to no sets
+pub added-to-none : {old : List ℕ} {starts : ℕ} (ends : ℕ) → starts ≡ 0 → length old ≡ 64 → Added old starts ends old
+added-to-none ends e long = record { long = long; at = λ b l. rw (e, ne_eqb (0 / 2 ^ b % 2) 1 (has-none b)) }
+
+-- nor does adding the sets of a node again that was added last
+pub added-same : {old : List ℕ} (starts ends last-starts last-ends : ℕ) {different : Bool} → different ≡ false
+    → different ≡ not (eqb starts last-starts && eqb ends last-ends) → Added old last-starts last-ends old → Added old starts ends old
+added-same {old} starts ends last-starts last-ends n e a =
+    let same = and_both _ _ (not-false _ (sym e ∙ n)) in
+    rw (eqb-true starts last-starts same.0, eqb-true ends last-ends same.1) a
   where
-    same : starts ≡ 0 → (b : ℕ) → b < 64 → get_or new b 0 ≡ get_or old b 0
-    same z b l = a.at b l ∙ rw (z, ne_eqb (0 / 2 ^ b % 2) 1 (has-none b))
-
-    go : Dec (starts ≡ 0) → Added new r v new
-    go (yes z) = rw (e, f, eq-eqb starts 0 z) (record { long = a.long; at = λ b l. rw (same z b l) (o.at b l) })
-    go (no n) = rw (e, f, ne_eqb starts 0 n) (added-again a)
-
-pub added_none : Added (replicate 64 0) 0 0 (replicate 64 0)
-added_none = record { long = length-replicate {A = ℕ} 64 0; at = λ b l. rw (ne_eqb (0 / 2 ^ b % 2) 1 (has-none b)) }
+    not-false : (b : Bool) → not b ≡ false → b ≡ true
+    not-false true h = refl
+    not-false false h = sym h
 
 -- one node after the other
 

@@ -5,26 +5,28 @@ ghost use Rattle.theory_calls.specs.Admission.{admitted};
 use crate::count::count;
 use chart::format::{Chart, Refusal};
 use mark_regions::entrance::enter;
-use mark_regions::outermost::Entered;
-use theory_calls::{Admission, Counts};
+use mark_regions::outermost::Marked;
+use theory_calls::Counts;
 
 // The first of rows 1 to 10 that applies, or the counts of the chart.
-pub fn admit(s: &[u8]) -> Admission
+pub fn admit(s: &[u8]) -> Result<Counts, Refusal>
     ensures { result ≡ admitted s.now }
 {
     let mut starts = [0u64; Chart::NODES];
     let mut ends = [0u64; Chart::NODES];
     let mut levels = [0u8; Chart::NODES];
-    match enter(s, Chart::OUTERMOST, &mut starts, &mut ends, &mut levels) {
-        Entered::Refused(refusal) => Admission::Refused(refusal),
-        Entered::Marked(chart, barriers) => {
-            let nodes = chart.nodes;
-            let phases = count(&starts, &ends, nodes, barriers);
-            Admission::Admitted(Counts {
-                nodes,
-                barriers,
-                phases,
-            })
-        }
-    }
+    let Marked { chart, barriers } = enter(
+        s,
+        Chart::OUTERMOST,
+        &mut starts,
+        &mut ends,
+        &mut levels,
+    )?;
+    let nodes = chart.nodes;
+    let phases = count(&starts, &ends, nodes, barriers);
+    Ok(Counts {
+        nodes,
+        barriers,
+        phases,
+    })
 }

@@ -10,33 +10,11 @@ use chart::format::Chart;
 use masks::bits::ones;
 use masks::unions::add;
 
-// The ends are added for each of the starts, but nothing is done where starts and ends are those that were added last.
-fn add_new(
-    unions: &mut [u64; Chart::BARRIERS],
+// The starts and the ends of a node.
+#[derive(Clone, Copy, PartialEq, Eq)]
+struct Node {
     starts: u64,
     ends: u64,
-    last_starts: u64,
-    last_ends: u64,
-)
-    requires { Added unions.old last_starts last_ends unions.old }
-    ensures { Added unions.old starts ends unions.new }
-{
-    if starts == last_starts {
-        if ends == last_ends {
-            return;
-        }
-    }
-    add(unions, starts, ends);
-}
-
-// What was added last: where a node has no starts, as before.
-fn latest(starts: u64, new: u64, old: u64) -> u64
-    ensures { result ≡ cond (eqb starts 0) old new }
-{
-    if starts == 0 {
-        return old;
-    }
-    new
 }
 
 // For each start the ends of the nodes that have it.
@@ -50,14 +28,17 @@ fn unite(
     ensures { (R : Region) → n ≡ R.nodes → Masks forward R starts.now → Masks backward R ends.now → United R R.nodes unions.new }
 {
     *unions = [0u64; Chart::BARRIERS];
-    let mut last_starts = 0;
-    let mut last_ends = 0;
-    let mut x = 0;
-    while x < n {
-        add_new(unions, starts[x], ends[x], last_starts, last_ends);
-        last_starts = latest(starts[x], starts[x], last_starts);
-        last_ends = latest(starts[x], ends[x], last_ends);
-        x += 1;
+    // What was added last: adding it again, or to no starts, changes nothing.
+    let mut last = Node { starts: 0, ends: 0 };
+    for x in 0..n {
+        let node = Node {
+            starts: starts[x],
+            ends: ends[x],
+        };
+        if node.starts != 0 && node != last {
+            add(unions, node.starts, node.ends);
+            last = node;
+        }
     }
 }
 
@@ -74,10 +55,8 @@ pub fn count(
     let mut unions = [0u64; Chart::BARRIERS];
     unite(starts, ends, n, &mut unions);
     let mut sum = 0;
-    let mut b = 0;
-    while b < total {
-        sum += ones(unions[b]);
-        b += 1;
+    for union in &unions[..total] {
+        sum += ones(*union);
     }
     sum
 }

@@ -1,5 +1,6 @@
 -- What the answer of rows 1 to 10 says, of a chart that is all of its bytes and of one in the front of a buffer.
 -- Assumes nothing.
+use Rattle.std.specs.Prelude.{Ok, Err}
 use mathlib.Core.Path.{◌≡◌, refl, ap}
 use mathlib.Core.List.{List}
 use mathlib.Core.Option.{Option, none, some}
@@ -12,25 +13,25 @@ use Rattle.chart.specs.Refusal.{first_of, trailer_rows, chart_rows}
 use Rattle.chart.specs.Checked.{checked_by}
 use Rattle.chart.specs.declared.format.Chart.{Chart}
 use Rattle.chart.specs.declared.format.Refusal.{Refusal}
-use Rattle.chart.specs.declared.format.Checked.TheVariants.{Passed, Refused}
 use Rattle.chart.proofs.Rows.{none-applies, both-pass}
 use Rattle.theory_paths.specs.Admission.{admit_rows, Admitted}
 use Rattle.theory_edits.specs.Edits.{length_row}
 use Rattle.call_edges.proofs.Splicing.{room}
 use Rattle.call_edges.specs.Asking.{front_rows}
+use Rattle.chart.specs.declared.format.Refusal.TheVariants.{BadLengths}
 
 -- an answer read backwards
-pub passed_none : (o : Option ℕ) (counts : Chart) {chart : Chart} → checked_by o counts ≡ Passed chart → (o ≡ none) × (chart ≡ counts)
+pub passed_none : (o : Option Refusal) (counts : Chart) {chart : Chart} → checked_by o counts ≡ Ok chart → (o ≡ none) × (chart ≡ counts)
 unfolding checked_by
 passed_none none counts h = (refl, cc)
-passed_none (some number) counts h = absurd (bad (cc))
+passed_none (some refusal) counts h = absurd (bad (cc))
 
-pub refused-some : (o : Option ℕ) (counts : Chart) {refusal : Refusal} → checked_by o counts ≡ Refused refusal → o ≡ some refusal.number
+pub refused-some : (o : Option Refusal) (counts : Chart) {refusal : Refusal} → checked_by o counts ≡ Err refusal → o ≡ some refusal
 unfolding checked_by
 refused-some none counts h = absurd (bad (cc))
-refused-some (some number) counts {refusal} h = ap some (ap (λ (r : Refusal). r.number) same)
+refused-some (some given) counts {refusal} h = ap some same
   where
-    same : record { number = number } ≡ refusal
+    same : given ≡ refusal
     same = cc
 
 module _ (s : List ℕ) (admits : Admitted s) where
@@ -45,7 +46,7 @@ module _ (s : List ℕ) (admits : Admitted s) where
   chart-most = (room s trailer-passes 0 (omega arith)).most
 
 module _ (buffer : List ℕ) (len : ℕ) where
-  pub beyond : length buffer < len → first_of (front_rows buffer len) ≡ some 4
+  pub beyond : length buffer < len → first_of (front_rows buffer len) ≡ some BadLengths
   unfolding length_row first_of
   beyond l = rw (lt-ltb (length buffer) len l)
 

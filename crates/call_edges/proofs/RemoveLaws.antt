@@ -1,5 +1,6 @@
 -- Removal: the rows of the present chart, row 19 and the rows of the shorter chart, which is copied to the front of the buffer.
 -- Assumes nothing.
+use Rattle.std.specs.Prelude.{Result, Ok, Err}
 use mathlib.Core.Path.{◌≡◌, ap, sym, ◌∙◌}
 use mathlib.Core.Logic.{inl, inr}
 use mathlib.Core.Bool.{true, false, not}
@@ -18,8 +19,6 @@ use Rattle.chart.specs.declared.format.Refusal.{Refusal}
 use Rattle.chart.proofs.Rows.{first-decides, second-decides}
 use Rattle.theory_paths.specs.Admission.{admit_rows, Admitted}
 use Rattle.output.specs.Output.{content, written_by, left_by}
-use Rattle.output.specs.declared.Written.{Written}
-use Rattle.output.specs.declared.Written.TheVariants.{Bytes, Refused}
 use Rattle.output.proofs.Outputs.{refused}
 use Rattle.theory_edits.specs.Splice.{removed}
 use Rattle.theory_edits.specs.Edits.{no_edge_row, remove_rows, remove_written, remove_left}
@@ -29,12 +28,13 @@ use Rattle.theory_edits.proofs.NoNode.{no-node-lacking, as_bytes}
 use Rattle.call_edges.specs.Asking.{front_rows}
 use Rattle.call_edges.proofs.CheckLaws.{within, front-admitted}
 use Rattle.call_edges.specs.Removing.{short_rows, short_left}
+use Rattle.chart.specs.declared.format.Refusal.TheVariants.{NoEdge}
 
-pub apart : {refusal : Refusal} {count : ℕ} → Refused refusal ≡ Bytes count → ⊥
+pub apart : {refusal : Refusal} {count : ℕ} → Err refusal ≡ Ok count → ⊥
 apart h = bad (cc)
 
 module _ (s : List ℕ) (x y : ℕ) where
-  pub no_edge : not (edge_in (decode s).edges x y) ≡ true → first_of (short_rows s x y) ≡ some 19
+  pub no_edge : not (edge_in (decode s).edges x y) ≡ true → first_of (short_rows s x y) ≡ some NoEdge
   unfolding no_edge_row first_of
   no_edge h = rw h
 
@@ -56,13 +56,13 @@ module _ (buffer : List ℕ) (len x y : ℕ) where
   abbrev s : List ℕ
   s = take len buffer
 
-  pub front-refused : (number : ℕ) → first_of (front_rows buffer len) ≡ some number
-      → (Refused (record { number = number }) ≡ remove_written buffer len x y) × (buffer ≡ remove_left buffer len x y)
+  pub front-refused : (refusal : Refusal) → first_of (front_rows buffer len) ≡ some refusal
+      → (Err refusal ≡ remove_written buffer len x y) × (buffer ≡ remove_left buffer len x y)
   unfolding remove_written remove_left remove_rows
-  front-refused number h = refused (front_rows buffer len ++ short_rows s x y) _ _ buffer (first-decides (front_rows buffer len) (short_rows s x y) number h)
+  front-refused refusal h = refused (front_rows buffer len ++ short_rows s x y) _ _ buffer (first-decides (front_rows buffer len) (short_rows s x y) refusal h)
 
   -- numbers that fit no byte name no edge
-  pub front-passed : {r : Written} {new : List ℕ} → first_of (front_rows buffer len) ≡ none → r ≡ written_by (short_rows s (min x 255) (min y 255)) (len - 2)
+  pub front-passed : {r : Result ℕ Refusal} {new : List ℕ} → first_of (front_rows buffer len) ≡ none → r ≡ written_by (short_rows s (min x 255) (min y 255)) (len - 2)
       → new ≡ left_by (short_rows s (min x 255) (min y 255)) (short_left s (min x 255) (min y 255)) buffer
       → (r ≡ remove_written buffer len x y) × (new ≡ remove_left buffer len x y)
   unfolding remove_written remove_left remove_rows written_by left_by content

@@ -1,16 +1,17 @@
 -- The parts of a chart with one edge more, or one less, put together; and how an edge is found.
 -- Assumes nothing.
 use mathlib.Core.Path.{◌≡◌, refl, ap, sym, ◌∙◌}
-use mathlib.Core.Logic.{◌≢◌}
-use mathlib.Core.Bool.{Bool, true, false, not, cond}
+use mathlib.Core.Bool.{Bool, true, false, not, ◌&&◌, cond}
 use mathlib.Core.List.{List, [], ◌∷◌, ◌++◌}
 use mathlib.Core.Option.{none}
 use Prim.Native.Nat.{ℕ, ◌+◌, ◌*◌, ◌-◌, ◌≤◌, ◌<◌}
 use native.Mathlib.Omega.{arith}
 use lib.Dec.{eqb}
 use lib.ListN.{length, take}
+use lib.Seq.{length-take-le}
 use borrow.Author.Tests.{eq-eqb}
-use Rattle.lists.specs.Truth.{false-if, same_truth}
+use mir.Val.{bool_byte}
+use Rattle.lists.specs.Truth.{both-and, false-if, same_truth}
 use Rattle.lists.specs.Range.{count, at-any, count_most, count-more}
 use Rattle.chart.specs.Format.{Edge, decode, edge_at, construct_bytes}
 use Rattle.chart.specs.Reading.{edge_in}
@@ -24,13 +25,22 @@ use Rattle.chart_writing.specs.BytesLaws.{same-trailer}
 use Rattle.chart_writing.specs.Trailer.{trailer_for, small-edition, trailer-is}
 use Rattle.chart_writing.proofs.Putting.{chained}
 use Rattle.theory_edits.specs.Splice.{place, longer, shorter, record_at, records_from, inserted, removed}
+use Rattle.call_edges.specs.Splicing.{LaidAs}
 use Rattle.theory_edits.specs.PlaceLaws.{Rising, at_place}
+
+pub byte-is : (b : Bool) → bool_byte b ≡ cond b 1 0
+byte-is true = refl
+byte-is false = refl
+
+pub byte_most : (b : Bool) → bool_byte b ≤ 1
+byte_most true = omega arith
+byte_most false = omega arith
 
 -- the place, counted edge by edge
 pub place-more : (edges : List Edge) (x y i : ℕ) {sum r : ℕ} → sum ≡ count i (λ k. rises (edge_at edges k).from (edge_at edges k).to x y)
-    → r ≡ cond (rises (edge_at edges i).from (edge_at edges i).to x y) 1 0
+    → r ≡ bool_byte (rises (edge_at edges i).from (edge_at edges i).to x y)
     → sum + r ≡ count (i + 1) (λ k. rises (edge_at edges k).from (edge_at edges k).to x y)
-place-more edges x y i e f = rw (e, f) (sym (count-more i (λ k. rises (edge_at edges k).from (edge_at edges k).to x y)))
+place-more edges x y i e f = rw (e, f, byte-is) (sym (count-more i (λ k. rises (edge_at edges k).from (edge_at edges k).to x y)))
 
 pub place-most : (s : List ℕ) (chart : Chart) → Laid s chart → (x y : ℕ) → place (decode s).edges x y ≤ chart.edges
 unfolding place
@@ -126,6 +136,17 @@ module _ (s : List ℕ) (passes : first_of (trailer_rows s) ≡ none) where
         let all = q ∙ ap (λ (l : List ℕ). l ++ rest) p ∙ whole in
         chained (removed s x y) (0 ∷ []) (0 ∷ []) (r ∙ ap (λ (l : List ℕ). l ++ (0 ∷ [])) all) t
 
+-- a chart whose counts these are: a record among its edges, and the one at the place of an edge
+pub room_at : (s : List ℕ) (chart : Chart) → LaidAs s chart → (place : ℕ) → place ≤ chart.edges → Room s chart (4 * chart.nodes + 2 * place)
+room_at s chart (passes, is) place l = rw is (room s passes place (rw is at l))
+
+pub room_for : (s : List ℕ) (chart : Chart) → LaidAs s chart → (x y n : ℕ) → n ≡ place (decode s).edges x y → Room s chart (4 * chart.nodes + 2 * n)
+room_for s chart (passes, is) x y n e = rw (e, is) (room s passes _ (place-most s _ (laid s passes) x y))
+
+-- the bytes before it
+pub front-room : {s : List ℕ} {chart : Chart} (at : ℕ) → Room s chart at → length (take at s) ≡ at
+front-room {s} at f = let whole = f.whole in length-take-le at s (omega arith)
+
 -- an edge is where its place says, or nowhere
 module _ (edges : List Edge) (rising : Rising edges) (x y : ℕ) where
   abbrev here : Edge
@@ -137,15 +158,14 @@ module _ (edges : List Edge) (rising : Rising edges) (x y : ℕ) where
       past : place edges x y < length edges → ⊥
       past h = omega arith
 
-  pub other_from : here.from ≢ x → true ≡ not (edge_in edges x y)
-  other_from n = rw (false-if {b = edge_in edges x y} (λ h. n (ap (λ (e : Edge). e.from) (at_place edges rising x y h).1)))
-
-  pub same_from : place edges x y < length edges → here.from ≡ x → not (eqb here.to y) ≡ not (edge_in edges x y)
+  pub stands_there : place edges x y < length edges → {a b : ℕ} → a ≡ here.from → b ≡ here.to → not (eqb a x && eqb b y) ≡ not (edge_in edges x y)
   unfolding edge_in
-  same_from l e = ap not (same_truth _ _ there back)
+  stands_there l e f = rw (e, f) (ap not (same_truth _ _ there back))
     where
-      there : eqb here.to y ≡ true → edge_in edges x y ≡ true
-      there h = at-any (length edges) _ (place edges x y) l (rw (eq-eqb _ _ e) h)
+      there : (eqb here.from x && eqb here.to y) ≡ true → edge_in edges x y ≡ true
+      there h = at-any (length edges) _ (place edges x y) l h
 
-      back : edge_in edges x y ≡ true → eqb here.to y ≡ true
-      back h = eq-eqb _ _ (ap (λ (e : Edge). e.to) (at_place edges rising x y h).1)
+      back : edge_in edges x y ≡ true → (eqb here.from x && eqb here.to y) ≡ true
+      back h =
+          let same = (at_place edges rising x y h).1 in
+          both-and _ _ (eq-eqb _ _ (ap (λ (e : Edge). e.from) same)) (eq-eqb _ _ (ap (λ (e : Edge). e.to) same))

@@ -5,28 +5,25 @@ ghost use Rattle.chart.specs.Checked.{counts_of, checked_by};
 ghost use Rattle.theory_paths.specs.Admission.{admit_rows};
 ghost use Rattle.call_edges.specs.Asking.{front_rows};
 
-use chart::format::{Chart, Checked, Refusal};
+use chart::format::{Chart, Refusal};
 use mark_regions::entrance::enter;
-use mark_regions::outermost::Entered;
 
-fn check_all(s: &[u8]) -> Checked
+fn check_all(s: &[u8]) -> Result<Chart, Refusal>
     ensures { result ≡ checked_by (first_of (admit_rows s.now)) (counts_of s.now) }
 {
     let mut starts = [0u64; Chart::NODES];
     let mut ends = [0u64; Chart::NODES];
     let mut levels = [0u8; Chart::NODES];
-    match enter(s, Chart::OUTERMOST, &mut starts, &mut ends, &mut levels) {
-        Entered::Refused(refusal) => Checked::Refused(refusal),
-        Entered::Marked(chart, _) => Checked::Passed(chart),
-    }
+    let marked = enter(s, Chart::OUTERMOST, &mut starts, &mut ends, &mut levels)?;
+    Ok(marked.chart)
 }
 
 // The chart that the first `len` bytes of a buffer are: row 4 for a length beyond the buffer, whatever the bytes are, then rows 1 to 10.
-pub fn check_front(buffer: &[u8], len: usize) -> Checked
+pub fn check_front(buffer: &[u8], len: usize) -> Result<Chart, Refusal>
     ensures { result ≡ checked_by (first_of (front_rows buffer.now len)) (counts_of (take len buffer.now)) }
 {
     if buffer.len() < len {
-        return Checked::Refused(Refusal::LENGTHS);
+        return Err(Refusal::BadLengths);
     }
     check_all(&buffer[..len])
 }

@@ -7,10 +7,7 @@ use chart::format::Edge;
 fn clip(number: usize) -> u8
     ensures { result ≡ min number 255 }
 {
-    if number < 256 {
-        return number as u8;
-    }
-    255
+    u8::try_from(number).unwrap_or(u8::MAX)
 }
 
 pub fn edge_between(from: usize, to: usize) -> Edge

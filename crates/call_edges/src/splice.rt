@@ -15,29 +15,14 @@ use chart::format::{Chart, Edge, Node};
 use chart_writing::scratch::{put_byte, put_part, put_trailer};
 use check_edges::rising;
 
-// 1 where edge i of a chart stands below this one, 0 elsewhere.
-fn below(s: &[u8], chart: Chart, i: usize, edge: Edge) -> usize
-    requires { Laid s.now chart × (i < chart.edges) }
-    ensures { let other = edge_at (decode s.now).edges i in
-        (result ≡ cond (rises other.from other.to edge.from edge.to) 1 0) × (result ≤ 1) }
-{
-    if rising(Edge::read(s, chart, i), edge) {
-        return 1;
-    }
-    0
-}
-
 // How many edges of a chart stand below this one.
 pub fn place_of(s: &[u8], chart: Chart, edge: Edge) -> usize
     requires { Laid s.now chart }
     ensures { (result ≡ place_of (decode s.now).edges edge.from edge.to) × (result ≤ chart.edges) }
 {
-    let e = chart.edges;
     let mut sum = 0;
-    let mut i = 0;
-    while i < e {
-        sum += below(s, chart, i, edge);
-        i += 1;
+    for i in 0..chart.edges {
+        sum += usize::from(rising(Edge::read(s, chart, i), edge));
     }
     sum
 }
@@ -47,26 +32,13 @@ pub fn lacks_edge(s: &[u8], chart: Chart, edge: Edge, place: usize) -> bool
     requires { Laid s.now chart × Rising (decode s.now).edges × (place ≡ place_of (decode s.now).edges edge.from edge.to) }
     ensures { result ≡ not (edge_in (decode s.now).edges edge.from edge.to) }
 {
-    if chart.edges <= place {
-        return true;
-    }
-    let here = Edge::read(s, chart, place);
-    if here.from != edge.from {
-        return true;
-    }
-    here.to != edge.to
+    chart.edges <= place || Edge::read(s, chart, place) != edge
 }
 
 fn with_edges(chart: Chart, edges: usize) -> Chart
     ensures { result ≡ with_edges chart edges }
 {
-    Chart {
-        edition: chart.edition,
-        nodes: chart.nodes,
-        edges,
-        constructs: chart.constructs,
-        region: chart.region,
-    }
+    Chart { edges, ..chart }
 }
 
 // The records from byte `from` of s on, and the trailer for these counts.

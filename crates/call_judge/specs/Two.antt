@@ -1,28 +1,26 @@
 -- Two lists of claims against one region of a chart (02, Note 4): a verdict for each, and the part of one of them from its first false claim on.
 -- Assumes nothing.
-use Rattle.std.specs.Prelude.{◌≡◌, refl, cond, List, [], ℕ, ◌*◌, ◌+◌, ltb, ℤ, drop}
-use Rattle.std.proofs.Math.Option.{Option, none, some}
+use Rattle.std.specs.Prelude.{◌≡◌, refl, cond, List, [], ℕ, ◌*◌, ◌+◌, ltb, ℤ, drop, Option, Some, None, Result, Ok, Err}
+use Rattle.theory_calls.specs.Verdict.{Verdict}
 use Rattle.theory_calls.specs.Judged.{judged, number_of}
-use Rattle.theory_calls.specs.declared.Verdict.{Verdict}
-use Rattle.theory_calls.specs.declared.Verdict.TheVariants.{Passed, Failed, Refused}
+use Rattle.chart.specs.declared.format.Refusal.{Refusal}
 
 -- The numbers of the two verdicts.
 unfoldable pub numbers : List ℕ → ℕ → List ℕ → List ℕ → ℤ × ℤ
 numbers s p first second = (number_of (judged s p first), number_of (judged s p second))
 
 -- Where a list fails: the index of its first false claim. A list that passes, or is refused, does not fail.
-unfoldable pub failed_at : Verdict → Option ℕ
-failed_at Passed = none
-failed_at (Failed index) = some index
-failed_at (Refused refusal) = none
+unfoldable pub failed_at : Result Verdict Refusal → Option ℕ
+failed_at (Ok verdict) = verdict
+failed_at (Err refusal) = None
 
 -- The pick between the lists (02: "where both fail, the one with the lower index, the first list on a tie; where one fails, that one"): what is said
 -- of the first list from an index on, of the second from an index on, or of neither.
 unfoldable pub picked : {A : Type 0} → Option ℕ → Option ℕ → A → (ℕ → A) → (ℕ → A) → A
-picked (some i) (some j) neither first second = cond (ltb j i) (second j) (first i)
-picked (some i) none neither first second = first i
-picked none (some j) neither first second = second j
-picked none none neither first second = neither
+picked (Some i) (Some j) neither first second = cond (ltb j i) (second j) (first i)
+picked (Some i) None neither first second = first i
+picked None (Some j) neither first second = second j
+picked None None neither first second = neither
 
 -- The part's bytes: from the first false claim to the end of its list, and none where neither list fails.
 unfoldable pub part_of : Option ℕ → Option ℕ → List ℕ → List ℕ → List ℕ

@@ -4,21 +4,16 @@ ghost use Rattle.std.specs.Prelude.{◌≡◌};
 ghost use Rattle.theory_calls.specs.Judged.{judged_for};
 
 use answer_claims::list::judge_claims;
-use answer_constructs::kinds::RULES;
-use answer_constructs::mask_table::ROWS;
+use answer_constructs::mask_table::MaskTable;
 use answer_masks::survey;
-use chart::format::{Chart, Checked};
+use chart::format::Refusal;
 use theory_answers::Size;
-use theory_calls::Verdict;
 
 // The first of rows 1 to 10, 23, 12, 13 and 21 that applies, or the verdict for teams of this size.
-pub fn judge(s: &[u8], region: usize, size: Size, claims: &[u8]) -> Verdict
+pub fn judge(s: &[u8], region: usize, size: Size, claims: &[u8]) -> Result<Option<usize>, Refusal>
     ensures { result ≡ judged_for s.now region size claims.now }
 {
-    let mut marks = [[0u64; Chart::NODES]; ROWS];
-    let mut kinds = [0u64; RULES];
-    match survey(s, region, &mut marks, &mut kinds) {
-        Checked::Refused(refusal) => Verdict::Refused(refusal),
-        Checked::Passed(chart) => judge_claims(s, chart, size, claims, &marks, &kinds),
-    }
+    let mut marks = MaskTable::NONE;
+    let chart = survey(s, region, &mut marks)?;
+    judge_claims(s, chart, size, claims, &marks)
 }

@@ -1,10 +1,8 @@
-// The part of one of two lists from its first false claim on, by the verdicts on the two.
+// The part of one of two lists from its first false claim on, by where the two fail.
 ghost use Rattle.std.specs.Prelude.{◌≡◌, ℕ, ◌*◌, ◌≤◌, length, drop};
-ghost use Rattle.std.proofs.Math.Option.{none, some};
-ghost use Rattle.theory_calls.specs.declared.Verdict.TheVariants.{Failed};
 ghost use Rattle.call_judge.specs.Two.{failed_at, part_of, placed, place_of};
 
-use theory_calls::Verdict;
+use chart::format::Refusal;
 
 // A list from a claim on.
 fn part_from(claims: &[u8], index: usize) -> &[u8]
@@ -15,42 +13,37 @@ fn part_from(claims: &[u8], index: usize) -> &[u8]
     &claims[start..]
 }
 
-// The part where the first list fails at claim i.
-fn part_of_failed<'a>(x: &'a [u8], y: &'a [u8], i: usize, second: Verdict) -> &'a [u8]
-    requires i_in_bounds { 2 * i ≤ length x.now }
-    requires by_index { (j : ℕ) → second ≡ Failed j → 2 * j ≤ length y.now }
-    ensures { (result.now ≡ part_of (some i) (failed_at second) x.now y.now) × (result.ref_ptr ≡ place_of (some i) (failed_at second) x.entry.ref_ptr y.entry.ref_ptr) }
+// Where a list fails: one that passes, or is refused, does not.
+pub fn failed_at(verdict: Result<Option<usize>, Refusal>) -> Option<usize>
+    ensures { result ≡ failed_at verdict }
 {
-    match second {
-        Verdict::Failed(j) => {
+    match verdict {
+        Ok(failed) => failed,
+        Err(_) => None,
+    }
+}
+
+// Where both fail, the part of the one that fails earlier, of the first on a tie; where neither fails, none of the first.
+pub fn false_part<'a>(
+    x: &'a [u8],
+    y: &'a [u8],
+    first: Option<usize>,
+    second: Option<usize>,
+) -> &'a [u8]
+    requires by_index { (i : ℕ) → first ≡ Some i → 2 * i ≤ length x.now }
+    requires by_index_2 { (j : ℕ) → second ≡ Some j → 2 * j ≤ length y.now }
+    ensures { (result.now ≡ part_of first second x.now y.now) × (result.ref_ptr ≡ place_of first second x.entry.ref_ptr y.entry.ref_ptr) }
+{
+    match (first, second) {
+        (Some(i), Some(j)) => {
             if j < i {
                 part_from(y, j)
             } else {
                 part_from(x, i)
             }
         }
-        _ => part_from(x, i),
-    }
-}
-
-// The part where the first list does not fail.
-fn part_of_second<'a>(x: &'a [u8], y: &'a [u8], second: Verdict) -> &'a [u8]
-    requires { (j : ℕ) → second ≡ Failed j → 2 * j ≤ length y.now }
-    ensures { (result.now ≡ part_of none (failed_at second) x.now y.now) × (result.ref_ptr ≡ place_of none (failed_at second) x.entry.ref_ptr y.entry.ref_ptr) }
-{
-    match second {
-        Verdict::Failed(j) => part_from(y, j),
-        _ => &x[0..0],
-    }
-}
-
-pub fn false_part<'a>(x: &'a [u8], y: &'a [u8], first: Verdict, second: Verdict) -> &'a [u8]
-    requires by_index { (i : ℕ) → first ≡ Failed i → 2 * i ≤ length x.now }
-    requires by_index_2 { (j : ℕ) → second ≡ Failed j → 2 * j ≤ length y.now }
-    ensures { (result.now ≡ part_of (failed_at first) (failed_at second) x.now y.now) × (result.ref_ptr ≡ place_of (failed_at first) (failed_at second) x.entry.ref_ptr y.entry.ref_ptr) }
-{
-    match first {
-        Verdict::Failed(i) => part_of_failed(x, y, i, second),
-        _ => part_of_second(x, y, second),
+        (Some(i), None) => part_from(x, i),
+        (None, Some(j)) => part_from(y, j),
+        (None, None) => &x[0..0],
     }
 }

@@ -6,36 +6,33 @@ ghost use Rattle.theory_calls.specs.Correct.{Correct};
 ghost use Rattle.call_judge.specs.Two.{numbers, false_part, false_place};
 
 use crate::number::number_of;
-use crate::parts::false_part;
+use crate::parts::{failed_at, false_part};
 use answer_claims::list::judge_claims;
-use answer_constructs::kinds::RULES;
-use answer_constructs::mask_table::ROWS;
+use answer_constructs::mask_table::MaskTable;
 use answer_masks::survey;
-use chart::format::{Chart, Checked};
+use chart::format::Refusal;
 use theory_answers::Size;
-use theory_calls::Verdict;
 
 // The verdicts on the two lists.
 #[derive(Clone, Copy)]
 pub struct Verdicts {
-    pub first: Verdict,
-    pub second: Verdict,
+    pub first: Result<Option<usize>, Refusal>,
+    pub second: Result<Option<usize>, Refusal>,
 }
 
 // The verdict on each list, as on that list alone.
 pub fn judge_both(s: &[u8], region: usize, x: &[u8], y: &[u8]) -> Verdicts
     ensures { (result.first ≡ judged s.now region x.now) × (result.second ≡ judged s.now region y.now) }
 {
-    let mut marks = [[0u64; Chart::NODES]; ROWS];
-    let mut kinds = [0u64; RULES];
-    match survey(s, region, &mut marks, &mut kinds) {
-        Checked::Refused(refusal) => Verdicts {
-            first: Verdict::Refused(refusal),
-            second: Verdict::Refused(refusal),
+    let mut marks = MaskTable::NONE;
+    match survey(s, region, &mut marks) {
+        Err(refusal) => Verdicts {
+            first: Err(refusal),
+            second: Err(refusal),
         },
-        Checked::Passed(chart) => {
-            let first = judge_claims(s, chart, Size::Any, x, &marks, &kinds);
-            let second = judge_claims(s, chart, Size::Any, y, &marks, &kinds);
+        Ok(chart) => {
+            let first = judge_claims(s, chart, Size::Any, x, &marks);
+            let second = judge_claims(s, chart, Size::Any, y, &marks);
             Verdicts { first, second }
         }
     }
@@ -63,5 +60,5 @@ pub fn judge_two<'a>(
     let w = verdicts.second;
     *first = number_of(v);
     *second = number_of(w);
-    false_part(x, y, v, w)
+    false_part(x, y, failed_at(v), failed_at(w))
 }

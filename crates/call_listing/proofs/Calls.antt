@@ -9,9 +9,9 @@ use Rattle.lists.specs.Truth.{bad}
 use Rattle.chart.specs.declared.format.Refusal.{Refusal}
 use Rattle.theory_listing.specs.Tree.{Block, end, node_count, construct_count, first}
 use Rattle.theory_listing.specs.Grammar.{Item, put, up_to, block_of}
+use Rattle.std.specs.Prelude.{Ok, Err}
 use Rattle.call_listing.specs.declared.reader.Extent.{Extent}
-use Rattle.call_listing.specs.declared.reader.Extent.TheVariants.{UpTo, Stopped}
-use Rattle.call_listing.specs.Extent.{extent_of, Within}
+use Rattle.call_listing.specs.Extent.{Told, reached, extent_of, Within}
 use Rattle.call_listing.proofs.Bounds.{within-read}
 use Rattle.call_listing.specs.declared.tables.Spot.{Spot}
 use Rattle.call_listing.specs.Reads.{Reads, ahead_of}
@@ -43,19 +43,20 @@ module _ (s : List ℕ) (spot : Spot) where
     leads-first k follow q = q ∙ ahead-first s (spot.depth - 1) (spot.at + 2) b p.close fuel (omega (arith, p.enough)) p.read k follow
 
     -- what the reader told of that block
-    module _ {read : Extent} (tells : (f : ℕ) → length s - (spot.at + 2) < f → read ≡ extent_of (block_of f s (spot.depth - 1) (spot.at + 2))) where
-      pub told : {x y z : ℕ} → read ≡ UpTo x y z → (x ≡ p.close) × (y ≡ node_count b) × (z ≡ construct_count b)
-      told {x} {y} {z} q =
-          let e : UpTo x y z ≡ UpTo p.close (node_count b) (construct_count b) = sym q ∙ tells fuel p.enough ∙ ap extent_of p.read in
-          (cc, cc, cc)
+    module _ {answer : Told} (tells : (f : ℕ) → length s - (spot.at + 2) < f → answer ≡ extent_of (block_of f s (spot.depth - 1) (spot.at + 2))) where
+      pub told : {got : Extent} → answer ≡ Ok got → (got.next ≡ p.close) × (got.nodes ≡ node_count b) × (got.constructs ≡ construct_count b)
+      told {got} q =
+          let e : ◌≡◌ {A = Told} (Ok got) (reached p.close (node_count b) (construct_count b)) = sym q ∙ tells fuel p.enough ∙ ap extent_of p.read in
+          let same : got ≡ record { next = p.close; nodes = node_count b; constructs = construct_count b } = cc in
+          (ap (λ (x : Extent). x.next) same, ap (λ (x : Extent). x.nodes) same, ap (λ (x : Extent). x.constructs) same)
 
-      pub never-stopped : {refusal : Refusal} → read ≡ Stopped refusal → ⊥
+      pub never-stopped : {refusal : Refusal} → answer ≡ Err refusal → ⊥
       never-stopped {refusal} q =
-          let e : Stopped refusal ≡ UpTo p.close (node_count b) (construct_count b) = sym q ∙ tells fuel p.enough ∙ ap extent_of p.read in
+          let e : ◌≡◌ {A = Told} (Err refusal) (reached p.close (node_count b) (construct_count b)) = sym q ∙ tells fuel p.enough ∙ ap extent_of p.read in
           bad (cc)
 
   -- a branch's blocks, by what the reader told of the first: where it closes, how many nodes and constructs it has
-  pub record Told {n fuel : ℕ} {i : Item} (p : InBranch s spot n fuel i) (x y z : ℕ) : Type 0 where
+  pub record Second {n fuel : ℕ} {i : Item} (p : InBranch s spot n fuel i) (x y z : ℕ) : Type 0 where
     pub past : spot.at + 2 ≤ x + 2
     pub within : x + 2 ≤ length s
     pub enough : length s - (x + 2) < fuel
@@ -65,12 +66,12 @@ module _ (s : List ℕ) (spot : Spot) where
     pub to-join : spot.node + 1 + y + node_count p.other ≡ spot.node + n - 1
     pub to-parts : z ≡ construct_count p.one
 
-  pub told-branch : {n fuel : ℕ} {i : Item} (p : InBranch s spot n fuel i) {read : Extent} {x y z : ℕ} → Within (spot.at + 2) (length s) read
-      → ((f : ℕ) → length s - (spot.at + 2) < f → read ≡ extent_of (block_of f s (spot.depth - 1) (spot.at + 2))) → read ≡ UpTo x y z → Told p x y z
-  told-branch p {read} {x} {y} {z} within tells q =
+  pub told-branch : {n fuel : ℕ} {i : Item} (p : InBranch s spot n fuel i) {answer : Told} {got : Extent} → Within (spot.at + 2) (length s) answer
+      → ((f : ℕ) → length s - (spot.at + 2) < f → answer ≡ extent_of (block_of f s (spot.depth - 1) (spot.at + 2))) → answer ≡ Ok got → Second p got.next got.nodes got.constructs
+  told-branch p {answer} {got} within tells q =
       let is = told p.inside tells q in
       let from = (within-read (spot.at + 2) (length s) q within).0 in
-      let place : p.inside.close ≡ x = sym is.0 in
+      let place : p.inside.close ≡ got.next = sym is.0 in
       record {
         past = omega arith;
         within = omega (arith, p.other-within);
@@ -83,11 +84,11 @@ module _ (s : List ℕ) (spot : Spot) where
       }
 
   -- what is asked to fill the second block
-  pub falls-second : {n fuel : ℕ} {i : Item} (p : InBranch s spot n fuel i) {x y z : ℕ} → Told p x y z → {t : ℕ} → 4 * (length s - spot.at) ≡ t
+  pub falls-second : {n fuel : ℕ} {i : Item} (p : InBranch s spot n fuel i) {x y z : ℕ} → Second p x y z → {t : ℕ} → 4 * (length s - spot.at) ≡ t
       → 4 * (length s - (x + 2)) + 2 < t
   falls-second p w q = omega (arith, q, p.inside.within, w.past)
 
-  pub reads_second : {n fuel : ℕ} {i : Item} (p : InBranch s spot n fuel i) {x y z : ℕ} → Told p x y z → (o follow e : ℕ) → spot.part + construct_count (put i end) ≤ 48
+  pub reads_second : {n fuel : ℕ} {i : Item} (p : InBranch s spot n fuel i) {x y z : ℕ} → Second p x y z → (o follow e : ℕ) → spot.part + construct_count (put i end) ≤ 48
       → Reads s (record { at = x + 2; depth = spot.depth - 1; owner = o; part = spot.part + z; node = spot.node + 1 + y; follow = follow; edge = e })
   reads_second {fuel = fuel} p w o follow e parts = record {
     fuel = fuel;
@@ -99,6 +100,6 @@ module _ (s : List ℕ) (spot : Spot) where
     parts-fit = omega (arith, p.parts_are, w.to-parts);
   }
 
-  pub leads-second : {n fuel : ℕ} {i : Item} (p : InBranch s spot n fuel i) {x y z : ℕ} → Told p x y z → {r : ℕ} (k follow : ℕ) → r ≡ ahead_of s (x + 2) k follow
+  pub leads-second : {n fuel : ℕ} {i : Item} (p : InBranch s spot n fuel i) {x y z : ℕ} → Second p x y z → {r : ℕ} (k follow : ℕ) → r ≡ ahead_of s (x + 2) k follow
       → r ≡ first p.other k follow
   leads-second {fuel = fuel} p {x} w k follow q = q ∙ ahead-first s (spot.depth - 1) (x + 2) p.other p.other-close fuel (omega (arith, w.enough)) w.read k follow

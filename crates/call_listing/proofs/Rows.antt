@@ -27,29 +27,30 @@ use Rattle.theory_listing.specs.Call.{block_read, stopped_by, too_many, block_ro
 use Rattle.theory_listing.proofs.Counts.{too_many_lem, length-block_constructs}
 use Rattle.theory_listing.proofs.BlockTables.{length-nodes}
 use Rattle.theory_listing.proofs.Admitted.{block-decoded, block-laid}
+use Rattle.std.specs.Prelude.{Ok, Err}
 use Rattle.call_listing.specs.declared.reader.Extent.{Extent}
-use Rattle.call_listing.specs.declared.reader.Extent.TheVariants.{UpTo, Stopped}
 use Rattle.call_listing.specs.Extent.{refused, extent_of, limited_to}
 use Rattle.call_listing.specs.Chart.{counts_for, ListedWithin, late_rows}
 use Rattle.call_listing.proofs.TablesLaws.{same-chart}
+use Rattle.chart.specs.declared.format.Refusal.TheVariants.{BadNodes, BadConstructs, BadBarriers, NoRoom, TooLarge}
 
 module _ (bytes : List ℕ) (room : ℕ) where
-  pub five : bad_nodes (decode bytes) ≡ true → first_of (late_rows bytes room) ≡ some 5
+  pub five : bad_nodes (decode bytes) ≡ true → first_of (late_rows bytes room) ≡ some BadNodes
   unfolding late_rows first_of
   five h = rw h
 
   module _ (no-five : bad_nodes (decode bytes) ≡ false) where
-    pub six : bad_constructs (decode bytes) ≡ true → first_of (late_rows bytes room) ≡ some 6
+    pub six : bad_constructs (decode bytes) ≡ true → first_of (late_rows bytes room) ≡ some BadConstructs
     unfolding late_rows first_of
     six h = rw (no-five, h)
 
     module _ (no_six : bad_constructs (decode bytes) ≡ false) where
-      pub eight : bad_barriers (decode bytes) ≡ true → first_of (late_rows bytes room) ≡ some 8
+      pub eight : bad_barriers (decode bytes) ≡ true → first_of (late_rows bytes room) ≡ some BadBarriers
       unfolding late_rows first_of
       eight h = rw (no-five, no_six, h)
 
       module _ (no-eight : bad_barriers (decode bytes) ≡ false) where
-        pub eleven : room < length bytes → first_of (late_rows bytes room) ≡ some 11
+        pub eleven : room < length bytes → first_of (late_rows bytes room) ≡ some NoRoom
         unfolding late_rows first_of room_row
         eleven h = rw (no-five, no_six, no-eight, lt-ltb room (length bytes) h)
 
@@ -86,21 +87,18 @@ module _ (text : List ℕ) (nodes constructs : ℕ) (small : ListedWithin text n
   unfolding listing_written listing_left listing_rows output_rows block_rows listing_bytes late_rows written_by left_by block_read stopped_by first_of
   late-listing out = (rw (small.read, few, block-decoded b), rw (small.read, few, block-decoded b))
 
-abbrev number_in : Extent → ℕ
-number_in (UpTo last nodes constructs) = 0
-number_in (Stopped refusal) = refusal.number
-
 module _ (text : List ℕ) where
   -- few enough nodes and constructs were read
-  pub small-read : (last nodes constructs : ℕ) → UpTo last nodes constructs ≡ limited_to (listed text) → ListedWithin text nodes constructs
+  pub small-read : (all : Extent) → Ok all ≡ limited_to (listed text) → ListedWithin text all.nodes all.constructs
   unfolding limited_to
-  small-read last nodes constructs h = go (listed text) refl h
+  small-read all h = go (listed text) refl h
     where
-      on : (b : Block) (x : ℕ) → listed text ≡ up_to b x → (y : Bool) → too_many b ≡ y → UpTo last nodes constructs ≡ pick y (λ u. refused 16) (λ u. extent_of (up_to b x)) → ListedWithin text nodes constructs
+      on : (b : Block) (x : ℕ) → listed text ≡ up_to b x → (y : Bool) → too_many b ≡ y → Ok all ≡ pick y (λ u. Err TooLarge) (λ u. extent_of (up_to b x)) → ListedWithin text all.nodes all.constructs
       on b x r true t q = absurd (bad (cc))
       on b x r false t q =
-          let n : nodes ≡ node_count b = cc in
-          let c : constructs ≡ construct_count b = cc in
+          let same : all ≡ record { next = x; nodes = node_count b; constructs = construct_count b } = cc in
+          let n = ap (λ (e : Extent). e.nodes) same in
+          let c = ap (λ (e : Extent). e.constructs) same in
           let limits = or-neither (ltb 190 (node_count b)) (ltb 48 (construct_count b)) (sym (too_many_lem b) ∙ t) in
           record {
             block = b;
@@ -112,20 +110,20 @@ module _ (text : List ℕ) where
             constructs-fit = omega (arith, c, ltb-false 48 (construct_count b) limits.1);
           }
 
-      go : (read : Read Block) → listed text ≡ read → UpTo last nodes constructs ≡ limited_to read → ListedWithin text nodes constructs
+      go : (read : Read Block) → listed text ≡ read → Ok all ≡ limited_to read → ListedWithin text all.nodes all.constructs
       go (up_to b x) r q = on b x r (too_many b) refl q
       go (stopped number) r q = absurd (bad (cc))
 
   -- 14, 15 or 16
-  pub refused-read : (refusal : Refusal) (room : ℕ) → Stopped refusal ≡ limited_to (listed text) → first_of (listing_rows text room) ≡ some refusal.number
+  pub refused-read : (refusal : Refusal) (room : ℕ) → Err refusal ≡ limited_to (listed text) → first_of (listing_rows text room) ≡ some refusal
   unfolding limited_to listing_rows output_rows block_rows first_of stopped_by block_read
   refused-read refusal room h = go (listed text) refl (listed-fine text) h
     where
-      over : (b : Block) (x : ℕ) → listed text ≡ up_to b x → (y : Bool) → too_many b ≡ y → Stopped refusal ≡ pick y (λ u. refused 16) (λ u. extent_of (up_to b x)) → first_of (listing_rows text room) ≡ some refusal.number
-      over b x r true t q = rw (r, t) (ap some (sym (ap number_in q)))
+      over : (b : Block) (x : ℕ) → listed text ≡ up_to b x → (y : Bool) → too_many b ≡ y → Err refusal ≡ pick y (λ u. Err TooLarge) (λ u. extent_of (up_to b x)) → first_of (listing_rows text room) ≡ some refusal
+      over b x r true t q = let same : refusal ≡ TooLarge = cc in rw (r, t, same)
       over b x r false t q = absurd (bad (cc))
 
-      go : (read : Read Block) → listed text ≡ read → Fine Kinds (length text) (length text) read → Stopped refusal ≡ limited_to read → first_of (listing_rows text room) ≡ some refusal.number
+      go : (read : Read Block) → listed text ≡ read → Fine Kinds (length text) (length text) read → Err refusal ≡ limited_to read → first_of (listing_rows text room) ≡ some refusal
       go (up_to b x) r f q = over b x r (too_many b) refl q
-      go (stopped number) r (inl e) q = rw (r, e) (ap some (sym (ap number_in q ∙ e)))
-      go (stopped number) r (inr e) q = rw (r, e) (ap some (sym (ap number_in q ∙ e)))
+      go (stopped number) r (inl e) q = let same : refusal ≡ refused number = cc in rw (r, same, e)
+      go (stopped number) r (inr e) q = let same : refusal ≡ refused number = cc in rw (r, same, e)

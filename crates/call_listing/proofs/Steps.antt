@@ -13,12 +13,12 @@ use Rattle.chart.specs.Scope.{single_byte, loop_byte}
 use Rattle.theory_listing.specs.Tree.{Block, end, node_count, construct_count}
 use Rattle.theory_listing.specs.Grammar.{plain_letter, barrier_letter, loop_letter, branch_letter, nowait_letter, open_brace, close_brace, most_depth, Item, one_plain, one-barrier, one-loop, one-branch, one-around, put, Read, up_to, stopped, after, pick, stands, braced, letter_kind, followed, item_by, block_of, listed}
 use Rattle.theory_listing.proofs.Counts.{too_many_lem}
-use Rattle.call_listing.specs.declared.reader.Extent.{Extent}
-use Rattle.call_listing.specs.declared.reader.Extent.TheVariants.{UpTo, Stopped}
-use Rattle.call_listing.specs.Extent.{refused, extent_of, alone, item_extent, onward, added_to, closed_at, followed_at, limited_to}
+use Rattle.std.specs.Prelude.{Ok, Err}
+use Rattle.chart.specs.declared.format.Refusal.TheVariants.{BadGrammar, TooDeep, TooLarge}
+use Rattle.call_listing.specs.Extent.{Told, reached, extent_of, alone, item_extent, onward, added_to, closed_at, followed_at, limited_to}
 
 -- the same counts, up to the same place
-upto : {n a p m b q : ℕ} → n ≡ m → a ≡ b → p ≡ q → UpTo n a p ≡ UpTo m b q
+upto : {n a p m b q : ℕ} → n ≡ m → a ≡ b → p ≡ q → reached n a p ≡ reached m b q
 upto e f g = cc
 
 picked : (b : Bool) (x y : Read Block) → pick b (λ u. extent_of x) (λ u. extent_of y) ≡ extent_of (pick b (λ u. x) (λ u. y))
@@ -52,7 +52,7 @@ extent-loop (stopped e) = refl
 
 extent-branch : (x : Read Block) (y : ℕ → Read Block)
     → extent_of (alone (after x (λ a n. after (y n) (λ b m. up_to (one-branch a b) m))))
-    ≡ onward (extent_of x) (λ n a p. added_to (a + 2) p (extent_of (y n)))
+    ≡ onward (extent_of x) (λ r. added_to (r.nodes + 2) r.constructs (extent_of (y r.next)))
 unfolding put node_count construct_count
 extent-branch (up_to a n) y = go (y n)
   where
@@ -61,7 +61,11 @@ extent-branch (up_to a n) y = go (y n)
     go (stopped e) = refl
 extent-branch (stopped e) y = refl
 
-extent-around : (s : List ℕ) (k : ℕ) (x : Read Block) → extent_of (alone (after x (λ b n. followed s k b n))) ≡ followed_at s k (extent_of x)
+-- a construct after its block
+abbrev pub followed_after : List ℕ → ℕ → Told → Told
+followed_after s k told = onward told (λ read. Ok (followed_at s k read))
+
+extent-around : (s : List ℕ) (k : ℕ) (x : Read Block) → extent_of (alone (after x (λ b n. followed s k b n))) ≡ followed_after s k (extent_of x)
 unfolding followed put node_count construct_count
 extent-around s k (up_to b n) = go (eqb k single_byte || eqb k loop_byte) (stands s n nowait_letter)
   where
@@ -69,9 +73,11 @@ extent-around s k (up_to b n) = go (eqb k single_byte || eqb k loop_byte) (stand
         → extent_of (alone (pick x
         (λ u. pick y (λ u. up_to (one-around k false b) (n + 1)) (λ u. up_to (one-around k true b) n))
         (λ u. up_to (one-around k false b) n)))
-        ≡ pick x
-        (λ u. pick y (λ u. UpTo (n + 1) (node_count b + 2) (construct_count b + 1)) (λ u. UpTo n (node_count b + 3) (construct_count b + 1)))
-        (λ u. UpTo n (node_count b + 2) (construct_count b + 1))
+        ≡ Ok (pick x
+        (λ u. pick y
+        (λ u. record { next = n + 1; nodes = node_count b + 2; constructs = construct_count b + 1 })
+        (λ u. record { next = n; nodes = node_count b + 3; constructs = construct_count b + 1 }))
+        (λ u. record { next = n; nodes = node_count b + 2; constructs = construct_count b + 1 }))
     go true true = upto refl (omega arith) (omega arith)
     go true false = upto refl (omega arith) (omega arith)
     go false y = upto refl (omega arith) (omega arith)
@@ -79,38 +85,38 @@ extent-around s k (stopped e) = refl
 
 -- a block in braces, read by k
 module _ (s : List ℕ) (d at : ℕ) (k : ℕ → ℕ → Read Block) where
-  pub braced-short : length s ≤ at → refused 14 ≡ extent_of (braced s d at k)
+  pub braced-short : length s ≤ at → Err BadGrammar ≡ extent_of (braced s d at k)
   unfolding braced
   braced-short h = rw (le-ltb at (length s) h)
 
-  pub braced-other : at < length s → get_or s at 0 ≢ open_brace → refused 14 ≡ extent_of (braced s d at k)
+  pub braced-other : at < length s → get_or s at 0 ≢ open_brace → Err BadGrammar ≡ extent_of (braced s d at k)
   unfolding braced
   braced-other h e = rw (lt-ltb at (length s) h, ne_eqb (get_or s at 0) open_brace e)
 
-  pub braced-deep : at < length s → get_or s at 0 ≡ open_brace → d ≡ 0 → refused 15 ≡ extent_of (braced s d at k)
+  pub braced-deep : at < length s → get_or s at 0 ≡ open_brace → d ≡ 0 → Err TooDeep ≡ extent_of (braced s d at k)
   unfolding braced
   braced-deep h e z = rw (lt-ltb at (length s) h, eq-eqb (get_or s at 0) open_brace e, eq-eqb d 0 z)
 
-  pub braced-open : at < length s → get_or s at 0 ≡ open_brace → d ≢ 0 → closed_at s (extent_of (k (d - 1) (at + 1))) ≡ extent_of (braced s d at k)
+  pub braced-open : at < length s → get_or s at 0 ≡ open_brace → d ≢ 0 → onward (extent_of (k (d - 1) (at + 1))) (closed_at s) ≡ extent_of (braced s d at k)
   unfolding braced
   braced-open h e z = rw (lt-ltb at (length s) h, eq-eqb (get_or s at 0) open_brace e, ne_eqb d 0 z) (go (k (d - 1) (at + 1)))
     where
       go : (x : Read Block)
-          → closed_at s (extent_of x) ≡ extent_of (after x (λ b n. pick (stands s n close_brace) (λ u. up_to b (n + 1)) (λ u. stopped 14)))
+          → onward (extent_of x) (closed_at s) ≡ extent_of (after x (λ b n. pick (stands s n close_brace) (λ u. up_to b (n + 1)) (λ u. stopped 14)))
       go (up_to b n) = picked (stands s n close_brace) (up_to b (n + 1)) (stopped 14)
       go (stopped e) = refl
 
 -- an item by its first byte b, its blocks read by k
 module _ (s : List ℕ) (d at b : ℕ) (k : ℕ → ℕ → Read Block) where
-  abbrev told : Extent
+  abbrev told : Told
   told = extent_of (alone (item_by s d at b k))
 
-  pub item-plain : b ≡ plain_letter → UpTo (at + 1) 1 0 ≡ told
+  pub item-plain : b ≡ plain_letter → reached (at + 1) 1 0 ≡ told
   unfolding item_by put node_count construct_count
   item-plain e = rw (eq-eqb b plain_letter e)
 
   module _ (n : b ≢ plain_letter) where
-    pub item-barrier : b ≡ barrier_letter → UpTo (at + 1) 1 0 ≡ told
+    pub item-barrier : b ≡ barrier_letter → reached (at + 1) 1 0 ≡ told
     unfolding item_by put node_count construct_count
     item-barrier e = rw (ne_eqb b plain_letter n, eq-eqb b barrier_letter e)
 
@@ -120,19 +126,19 @@ module _ (s : List ℕ) (d at b : ℕ) (k : ℕ → ℕ → Read Block) where
       item-loop e = rw (ne_eqb b plain_letter n, ne_eqb b barrier_letter m, eq-eqb b loop_letter e) (sym (extent-loop (braced s d (at + 1) k)))
 
       module _ (l : b ≢ loop_letter) where
-        pub item-branch : b ≡ branch_letter → onward (extent_of (braced s d (at + 1) k)) (λ n a p. added_to (a + 2) p (extent_of (braced s d n k))) ≡ told
+        pub item-branch : b ≡ branch_letter → onward (extent_of (braced s d (at + 1) k)) (λ r. added_to (r.nodes + 2) r.constructs (extent_of (braced s d r.next k))) ≡ told
         unfolding item_by
         item-branch e =
             rw (ne_eqb b plain_letter n, ne_eqb b barrier_letter m, ne_eqb b loop_letter l, eq-eqb b branch_letter e)
             (sym (extent-branch (braced s d (at + 1) k) (λ n. braced s d n k)))
 
         module _ (i : b ≢ branch_letter) where
-          pub item-other : letter_kind b ≡ 0 → refused 14 ≡ told
+          pub item-other : letter_kind b ≡ 0 → Err BadGrammar ≡ told
           unfolding item_by
           item-other z =
               rw (ne_eqb b plain_letter n, ne_eqb b barrier_letter m, ne_eqb b loop_letter l, ne_eqb b branch_letter i, eq-eqb (letter_kind b) 0 z)
 
-          pub item-around : letter_kind b ≢ 0 → followed_at s (letter_kind b) (extent_of (braced s d (at + 1) k)) ≡ told
+          pub item-around : letter_kind b ≢ 0 → followed_after s (letter_kind b) (extent_of (braced s d (at + 1) k)) ≡ told
           unfolding item_by
           item-around z =
               rw (ne_eqb b plain_letter n, ne_eqb b barrier_letter m, ne_eqb b loop_letter l, ne_eqb b branch_letter i, ne_eqb (letter_kind b) 0 z)
@@ -140,25 +146,25 @@ module _ (s : List ℕ) (d at b : ℕ) (k : ℕ → ℕ → Read Block) where
 
 -- a block, by what stands at its begin
 module _ (s : List ℕ) (d at : ℕ) where
-  pub block-end : (f : ℕ) → 0 < f → length s ≤ at → UpTo at 0 0 ≡ extent_of (block_of f s d at)
+  pub block-end : (f : ℕ) → 0 < f → length s ≤ at → reached at 0 0 ≡ extent_of (block_of f s d at)
   unfolding block_of node_count construct_count
   block-end zero z h = absurd (omega arith)
   block-end (suc f) z h = rw (le-ltb at (length s) h)
 
-  pub block-brace : (f : ℕ) → 0 < f → at < length s → get_or s at 0 ≡ close_brace → UpTo at 0 0 ≡ extent_of (block_of f s d at)
+  pub block-brace : (f : ℕ) → 0 < f → at < length s → get_or s at 0 ≡ close_brace → reached at 0 0 ≡ extent_of (block_of f s d at)
   unfolding block_of node_count construct_count
   block-brace zero z h e = absurd (omega arith)
   block-brace (suc f) z h e = rw (lt-ltb at (length s) h, eq-eqb (get_or s at 0) close_brace e)
 
   -- an item was read there, and the rest is a block
-  pub block_more : (f : ℕ) {x : Extent} → 0 < f → at < length s → get_or s at 0 ≢ close_brace → item_extent (pred f) s d at ≡ x
-      → extent_of (block_of f s d at) ≡ onward x (λ n a p. added_to a p (extent_of (block_of (pred f) s d n)))
+  pub block_more : (f : ℕ) {x : Told} → 0 < f → at < length s → get_or s at 0 ≢ close_brace → item_extent (pred f) s d at ≡ x
+      → extent_of (block_of f s d at) ≡ onward x (λ r. added_to r.nodes r.constructs (extent_of (block_of (pred f) s d r.next)))
   unfolding block_of
   block_more zero z h e q = absurd (omega arith)
   block_more (suc f) z h e q =
       rw (lt-ltb at (length s) h, ne_eqb (get_or s at 0) close_brace e)
       (go (item_by s d at (get_or s at 0) (λ e n. block_of f s e n)) (λ n. block_of f s d n)
-      ∙ ap (λ x. onward x (λ n a p. added_to a p (extent_of (block_of f s d n)))) q)
+      ∙ ap (λ x. onward x (λ r. added_to r.nodes r.constructs (extent_of (block_of f s d r.next)))) q)
     where
       rest : (i : Item) (x : Read Block)
           → extent_of (after x (λ r m. up_to (put i r) m)) ≡ added_to (node_count (put i end)) (construct_count (put i end)) (extent_of x)
@@ -166,25 +172,25 @@ module _ (s : List ℕ) (d at : ℕ) where
       rest i (stopped e) = refl
 
       go : (x : Read Item) (y : ℕ → Read Block)
-          → extent_of (after x (λ i n. after (y n) (λ r m. up_to (put i r) m))) ≡ onward (extent_of (alone x)) (λ n a p. added_to a p (extent_of (y n)))
+          → extent_of (after x (λ i n. after (y n) (λ r m. up_to (put i r) m))) ≡ onward (extent_of (alone x)) (λ r. added_to r.nodes r.constructs (extent_of (y r.next)))
       go (up_to i n) y = rest i (y n)
       go (stopped e) y = refl
 
 -- what a loop over items has counted, and what is left
-pub add_none : (h a b : ℕ) (x y : Extent) → x ≡ added_to a b y → UpTo h 0 0 ≡ y → UpTo h a b ≡ x
-add_none h a b x y e g = let z : UpTo h a b ≡ UpTo h (0 + a) (0 + b) = upto refl (omega arith) (omega arith) in z ∙ ap (added_to a b) g ∙ sym e
+pub add_none : (h a b : ℕ) (x y : Told) → x ≡ added_to a b y → reached h 0 0 ≡ y → reached h a b ≡ x
+add_none h a b x y e g = let z : reached h a b ≡ reached h (0 + a) (0 + b) = upto refl (omega arith) (omega arith) in z ∙ ap (added_to a b) g ∙ sym e
 
-pub add-more : (a b n p : ℕ) (x : Extent) → added_to a b (added_to n p x) ≡ added_to (a + n) (b + p) x
-add-more a b n p (UpTo m c q) = upto refl (omega arith) (omega arith)
-add-more a b n p (Stopped e) = refl
+pub add-more : (a b n p : ℕ) (x : Told) → added_to a b (added_to n p x) ≡ added_to (a + n) (b + p) x
+add-more a b n p (Ok r) = upto refl (omega arith) (omega arith)
+add-more a b n p (Err e) = refl
 
-pub add_start : (x : Extent) → x ≡ added_to 0 0 x
-add_start (UpTo m c q) = upto refl (omega arith) (omega arith)
-add_start (Stopped e) = refl
+pub add_start : (x : Told) → x ≡ added_to 0 0 x
+add_start (Ok r) = upto refl (omega arith) (omega arith)
+add_start (Err e) = refl
 
 -- the whole text
-abbrev pub ending : List ℕ → Extent → Extent
-ending s x = onward x (λ n a p. pick (eqb n (length s)) (λ u. UpTo n a p) (λ u. refused 14))
+abbrev pub ending : List ℕ → Told → Told
+ending s x = onward x (λ r. pick (eqb r.next (length s)) (λ u. Ok r) (λ u. Err BadGrammar))
 
 pub whole-extent : (s : List ℕ) → ending s (extent_of (block_of (suc (length s)) s most_depth 0)) ≡ extent_of (listed s)
 unfolding listed
@@ -195,16 +201,16 @@ whole-extent s = go (block_of (suc (length s)) s most_depth 0)
     go (stopped e) = refl
 
 -- row 16 by nodes and constructs alone
-abbrev pub limiting : Extent → Extent
-limiting x = onward x (λ n a p. pick (ltb 190 a) (λ u. refused 16) (λ u. pick (ltb 48 p) (λ u. refused 16) (λ u. UpTo n a p)))
+abbrev pub limiting : Told → Told
+limiting x = onward x (λ r. pick (ltb 190 r.nodes) (λ u. Err TooLarge) (λ u. pick (ltb 48 r.constructs) (λ u. Err TooLarge) (λ u. Ok r)))
 
 pub limited-extent : (x : Read Block) → limiting (extent_of x) ≡ limited_to x
 unfolding limited_to
 limited-extent (up_to b n) = rw (too_many_lem b) (go (ltb 190 (node_count b)) (ltb 48 (construct_count b)))
   where
     go : (x y : Bool)
-        → pick x (λ u. refused 16) (λ u. pick y (λ u. refused 16) (λ u. extent_of (up_to b n)))
-        ≡ pick (x || y) (λ u. refused 16) (λ u. extent_of (up_to b n))
+        → pick x (λ u. Err TooLarge) (λ u. pick y (λ u. Err TooLarge) (λ u. extent_of (up_to b n)))
+        ≡ pick (x || y) (λ u. Err TooLarge) (λ u. extent_of (up_to b n))
     go true y = refl
     go false true = refl
     go false false = refl

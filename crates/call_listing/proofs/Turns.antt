@@ -11,9 +11,9 @@ use Rattle.chart.specs.declared.format.Refusal.{Refusal}
 use Rattle.theory_listing.specs.Tree.{Block, end, node_count, construct_count, first, cells, constructs}
 use Rattle.theory_listing.specs.Grammar.{close_brace, put, up_to, block_of}
 use Rattle.theory_listing.specs.Items.{cells-item, constructs-item}
+use Rattle.std.specs.Prelude.{Ok, Err}
 use Rattle.call_listing.specs.declared.reader.Extent.{Extent}
-use Rattle.call_listing.specs.declared.reader.Extent.TheVariants.{UpTo, Stopped}
-use Rattle.call_listing.specs.Extent.{extent_of, alone, item_extent}
+use Rattle.call_listing.specs.Extent.{Told, reached, extent_of, alone, item_extent}
 use Rattle.call_listing.specs.Stored.{Stored, StoredParts}
 use Rattle.call_listing.specs.declared.tables.Spot.{Spot}
 use Rattle.call_listing.specs.Reads.{Takes, Filled, ahead_of}
@@ -71,30 +71,31 @@ module _ {s : List ℕ} {spot here : Spot} {b : Block} {last : ℕ} {N₀ E₀ C
     turn = begun s spot.depth here.at l.rest last l.fuel (omega (arith, l.enough)) below other l.read
 
     -- what the reader told of the item
-    module _ {read : Extent} (tells : (f : ℕ) → length s - here.at ≤ f → read ≡ item_extent f s spot.depth here.at) where
-      is-turn : read ≡ UpTo turn.next (node_count (put turn.what end)) (construct_count (put turn.what end))
+    module _ {told : Told} (tells : (f : ℕ) → length s - here.at ≤ f → told ≡ item_extent f s spot.depth here.at) where
+      is-turn : told ≡ reached turn.next (node_count (put turn.what end)) (construct_count (put turn.what end))
       is-turn = tells (pred l.fuel) (omega (arith, l.enough)) ∙ ap (λ r. extent_of (alone r)) turn.item-read
 
-      pub never : {refusal : Refusal} → read ≡ Stopped refusal → ⊥
+      pub never : {refusal : Refusal} → told ≡ Err refusal → ⊥
       never q = let e = is-turn in bad (cc)
 
-      module _ {next n c : ℕ} (q : read ≡ UpTo next n c) where
-        record Told : Type 0 where
-          to-next : next ≡ turn.next
-          to-nodes : n ≡ node_count (put turn.what end)
-          to-parts : c ≡ construct_count (put turn.what end)
-          nodes-left : here.node + n + node_count turn.rest ≡ spot.node + node_count b
-          parts-left : here.part + c + construct_count turn.rest ≡ spot.part + construct_count b
+      module _ {got : Extent} (q : told ≡ Ok got) where
+        record Turned : Type 0 where
+          to-next : got.next ≡ turn.next
+          to-nodes : got.nodes ≡ node_count (put turn.what end)
+          to-parts : got.constructs ≡ construct_count (put turn.what end)
+          nodes-left : here.node + got.nodes + node_count turn.rest ≡ spot.node + node_count b
+          parts-left : here.part + got.constructs + construct_count turn.rest ≡ spot.part + construct_count b
 
-        told : Told
-        told =
+        turned : Turned
+        turned =
             let e = is-turn in
-            let n-is : n ≡ node_count (put turn.what end) = cc in
-            let c-is : c ≡ construct_count (put turn.what end) = cc in
+            let same : got ≡ record { next = turn.next; nodes = node_count (put turn.what end); constructs = construct_count (put turn.what end) } = cc in
+            let n-is = ap (λ (x : Extent). x.nodes) same in
+            let c-is = ap (λ (x : Extent). x.constructs) same in
             let nodes : node_count (put turn.what turn.rest) ≡ node_count l.rest = ap node_count turn.whole in
             let parts : construct_count (put turn.what turn.rest) ≡ construct_count l.rest = ap construct_count turn.whole in
             record {
-              to-next = cc;
+              to-next = ap (λ (x : Extent). x.next) same;
               to-nodes = n-is;
               to-parts = c-is;
               nodes-left = omega (arith, nodes-put turn.what turn.rest, l.nodes-are);
@@ -102,9 +103,9 @@ module _ {s : List ℕ} {spot here : Spot} {b : Block} {last : ℕ} {N₀ E₀ C
             }
 
         -- the item was read and fits, as the block does
-        pub takes : (follow : ℕ) → spot.node + node_count b ≤ 191 → spot.part + construct_count b ≤ 48 → Takes s (spot_of spot here follow) n × (here.part + c ≤ 48)
+        pub takes : (follow : ℕ) → spot.node + node_count b ≤ 191 → spot.part + construct_count b ≤ 48 → Takes s (spot_of spot here follow) got.nodes × (here.part + got.constructs ≤ 48)
         takes follow nodes parts =
-            let w = told in (
+            let w = turned in (
               record {
                 fuel = pred l.fuel;
                 item = turn.what;
@@ -113,8 +114,9 @@ module _ {s : List ℕ} {spot here : Spot} {b : Block} {last : ℕ} {N₀ E₀ C
                 enough = omega (arith, l.enough);
                 read = turn.item-read;
                 counted = λ f i x h r.
-                    let e : UpTo next n c ≡ UpTo x (node_count (put i end)) (construct_count (put i end)) = sym q ∙ tells f h ∙ ap (λ v. extent_of (alone v)) r in
-                    cc;
+                    let e : ◌≡◌ {A = Told} (Ok got) (reached x (node_count (put i end)) (construct_count (put i end))) = sym q ∙ tells f h ∙ ap (λ v. extent_of (alone v)) r in
+                    let same : got ≡ record { next = x; nodes = node_count (put i end); constructs = construct_count (put i end) } = cc in
+                    ap (λ (x : Extent). x.nodes) same;
                 nodes-fit = omega (arith, w.nodes-left);
                 parts-fit = omega (arith, w.to-parts, w.parts-left);
               },
@@ -122,20 +124,20 @@ module _ {s : List ℕ} {spot here : Spot} {b : Block} {last : ℕ} {N₀ E₀ C
             )
 
         -- and what is left after it
-        pub left-next : {follow e1 : ℕ} {N1 E1 C1 : List ℕ} → here.at < next → follow ≡ ahead_of s next (here.node + n) spot.follow
+        pub left-next : {follow e1 : ℕ} {N1 E1 C1 : List ℕ} → here.at < got.next → follow ≡ ahead_of s got.next (here.node + got.nodes) spot.follow
             → Filled (put turn.what end) (spot_of spot here follow) e1 N E C N1 E1 C1
-            → Left s spot (record { at = next; depth = spot.depth; owner = spot.owner; part = here.part + c; node = here.node + n; follow = spot.follow; edge = e1 }) b last N₀ E₀ C₀ N1 E1 C1
+            → Left s spot (record { at = got.next; depth = spot.depth; owner = spot.owner; part = here.part + got.constructs; node = here.node + got.nodes; follow = spot.follow; edge = e1 }) b last N₀ E₀ C₀ N1 E1 C1
         left-next {follow} {e1} {N1} {E1} {C1} up qf h =
-            let w = told in
+            let w = turned in
             let i = turn.what in
             let r = turn.rest in
-            let k = here.node + n in
-            let m = here.part + c in
+            let k = here.node + got.nodes in
+            let m = here.part + got.constructs in
             let node : here.node + node_count (put i end) ≡ k = omega (arith, w.to-nodes) in
             let part : here.part + construct_count (put i end) ≡ m = omega (arith, w.to-parts) in
-            let read : block_of (pred l.fuel) s spot.depth next ≡ up_to r last = ap (λ n. block_of (pred l.fuel) s spot.depth n) w.to-next ∙ turn.rest_read in
+            let read : block_of (pred l.fuel) s spot.depth got.next ≡ up_to r last = ap (λ n. block_of (pred l.fuel) s spot.depth n) w.to-next ∙ turn.rest_read in
             let way : follow ≡ first r k spot.follow =
-            qf ∙ ahead-first s spot.depth next r last (pred l.fuel) (omega (arith, l.enough, below)) read k spot.follow in
+            qf ∙ ahead-first s spot.depth got.next r last (pred l.fuel) (omega (arith, l.enough, below)) read k spot.follow in
             record {
               fuel = pred l.fuel;
               rest = r;

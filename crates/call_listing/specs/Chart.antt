@@ -11,6 +11,7 @@ use Rattle.output.specs.Output.{room_row}
 use Rattle.theory_listing.specs.Tree.{Block, node_count, construct_count}
 use Rattle.theory_listing.specs.Grammar.{up_to, listed}
 use Rattle.theory_listing.specs.Meaning.{written_edition, block_nodes, block_edges, block_constructs}
+use Rattle.chart.specs.declared.format.Refusal.TheVariants.{BadNodes, BadConstructs, BadBarriers}
 
 -- The edition and the counts of a block's chart.
 abbrev pub counts_for : Block → Chart
@@ -48,7 +49,7 @@ table_bytes chart nodes edges parts =
 -- 5, 6, 8 and 11, of a chart's bytes.
 unfoldable pub late_rows : List ℕ → ℕ → List Row
 late_rows bytes room =
-    record { number = 5; applies = bad_nodes (decode bytes) }
-    ∷ record { number = 6; applies = bad_constructs (decode bytes) }
-    ∷ record { number = 8; applies = bad_barriers (decode bytes) }
+    record { refusal = BadNodes; applies = bad_nodes (decode bytes) }
+    ∷ record { refusal = BadConstructs; applies = bad_constructs (decode bytes) }
+    ∷ record { refusal = BadBarriers; applies = bad_barriers (decode bytes) }
     ∷ room_row room (length bytes) ∷ []

@@ -18,7 +18,6 @@ use chart_writing::scratch::{put_part, put_trailer};
 use check_constructs::nesting::bad_constructs;
 use check_nodes::counts::bad_barriers;
 use check_nodes::nodes::bad_nodes;
-use output::Written;
 
 // The tables of the chart of a text with so many nodes, Start and Finish around them. How many edges there are.
 fn fill_tables(
@@ -94,30 +93,35 @@ fn draw(text: &[u8], nodes: usize, constructs: usize, out: &mut [u8]) -> Chart
 }
 
 // Rows 5, 6, 8 and 11; where none applies, the chart is copied to the buffer.
-fn hand_over(bytes: &[u8], chart: Chart, out: &mut [u8]) -> Written
+fn hand_over(bytes: &[u8], chart: Chart, out: &mut [u8]) -> Result<usize, Refusal>
     requires { Laid bytes.now chart }
     ensures value { result ≡ written_by (late_rows bytes.now (length out.old)) (length bytes.now) }
     ensures out_after { out.new ≡ left_by (late_rows bytes.now (length out.old)) bytes.now out.old }
 {
     if bad_nodes(bytes, chart) {
-        return Written::Refused(Refusal::NODES);
+        return Err(Refusal::BadNodes);
     }
     if bad_constructs(bytes, chart) {
-        return Written::Refused(Refusal::CONSTRUCTS);
+        return Err(Refusal::BadConstructs);
     }
     if bad_barriers(bytes, chart) {
-        return Written::Refused(Refusal::BARRIERS);
+        return Err(Refusal::BadBarriers);
     }
     let size = bytes.len();
     if out.len() < size {
-        return Written::Refused(Refusal::ROOM);
+        return Err(Refusal::NoRoom);
     }
     put_part(out, 0, bytes);
-    Written::Bytes(size)
+    Ok(size)
 }
 
 // The chart of a text that was read and has few enough nodes and constructs.
-fn write_chart(text: &[u8], nodes: usize, constructs: usize, out: &mut [u8]) -> Written
+fn write_chart(
+    text: &[u8],
+    nodes: usize,
+    constructs: usize,
+    out: &mut [u8],
+) -> Result<usize, Refusal>
     requires { ListedWithin text.now nodes constructs }
     ensures value { result ≡ listing_written text.now out.old }
     ensures out_after { out.new ≡ listing_left text.now out.old }
@@ -132,12 +136,10 @@ fn write_chart(text: &[u8], nodes: usize, constructs: usize, out: &mut [u8]) -> 
 }
 
 // The chart that a listing means: its length, and its bytes in the buffer, or the first row that applies.
-pub fn listing(text: &[u8], out: &mut [u8]) -> Written
+pub fn listing(text: &[u8], out: &mut [u8]) -> Result<usize, Refusal>
     ensures value { result ≡ listing_written text.now out.old }
     ensures out_after { out.new ≡ listing_left text.now out.old }
 {
-    match read_limited(text) {
-        Extent::Stopped(refusal) => Written::Refused(refusal),
-        Extent::UpTo(_, nodes, constructs) => write_chart(text, nodes, constructs, out),
-    }
+    let all = read_limited(text)?;
+    write_chart(text, all.nodes, all.constructs, out)
 }

@@ -4,17 +4,14 @@ ghost use Rattle.chart_writing.specs.Bytes.{field_bytes};
 ghost use Rattle.call_listing.specs.Stored.{StoredNode};
 
 use chart::format::{Edge, Node};
-use chart_writing::scratch::{put_byte, put_field};
+use chart_writing::scratch::put_part;
 
 // Record k of nodes, or of constructs of edition 1: two bytes and a field, tag or name, which is 0.
 pub fn put_record(out: &mut [u8], k: usize, first: u8, second: u8)
     requires { 4 * k + 4 ≤ length out.old }
     ensures { take (4 * (k + 1)) out.new ≡ take (4 * k) out.old ++ (first ∷ (second ∷ field_bytes 0 [])) }
 {
-    let at = Node::BYTES * k;
-    put_byte(out, at, first);
-    put_byte(out, at + 1, second);
-    put_field(out, at + 2, 0);
+    put_part(out, Node::BYTES * k, &[first, second, 0, 0]);
 }
 
 // Record e of edges.
@@ -22,9 +19,7 @@ fn put_edge(out: &mut [u8], e: usize, from: usize, to: usize)
     requires { (2 * e + 2 ≤ length out.old) × (from < 256) × (to < 256) }
     ensures { take (2 * (e + 1)) out.new ≡ take (2 * e) out.old ++ (from ∷ (to ∷ [])) }
 {
-    let at = Edge::BYTES * e;
-    put_byte(out, at, (from % 256) as u8);
-    put_byte(out, at + 1, (to % 256) as u8);
+    put_part(out, Edge::BYTES * e, &[from as u8, to as u8]);
 }
 
 // Node k, which leads to x and to y, or to one where they are the same; its first edge is number e. How many edges there are then.
@@ -41,16 +36,10 @@ pub fn put_cell(
     ensures { StoredNode node.kind node.number k x y e result nodes.old edges.old nodes.new edges.new }
 {
     put_record(nodes, k, node.kind, node.number);
-    if x < y {
-        put_edge(edges, e, k, x);
-        put_edge(edges, e + 1, k, y);
-        return e + 2;
+    put_edge(edges, e, k, x.min(y));
+    if x == y {
+        return e + 1;
     }
-    if y < x {
-        put_edge(edges, e, k, y);
-        put_edge(edges, e + 1, k, x);
-        return e + 2;
-    }
-    put_edge(edges, e, k, x);
-    e + 1
+    put_edge(edges, e + 1, k, x.max(y));
+    e + 2
 }

@@ -5,7 +5,7 @@ ghost use Rattle.theory_listing.specs.Grammar.{loop_letter, branch_letter};
 ghost use Rattle.call_listing.specs.Reads.{Reads, Takes, Room, ConstructAt, EndRoom, FilledItem, FilledBlock, StoredEnd, ahead_of};
 
 use crate::letters;
-use crate::reader::{Extent, block, item, letter_kind};
+use crate::reader::{block, item, letter_kind};
 use crate::records::{put_cell, put_record};
 use chart::format::{Chart, Construct, Edge, Node};
 
@@ -35,13 +35,11 @@ impl Spot {
 pub fn ahead(s: &[u8], at: usize, k: usize, t: usize) -> usize
     ensures { result ≡ ahead_of s.now at k t }
 {
-    if s.len() <= at {
-        return t;
+    if s.len() <= at || s[at] == letters::CLOSE {
+        t
+    } else {
+        k
     }
-    if s[at] == letters::CLOSE {
-        return t;
-    }
-    k
 }
 
 // A loop: its head, and its block, which leads back.
@@ -70,11 +68,10 @@ fn fill_loop(s: &[u8], spot: Spot, nodes: &mut [u8], edges: &mut [u8], parts: &m
     let inner = Spot {
         at,
         depth,
-        owner: spot.owner,
-        part: spot.part,
         node: first,
         follow: k,
         edge: e0,
+        ..spot
     };
     fill_block(s, inner, nodes, edges, parts)
 }
@@ -97,47 +94,42 @@ fn fill_branch(
     let at = spot.at + 2;
     let depth = spot.depth - 1;
     let join = k + n - 1;
-    match block(s, at, depth) {
-        Extent::Stopped(_) => spot.edge,
-        Extent::UpTo(close, z, c) => {
-            let other = close + 2;
-            let second = first + z;
-            let fork = Node {
-                kind: Node::PLAIN,
-                number: spot.owner,
-            };
-            let e0 = put_cell(
-                fork,
-                k,
-                ahead(s, at, first, join),
-                ahead(s, other, second, join),
-                spot.edge,
-                nodes,
-                edges,
-            );
-            let one = Spot {
-                at,
-                depth,
-                owner: spot.owner,
-                part: spot.part,
-                node: first,
-                follow: join,
-                edge: e0,
-            };
-            let e1 = fill_block(s, one, nodes, edges, parts);
-            let two = Spot {
-                at: other,
-                depth,
-                owner: spot.owner,
-                part: spot.part + c,
-                node: second,
-                follow: join,
-                edge: e1,
-            };
-            let e2 = fill_block(s, two, nodes, edges, parts);
-            put_cell(fork, join, spot.follow, spot.follow, e2, nodes, edges)
-        }
-    }
+    let Ok(inside) = block(s, at, depth) else {
+        return spot.edge;
+    };
+    let other = inside.next + 2;
+    let second = first + inside.nodes;
+    let fork = Node {
+        kind: Node::PLAIN,
+        number: spot.owner,
+    };
+    let e0 = put_cell(
+        fork,
+        k,
+        ahead(s, at, first, join),
+        ahead(s, other, second, join),
+        spot.edge,
+        nodes,
+        edges,
+    );
+    let one = Spot {
+        at,
+        depth,
+        node: first,
+        follow: join,
+        edge: e0,
+        ..spot
+    };
+    let e1 = fill_block(s, one, nodes, edges, parts);
+    let two = Spot {
+        at: other,
+        part: spot.part + inside.constructs,
+        node: second,
+        edge: e1,
+        ..one
+    };
+    let e2 = fill_block(s, two, nodes, edges, parts);
+    put_cell(fork, join, spot.follow, spot.follow, e2, nodes, edges)
 }
 
 // The end of the construct of n nodes at a spot, which is node k, and the barrier that follows it, where there is one.
@@ -186,37 +178,35 @@ fn fill_construct(
     let inside = at + 2;
     let depth = spot.depth - 1;
     let first = k + 1;
-    match block(s, inside, depth) {
-        Extent::Stopped(_) => spot.edge,
-        Extent::UpTo(_, z, _) => {
-            let number = (m % 256) as u8;
-            let end = first + z;
-            put_record(parts, m, letter_kind(s[at]), spot.owner);
-            let e0 = put_cell(
-                Node {
-                    kind: Node::BEGIN,
-                    number,
-                },
-                k,
-                first,
-                first,
-                spot.edge,
-                nodes,
-                edges,
-            );
-            let inner = Spot {
-                at: inside,
-                depth,
-                owner: number,
-                part: m + 1,
-                node: first,
-                follow: end,
-                edge: e0,
-            };
-            let e1 = fill_block(s, inner, nodes, edges, parts);
-            put_end(spot, n, end, e1, nodes, edges)
-        }
-    }
+    let Ok(inner) = block(s, inside, depth) else {
+        return spot.edge;
+    };
+    let number = (m % 256) as u8;
+    let end = first + inner.nodes;
+    put_record(parts, m, letter_kind(s[at]), spot.owner);
+    let e0 = put_cell(
+        Node {
+            kind: Node::BEGIN,
+            number,
+        },
+        k,
+        first,
+        first,
+        spot.edge,
+        nodes,
+        edges,
+    );
+    let body = Spot {
+        at: inside,
+        depth,
+        owner: number,
+        part: m + 1,
+        node: first,
+        follow: end,
+        edge: e0,
+    };
+    let e1 = fill_block(s, body, nodes, edges, parts);
+    put_end(spot, n, end, e1, nodes, edges)
 }
 
 // The item of n nodes at a spot; the node that follows it is the spot's. How many edges there are then.
@@ -232,43 +222,26 @@ fn fill_item(
     requires { Takes s.now spot n × Room spot nodes.old edges.old parts.old }
     ensures { FilledItem s.now spot result nodes.old edges.old parts.old nodes.new edges.new parts.new }
 {
-    let at = spot.at;
-    let letter = s[at];
-    if letter == letters::PLAIN {
-        return put_cell(
-            Node {
-                kind: Node::PLAIN,
-                number: spot.owner,
-            },
-            spot.node,
-            spot.follow,
-            spot.follow,
-            spot.edge,
-            nodes,
-            edges,
-        );
-    }
-    if letter == letters::BARRIER {
-        return put_cell(
-            Node {
-                kind: Node::BARRIER,
-                number: spot.owner,
-            },
-            spot.node,
-            spot.follow,
-            spot.follow,
-            spot.edge,
-            nodes,
-            edges,
-        );
-    }
-    if letter == letters::LOOP {
-        return fill_loop(s, spot, nodes, edges, parts);
-    }
-    if letter == letters::BRANCH {
-        return fill_branch(s, spot, n, nodes, edges, parts);
-    }
-    fill_construct(s, spot, n, nodes, edges, parts)
+    let kind = match s[spot.at] {
+        letters::PLAIN => Node::PLAIN,
+        letters::BARRIER => Node::BARRIER,
+        letters::LOOP => return fill_loop(s, spot, nodes, edges, parts),
+        letters::BRANCH => return fill_branch(s, spot, n, nodes, edges, parts),
+        _ => return fill_construct(s, spot, n, nodes, edges, parts),
+    };
+    let node = Node {
+        kind,
+        number: spot.owner,
+    };
+    put_cell(
+        node,
+        spot.node,
+        spot.follow,
+        spot.follow,
+        spot.edge,
+        nodes,
+        edges,
+    )
 }
 
 // The block at a spot, item by item. How many edges there are then.
@@ -289,33 +262,26 @@ pub fn fill_block(
         if s[at] == letters::CLOSE {
             return here.edge;
         }
-        match item(s, at, spot.depth) {
-            Extent::Stopped(_) => {
-                return here.edge;
-            }
-            Extent::UpTo(next, n, c) => {
-                let node = here.node + n;
-                let one = Spot {
-                    at,
-                    depth: spot.depth,
-                    owner: spot.owner,
-                    part: here.part,
-                    node: here.node,
-                    follow: ahead(s, next, node, spot.follow),
-                    edge: here.edge,
-                };
-                let edge = fill_item(s, one, n, nodes, edges, parts);
-                here = Spot {
-                    at: next,
-                    depth: spot.depth,
-                    owner: spot.owner,
-                    part: here.part + c,
-                    node,
-                    follow: spot.follow,
-                    edge,
-                };
-            }
-        }
+        let Ok(read) = item(s, at, spot.depth) else {
+            return here.edge;
+        };
+        let node = here.node + read.nodes;
+        let one = Spot {
+            at,
+            part: here.part,
+            node: here.node,
+            follow: ahead(s, read.next, node, spot.follow),
+            edge: here.edge,
+            ..spot
+        };
+        let edge = fill_item(s, one, read.nodes, nodes, edges, parts);
+        here = Spot {
+            at: read.next,
+            part: here.part + read.constructs,
+            node,
+            edge,
+            ..spot
+        };
     }
     here.edge
 }

@@ -10,13 +10,11 @@ ghost use Rattle.mark_tables.specs.Tables.{Accepted};
 ghost use Rattle.answer_constructs.specs.Marks.{Marks};
 ghost use Rattle.output.specs.Output.{output_rows, written_by, left_by};
 
-use answer_constructs::kinds::{KindTable, RULES};
-use answer_constructs::mask_table::{MaskTable, ROWS};
+use answer_constructs::mask_table::MaskTable;
 use answer_constructs::sizes::room_sized;
 use answer_locks::put_locks;
 use answer_masks::survey;
-use chart::format::{Chart, Checked};
-use output::Written;
+use chart::format::{Chart, Refusal};
 use theory_answers::Size;
 
 // Rows 11 and 21 and the bytes, of a chart whose nodes are marked.
@@ -25,33 +23,25 @@ fn write_locks(
     chart: Chart,
     size: Size,
     marks: &MaskTable,
-    kinds: &KindTable,
     out: &mut [u8],
-) -> Written
-    requires { Accepted s.now chart × Marks (reading s.now chart) marks.now kinds.now }
+) -> Result<usize, Refusal>
+    requires { Accepted s.now chart × Marks (reading s.now chart) marks.now marks.now.kinds }
     ensures result_value { let bytes = length (locks_result (reading s.now chart) size) in
         result ≡ written_by (output_rows [] (length out.old) bytes (size_rows size)) bytes }
     ensures out_after { let result = locks_result (reading s.now chart) size in
         out.new ≡ left_by (output_rows [] (length out.old) (length result) (size_rows size)) result out.old }
 {
-    match room_sized(chart.constructs, out.len(), size) {
-        Written::Refused(refusal) => Written::Refused(refusal),
-        Written::Bytes(bytes) => {
-            put_locks(s, chart, size, marks, kinds, out);
-            Written::Bytes(bytes)
-        }
-    }
+    let bytes = room_sized(chart.constructs, out.len(), size)?;
+    put_locks(s, chart, size, marks, out);
+    Ok(bytes)
 }
 
 // The first of rows 1 to 10, 23, 11 and 21 that applies, or the bytes written, for teams of this size.
-pub fn locks(s: &[u8], region: usize, size: Size, out: &mut [u8]) -> Written
+pub fn locks(s: &[u8], region: usize, size: Size, out: &mut [u8]) -> Result<usize, Refusal>
     ensures value { result ≡ locks_written_for s.now region size out.old }
     ensures out_after { out.new ≡ locks_left_for s.now region size out.old }
 {
-    let mut marks = [[0u64; Chart::NODES]; ROWS];
-    let mut kinds = [0u64; RULES];
-    match survey(s, region, &mut marks, &mut kinds) {
-        Checked::Refused(refusal) => Written::Refused(refusal),
-        Checked::Passed(chart) => write_locks(s, chart, size, &marks, &kinds, out),
-    }
+    let mut marks = MaskTable::NONE;
+    let chart = survey(s, region, &mut marks)?;
+    write_locks(s, chart, size, &marks, out)
 }

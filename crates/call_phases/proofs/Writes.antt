@@ -1,41 +1,43 @@
--- Writing a number byte by byte.
+-- Writing a number's bytes.
 -- Assumes nothing.
-use mathlib.Core.Path.{◌≡◌, refl, ap, sym, ◌∙◌}
-use mathlib.Core.Logic.{◌⊎◌, inl, inr}
-use mathlib.Core.List.{List}
-use Prim.Native.Nat.{ℕ, ◌+◌, ◌/◌, ◌%◌, ◌^◌, ◌≤◌, ◌<◌}
-use native.Mathlib.Omega.{arith}
-use native.Mathlib.Decide.{ℕ_discrete}
-use native.Mathlib.Nat.{pow-suc, div-div-eq-div-mul}
-use native.Mathlib.Numerals.{add-one}
-use lib.ListN.{length, get_or, set, length-set}
-use lib.Seq.{get_or-set_same, get_or-set_other}
+use Rattle.std.proofs.Common.{rules, arith, ◌≡◌, ◌∙◌, ◌⊎◌, inl, inr, List, ◌++◌, ℕ, zero, suc, ◌+◌, ◌≤◌, ◌<◌, length, get_or, take, refl, w64}
+use Rattle.std.specs.Int.{to_le_bytes}
+use Rattle.std.proofs.lemmas.List.{places, get_or-append-add, get_or_append_left}
+use native.Mathlib.Nat.{div-one}
+use borrow.Rule.Slice.PartMut.{put_mid, post_of}
 use Rattle.theory_calls.specs.Bytes.{byte_of, Put}
 
-pub put-none : (at m : ℕ) (l : List ℕ) → Put at 0 m l l
-put-none at m l = record { long = refl; put = λ k h. absurd (omega arith); kept = λ j h. refl }
-
--- one byte more
-pub put-more : {at k m : ℕ} {old l : List ℕ} (rest : ℕ) → Put at k m old l → rest ≡ m / 256 ^ k → at + k < length l
-    → Put at (k + 1) m old (set l (at + k) (rest % 256))
+byte-at : (m k : ℕ) → k < 8 → get_or (to_le_bytes w64 m) k 0 ≡ byte_of m k
 unfolding byte_of
-put-more {at} {k} {m} {old} {l} rest p e h = record {
-  long = length-set l (at + k) (rest % 256) ∙ p.long;
-  put = λ i b. go i b (ℕ_discrete i k);
-  kept = λ j b. get_or-set_other l (at + k) j (rest % 256) 0 (apart j b) ∙ p.kept j (wider j b);
-}
-  where
-    go : (i : ℕ) → i < k + 1 → Dec (i ≡ k) → get_or (set l (at + k) (rest % 256)) (at + i) 0 ≡ m / 256 ^ i % 256
-    go i b (yes q) = rw (q, get_or-set_same l (at + k) (rest % 256) 0 h, e)
-    go i b (no n) = get_or-set_other l (at + k) (at + i) (rest % 256) 0 (λ q. n (omega arith)) ∙ p.put i (omega arith)
+byte-at m zero h = rw div-one
+byte-at m (suc zero) h = refl
+byte-at m (suc (suc zero)) h = refl
+byte-at m (suc (suc (suc zero))) h = refl
+byte-at m (suc (suc (suc (suc zero)))) h = refl
+byte-at m (suc (suc (suc (suc (suc zero))))) h = refl
+byte-at m (suc (suc (suc (suc (suc (suc zero)))))) h = refl
+byte-at m (suc (suc (suc (suc (suc (suc (suc zero))))))) h = refl
+byte-at m (suc (suc (suc (suc (suc (suc (suc (suc k)))))))) h = absurd (omega arith)
 
-    apart : (j : ℕ) → (j < at) ⊎ (at + (k + 1) ≤ j) → j ≡ at + k → ⊥
-    apart j (inl b) q = omega arith
-    apart j (inr b) q = omega arith
+module _ (at n : ℕ) (old bytes : List ℕ) (size : length bytes ≡ n) (room : at + n ≤ length old) where
+  within : (k : ℕ) → k < n → get_or (put_mid at n old bytes) (at + k) 0 ≡ get_or bytes k 0
+  within k h =
+      let front : length (take at old) ≡ at = search (rules, places) in
+      rw front at (get_or-append-add (take at old) (bytes ++ post_of at n old) k 0) ∙ get_or_append_left bytes _ 0 k (omega arith)
 
-    wider : (j : ℕ) → (j < at) ⊎ (at + (k + 1) ≤ j) → (j < at) ⊎ (at + k ≤ j)
-    wider j (inl b) = inl b
-    wider j (inr b) = inr (omega arith)
+  around : (j : ℕ) → (j < at) ⊎ (at + n ≤ j) → get_or (put_mid at n old bytes) j 0 ≡ get_or old j 0
+  around j (inl b) = grind (arith, places)
+  around j (inr b) = grind (arith, places)
 
-pub next-byte : (m k : ℕ) → m / 256 ^ k / 256 ≡ m / 256 ^ (k + 1)
-next-byte m k = div-div-eq-div-mul m (256 ^ k) 256 ∙ ap (λ (n : ℕ). m / n) (sym (pow-suc 256 k) ∙ ap (λ (n : ℕ). 256 ^ n) (sym (add-one k)))
+  long : length (put_mid at n old bytes) ≡ length old
+  long = search (rules, places)
+
+pub put-bytes : (at n m : ℕ) (old bytes : List ℕ) → n ≡ 8 → at + 8 ≤ length old → bytes ≡ to_le_bytes w64 m → Put at 8 m old (put_mid at n old bytes)
+put-bytes at n m old bytes q room e =
+    let size : length bytes ≡ 8 = rw e in
+    let here : length bytes ≡ n = omega arith in
+    let fits : at + n ≤ length old = omega arith in record {
+      long = long at n old bytes here fits;
+      put = λ k h. within at n old bytes here fits k (omega arith) ∙ rw e (byte-at m k h);
+      kept = λ j b. around at n old bytes here fits j (rw (← q) at b);
+    }

@@ -5,7 +5,6 @@ ghost use Rattle.call_phases.specs.Writing.{OfMasks};
 
 use crate::bytes::put_mask;
 use chart::format::Chart;
-use output::Written;
 
 // The first 16 * n bytes of out become the starts and ends of the first n nodes.
 pub fn fill_phases(
@@ -17,10 +16,8 @@ pub fn fill_phases(
     requires { (n ≤ 192) × (16 * n ≤ length out.old) }
     ensures { OfMasks n starts.now ends.now (λ R. out.new ≡ phases_result R ++ drop (length (phases_result R)) out.old) }
 {
-    let mut x = 0;
-    while x < n {
-        put_mask(out, Written::PHASES_NODE * x, starts[x]);
-        put_mask(out, Written::PHASES_NODE * x + Written::MASK, ends[x]);
-        x += 1;
+    for x in 0..n {
+        put_mask(out, output::PHASES_NODE * x, starts[x]);
+        put_mask(out, output::PHASES_NODE * x + output::MASK, ends[x]);
     }
 }

@@ -6,10 +6,9 @@ ghost use Rattle.theory_calls.specs.Phases.{phases_result, phases_written, phase
 ghost use Rattle.call_phases.specs.Writing.{OfMasks, phases_rows};
 
 use crate::fill::fill_phases;
-use chart::format::Chart;
+use chart::format::{Chart, Refusal};
 use mark_regions::entrance::enter;
-use mark_regions::outermost::Entered;
-use output::{Written, room_for};
+use output::room_for;
 
 // Row 11 and the bytes of Phases, for n nodes with these masks.
 fn write_phases(
@@ -17,30 +16,24 @@ fn write_phases(
     starts: &[u64; Chart::NODES],
     ends: &[u64; Chart::NODES],
     out: &mut [u8],
-) -> Written
+) -> Result<usize, Refusal>
     requires { n ≤ 192 }
     ensures value { (R : Region) → R.nodes ≡ n → result ≡ written_by (phases_rows R out.old) (length (phases_result R)) }
     ensures of_masks { OfMasks n starts.now ends.now (λ R. out.new ≡ left_by (phases_rows R out.old) (phases_result R) out.old) }
 {
-    match room_for(Written::PHASES_NODE * n, out.len()) {
-        Written::Refused(refusal) => Written::Refused(refusal),
-        Written::Bytes(size) => {
-            fill_phases(out, n, starts, ends);
-            Written::Bytes(size)
-        }
-    }
+    let size = room_for(output::PHASES_NODE * n, out.len())?;
+    fill_phases(out, n, starts, ends);
+    Ok(size)
 }
 
 // The first of rows 1 to 10, 23 and 11 that applies, or the bytes written.
-pub fn phases(s: &[u8], region: usize, out: &mut [u8]) -> Written
+pub fn phases(s: &[u8], region: usize, out: &mut [u8]) -> Result<usize, Refusal>
     ensures value { result ≡ phases_written s.now region out.old }
     ensures out_after { out.new ≡ phases_left s.now region out.old }
 {
     let mut starts = [0u64; Chart::NODES];
     let mut ends = [0u64; Chart::NODES];
     let mut levels = [0u8; Chart::NODES];
-    match enter(s, region, &mut starts, &mut ends, &mut levels) {
-        Entered::Refused(refusal) => Written::Refused(refusal),
-        Entered::Marked(chart, _) => write_phases(chart.nodes, &starts, &ends, out),
-    }
+    let chart = enter(s, region, &mut starts, &mut ends, &mut levels)?.chart;
+    write_phases(chart.nodes, &starts, &ends, out)
 }

@@ -10,13 +10,12 @@ ghost use Rattle.output.specs.Output.{output_rows, written_by, left_by};
 ghost use Rattle.theory_calls.specs.Access.{accesses_row};
 ghost use Rattle.theory_calls.specs.Races.{races as races_of, races_written, races_left};
 
-use answer_constructs::kinds::RULES;
-use answer_constructs::mask_table::{MaskTable, ROWS};
+use answer_constructs::mask_table::MaskTable;
 use answer_masks::survey;
 use answer_races::bytes::put_races;
 use answer_races::list::bad_accesses;
-use chart::format::{Chart, Checked, Refusal};
-use output::{Written, room_for};
+use chart::format::{Chart, Refusal};
+use output::room_for;
 use theory_calls::Access;
 
 // Rows 20 and 11 and the bytes, of a chart whose nodes are marked.
@@ -26,7 +25,7 @@ fn write_races(
     marks: &MaskTable,
     accesses: &[u8],
     out: &mut [u8],
-) -> Written
+) -> Result<usize, Refusal>
     requires { Accepted s.now chart × ((kinds : List ℕ) × Marks (reading s.now chart) marks.now kinds) }
     ensures result_value { let R = reading s.now chart in
         let list = accesses.now in
@@ -38,27 +37,20 @@ fn write_races(
         out.new ≡ left_by (output_rows (accesses_row R list ∷ []) (length out.old) (length result) []) result out.old }
 {
     if bad_accesses(s, chart, accesses) {
-        return Written::Refused(Refusal::ACCESSES);
+        return Err(Refusal::BadAccesses);
     }
     let n = accesses.len() / Access::BYTES;
-    match room_for(n * (n + 1) / 2, out.len()) {
-        Written::Refused(refusal) => Written::Refused(refusal),
-        Written::Bytes(size) => {
-            put_races(s, chart, marks, accesses, out);
-            Written::Bytes(size)
-        }
-    }
+    let size = room_for(n * (n + 1) / 2, out.len())?;
+    put_races(s, chart, marks, accesses, out);
+    Ok(size)
 }
 
 // The first of rows 1 to 10, 23, 20 and 11 that applies, or the bytes written.
-pub fn races(s: &[u8], region: usize, accesses: &[u8], out: &mut [u8]) -> Written
+pub fn races(s: &[u8], region: usize, accesses: &[u8], out: &mut [u8]) -> Result<usize, Refusal>
     ensures value { result ≡ races_written s.now region accesses.now out.old }
     ensures out_after { out.new ≡ races_left s.now region accesses.now out.old }
 {
-    let mut marks = [[0u64; Chart::NODES]; ROWS];
-    let mut kinds = [0u64; RULES];
-    match survey(s, region, &mut marks, &mut kinds) {
-        Checked::Refused(refusal) => Written::Refused(refusal),
-        Checked::Passed(chart) => write_races(s, chart, &marks, accesses, out),
-    }
+    let mut marks = MaskTable::NONE;
+    let chart = survey(s, region, &mut marks)?;
+    write_races(s, chart, &marks, accesses, out)
 }

@@ -20,19 +20,6 @@ use Rattle.call_replay.specs.PairsMet.{Sheet, Kept}
 pub tab-is : {A : Type 0} (d : A) (n : ℕ) (f : ℕ → A) (l : List A) → length l ≡ n → ((j : ℕ) → j < n → get_or l j d ≡ f j) → l ≡ tab n f
 tab-is d n f l h e = ext_get_or d l (tab n f) (h ∙ sym (tab-length n f)) (λ j k. e j (omega (arith, h)) ∙ sym (tab-at n f d j (omega (arith, h))))
 
--- a record, of which nothing is asked
-abbrev pub unknown : Thread
-unknown = record { node = 0; counts = []; taken = [] }
-
--- one more of a list that is stored into from its front
-pub stored_at : {A : Type 0} (d : A) (f : ℕ → A) (l : List A) (i : ℕ) (v : A) → i < length l → v ≡ f i → ((j : ℕ) → j < i → get_or l j d ≡ f j) → (j : ℕ) → j < i + 1
-    → get_or (set l i v) j d ≡ f j
-stored_at d f l i v b e h j k = go (ℕ_discrete j i)
-  where
-    go : Dec (j ≡ i) → get_or (set l i v) j d ≡ f j
-    go (yes q) = rw q (get_or-set_same l i v d b ∙ e)
-    go (no q) = get_or-set_other l i j v d q ∙ h j (omega arith)
-
 -- the place of an entry
 abbrev Place : ℕ → ℕ → ℕ → Type 0
 Place k n j = (a : ℕ) × (b : ℕ) × (a < k) × (b < n) × (j ≡ a * n + b)

@@ -3,6 +3,7 @@
 use Rattle.std.specs.Prelude.{◌≡◌, Bool, ◌&&◌, ◌||◌, not, cond, List, ℕ, ◌+◌, ◌-◌, ◌*◌, ◌≤◌, ◌<◌, eqb, ltb, length, get_or}
 use Rattle.lists.specs.Range.{any}
 use Rattle.theory_team.specs.State.{State}
+use Rattle.answer_steps.specs.declared.tables.TeamTable.{TeamTable}
 use Rattle.answer_steps.specs.Tables.{Shows}
 use Rattle.call_replay.specs.declared.pairs_met.Rows.{Rows}
 
@@ -32,6 +33,6 @@ abbrev pub Cleared : ℕ → List ℕ → List ℕ → Type 0
 Cleared size old new = (length new ≡ length old) × ((j : ℕ) → j < size → get_or new j 0 ≡ 0) × ((j : ℕ) → size ≤ j → get_or new j 0 ≡ get_or old j 0)
 
 -- What a state has is marked, for every state that the table of the team shows, and the bytes past the rows are as they were.
-abbrev pub Marks : (State → ℕ → ℕ → Bool) → ℕ → Rows → List ℕ → List ℕ → List ℕ → Type 0
+abbrev pub Marks : (State → ℕ → ℕ → Bool) → ℕ → Rows → TeamTable → List ℕ → List ℕ → Type 0
 Marks has n rows team old new =
     ((σ : State) (met : ℕ → ℕ → Bool) → Shows σ team → Sheet n rows met old → Sheet n rows (λ a b. met a b || has σ a b) new) × Kept (rows.count * n) old new

@@ -1,22 +1,27 @@
 -- What a release sets back in the table of a team.
 -- Assumes nothing.
-use Rattle.std.specs.Prelude.{◌≡◌, ◌⊎◌, List, ℕ, ◌+◌, ◌*◌, ◌≤◌, ◌<◌, length, get_or}
+use Rattle.std.specs.Prelude.{◌≡◌, ℕ, ◌≤◌, ◌<◌, length, set}
+use Rattle.theory_traces.specs.declared.Thread.{Thread}
+use Rattle.answer_steps.specs.declared.tables.TeamTable.{TeamTable}
+use Rattle.answer_steps.specs.Teams.{thread_at, count_at, taken_at}
 
--- Each word is 0 or as it was; nodes, and what stands past the threads, are as they were.
-pub record Lowered (old new : List ℕ) : Type 0 where
-  pub long : length new ≡ length old
-  pub each : (j : ℕ) → (get_or new j 0 ≡ 0) ⊎ (get_or new j 0 ≡ get_or old j 0)
-  pub node : (t : ℕ) → t < 8 → get_or new (97 * t) 0 ≡ get_or old (97 * t) 0
-  pub past : (j : ℕ) → 776 ≤ j → j < 785 → get_or new j 0 ≡ get_or old j 0
+-- Nothing is counted and nothing taken of construct c.
+abbrev pub without : ℕ → Thread → Thread
+without c r = record { node = r.node; counts = set r.counts c 0; taken = set r.taken c 0 }
 
--- Of construct c, the first n threads' count and mask are 0.
-pub record SetBack (n c : ℕ) (old new : List ℕ) : Type 0 where
-  pub lowered : Lowered old new
-  pub left : get_or new 785 0 ≡ get_or old 785 0
-  pub at : (t : ℕ) → t < n → (get_or new (97 * t + 1 + c) 0 ≡ 0) × (get_or new (97 * t + 49 + c) 0 ≡ 0)
+-- Of construct c, the first n threads' count and mask are 0; all else is as it was.
+pub record SetBack (n c : ℕ) (old new : TeamTable) : Type 0 where
+  pub long : length new.threads ≡ length old.threads
+  pub at : (t : ℕ) → t < n → thread_at new t ≡ without c (thread_at old t)
+  pub rest : (t : ℕ) → n ≤ t → thread_at new t ≡ thread_at old t
+  pub chosen : new.chosen ≡ old.chosen
+  pub left : new.left ≡ old.left
 
--- Of every construct they are, and none is left to set back.
-pub record AllBack (old new : List ℕ) : Type 0 where
-  pub lowered : Lowered old new
-  pub none : get_or new 785 0 ≡ 0
-  pub done : (t c : ℕ) → t < 8 → c < 48 → (get_or new (97 * t + 1 + c) 0 ≡ 0) × (get_or new (97 * t + 49 + c) 0 ≡ 0)
+-- Of every construct they are, and none is left to set back; nodes, and what is chosen, are as they were.
+pub record AllBack (old new : TeamTable) : Type 0 where
+  pub long : length new.threads ≡ 8
+  pub wide : (t : ℕ) → t < 8 → (length (thread_at new t).counts ≡ 48) × (length (thread_at new t).taken ≡ 48)
+  pub node : (t : ℕ) → t < 8 → (thread_at new t).node ≡ (thread_at old t).node
+  pub chosen : new.chosen ≡ old.chosen
+  pub none : new.left ≡ 0
+  pub done : (t c : ℕ) → t < 8 → c < 48 → (count_at new t c ≡ 0) × (taken_at new t c ≡ 0)

@@ -6,14 +6,15 @@ use Rattle.lists.specs.Tab.{tab}
 use Rattle.chart.specs.Refusal.{first_of}
 use Rattle.theory_traces.specs.Call.{replay_rows, record_of, final}
 use Rattle.call_replay.specs.declared.run.Team.{Team}
+use Rattle.chart.specs.declared.format.Refusal.{Refusal}
 
 -- The records of the team, or none where the replay is refused.
-unfoldable pub count_by : Option ℕ → ℕ → ℕ
+unfoldable pub count_by : Option Refusal → ℕ → ℕ
 count_by none m = m
-count_by (some number) m = 0
+count_by (some refusal) m = 0
 
 module _ (s : List ℕ) (p : ℕ) (trace : List ℕ) (m : ℕ) (out : List ℕ) where
-  abbrev pub refused : Option ℕ
+  abbrev pub refused : Option Refusal
   refused = first_of (replay_rows s p trace m (length out))
 
   abbrev pub Counts : Team → Type 0

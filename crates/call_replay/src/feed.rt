@@ -5,6 +5,7 @@ ghost use Rattle.chart.specs.Region.{Region};
 ghost use Rattle.theory_team.specs.State.{State, released};
 ghost use Rattle.theory_traces.specs.Decide.{allowed};
 ghost use Rattle.theory_traces.specs.Replay.{gathered as is_gathered, at_finish};
+ghost use Rattle.answer_steps.specs.Teams.{count_at};
 ghost use Rattle.answer_steps.specs.Tables.{Tabled, Shows};
 ghost use Rattle.call_replay.specs.declared.pairs_met.Rows.{Rows};
 ghost use Rattle.call_replay.specs.Release.{SetBack, AllBack};
@@ -14,30 +15,27 @@ use crate::pairs_met::{Rows, mark_state, mark_thread};
 use answer_steps::decide::decide;
 use answer_steps::effects::apply;
 use answer_steps::tables::{
-    BARRIER, CHOSEN, COUNTS, FINISH, LEFT, NODES, PENDING, ROLES, RegionTable, TAKEN, THREAD,
-    TeamTable, at, leads, node_of,
+    BARRIER, FINISH, NODES, ROLES, RegionTable, TeamTable, at, leads, node_of,
 };
 use masks::bits::lowest;
 use theory_traces::{Effect, Thread};
 
 // Every thread is at x.
 fn all_at(team: &TeamTable, m: usize, x: usize) -> bool
-    requires { (length team.now ≡ 786) × (m ≤ 8) }
+    requires { m ≤ 8 }
     ensures { (σ : State) → Shows σ team.now → result ≡ every m (λ k. eqb (σ.node k) x) }
 {
-    let mut k = 0;
-    while k < m {
+    for k in 0..m {
         if node_of(team, k) != x {
             return false;
         }
-        k += 1;
     }
     true
 }
 
 // All threads are at finish.
 pub fn at_finish(table: &RegionTable, team: &TeamTable, m: usize) -> bool
-    requires { (R : Region) × Tabled R table.now × (length team.now ≡ 786) × (m ≤ 8) }
+    requires { (R : Region) × Tabled R table.now × (m ≤ 8) }
     ensures { (R : Region) (σ : State) → Tabled R table.now → Shows σ team.now → result ≡ at_finish R m σ }
 {
     all_at(team, m, at(table, FINISH))
@@ -63,22 +61,17 @@ fn is_due(table: &RegionTable, team: &TeamTable, m: usize) -> bool
     requires { (R : Region) × (σ : State) × Tabled R table.now × Shows σ team.now × (m ≤ 8) }
     ensures { (rows : Rows) (out : List ℕ) → OfPlays m rows table.now team.now out (λ R P. result ≡ is_gathered R m P.state) }
 {
-    if team[PENDING] != 0 {
-        return true;
-    }
-    gathered(table, team, m)
+    team.pending != 0 || gathered(table, team, m)
 }
 
 // Of construct c no thread has a count any more, and none has taken a section.
 fn set_back(team: &mut TeamTable, c: usize)
-    requires { (length team.old ≡ 786) × (c < 48) }
+    requires { (length team.old.threads ≡ 8) × (c < 48) }
     ensures { SetBack 8 c team.old team.new }
 {
-    let mut t = 0;
-    while t < Thread::MOST {
-        team[THREAD * t + COUNTS + c] = 0;
-        team[THREAD * t + TAKEN + c] = 0;
-        t += 1;
+    for thread in &mut team.threads {
+        thread.counts[c] = 0;
+        thread.taken[c] = 0;
     }
 }
 
@@ -87,28 +80,26 @@ fn set_all_back(team: &mut TeamTable)
     requires { (σ : State) × Shows σ team.old }
     ensures { AllBack team.old team.new }
 {
-    let mut rest = team[LEFT];
+    let mut rest = team.left;
     while rest != 0 {
         set_back(team, lowest(rest));
-        rest = rest & (rest - 1);
+        rest &= rest - 1;
     }
-    team[LEFT] = 0;
+    team.left = 0;
 }
 
 // The release: each thread goes to the node chosen for it, every count is 0 again and nothing is taken.
 fn release(team: &mut TeamTable, m: usize)
     requires shows { (σ : State) × Shows σ team.old × (m ≤ 8) }
-    requires by_index { (t : ℕ) → t < m → get_or team.old (776 + t) 0 < 256 }
-    ensures shows_2 { (σ : State) → Shows σ team.old → Shows (released m σ (λ t. get_or team.old (776 + t) 0)) team.new }
-    ensures team_after { get_or team.new 784 0 ≡ 0 }
+    requires by_index { (t : ℕ) → t < m → get_or team.old.chosen t 0 < 256 }
+    ensures shows_2 { (σ : State) → Shows σ team.old → Shows (released m σ (λ t. get_or team.old.chosen t 0)) team.new }
+    ensures team_after { team.new.pending ≡ 0 }
 {
     set_all_back(team);
-    let mut t = 0;
-    while t < m {
-        team[THREAD * t] = team[CHOSEN + t];
-        t += 1;
+    for t in 0..m {
+        team.threads[t].node = team.chosen[t];
     }
-    team[PENDING] = 0;
+    team.pending = 0;
 }
 
 // An entry of a release: the next thread's, along an edge. With the last the release takes effect.
@@ -124,20 +115,19 @@ fn choose(
     requires { Ready table.now team.old m v rows out.old }
     ensures { FeedsIf true m rows t v result table.now team.old out.old team.new out.new }
 {
-    let pending = team[PENDING] as usize;
-    if t != pending {
+    if t != team.pending {
         return false;
     }
     if !leads(table, node_of(team, 0), v) {
         return false;
     }
-    team[CHOSEN + pending] = v as u64;
-    if pending + 1 == m {
+    team.chosen[t] = v as u8;
+    if t + 1 == m {
         release(team, m);
         mark_state(team, m, at(table, NODES), rows, out);
         return true;
     }
-    team[PENDING] = (pending + 1) as u64;
+    team.pending = t + 1;
     true
 }
 
@@ -165,7 +155,7 @@ fn step(
     out: &mut [u8],
 ) -> bool
     requires ready { Ready table.now team.old m v rows out.old }
-    requires by_index { (t c : ℕ) → t < 8 → c < 48 → get_or team.old (97 * t + 1 + c) 0 + 1 < 18446744073709551616 }
+    requires by_index { (t c : ℕ) → t < 8 → c < 48 → count_at team.old t c + 1 < 18446744073709551616 }
     ensures { FeedsIf false m rows t v result table.now team.old out.old team.new out.new }
 {
     let effect = decide(table, team, m, t, v);
@@ -173,7 +163,7 @@ fn step(
         return false;
     }
     apply(team, t, v, effect);
-    team[PENDING] = 0;
+    team.pending = 0;
     mark_thread(team, m, at(table, NODES), rows, t, out);
     true
 }
@@ -189,7 +179,7 @@ pub fn feed(
     out: &mut [u8],
 ) -> bool
     requires ready { Ready table.now team.old m v rows out.old }
-    requires by_index { (t c : ℕ) → t < 8 → c < 48 → get_or team.old (97 * t + 1 + c) 0 + 1 < 18446744073709551616 }
+    requires by_index { (t c : ℕ) → t < 8 → c < 48 → count_at team.old t c + 1 < 18446744073709551616 }
     ensures { Feeds m rows t v result table.now team.old out.old team.new out.new }
 {
     if is_due(table, team, m) {

@@ -6,6 +6,7 @@ ghost use Rattle.theory_traces.specs.Correct.{ReplayCorrect};
 ghost use Rattle.call_replay.specs.Stored.{blank, stored};
 
 use crate::run::{Team, run};
+use chart::format::Refusal;
 use theory_traces::{Replayed, Thread};
 
 // The record of thread t.
@@ -16,7 +17,7 @@ fn record_of(team: Team, t: usize) -> Thread
     team.threads[t]
 }
 
-fn answer_of(team: Team) -> Replayed
+fn answer_of(team: Team) -> Result<Replayed, Refusal>
     ensures { result ≡ team.answer }
 {
     team.answer
@@ -27,11 +28,9 @@ fn store(threads: &mut [Thread], team: Team, n: usize)
     requires { (n ≤ 8) × (n ≤ length threads.old) }
     ensures { threads.new ≡ stored team.threads n threads.old }
 {
-    let mut t: usize = 0;
-    while t < n {
+    for t in 0..n {
         let record = record_of(team, t);
         threads[t] = record;
-        t += 1;
     }
 }
 
@@ -43,7 +42,7 @@ pub fn replay(
     trace: &[u8],
     threads: &mut [Thread],
     out: &mut [u8],
-) -> Replayed
+) -> Result<Replayed, Refusal>
     ensures value { result ≡ replay_answer chart.now region trace.now (length threads.old) out.old }
     ensures threads_after { threads.new ≡ records_left chart.now region trace.now threads.old out.old }
     ensures out_after { out.new ≡ sheet_left chart.now region trace.now (length threads.old) out.old }

@@ -39,7 +39,7 @@ fn mark(n: usize, rows: Rows, a: usize, b: usize, out: &mut [u8])
 
 // Threads t and k, which are two, have met, both ways round.
 fn mark_pair(team: &TeamTable, n: usize, rows: Rows, t: usize, k: usize, out: &mut [u8])
-    requires { (length team.now ≡ 786) × (t < 8) × (k < 8) × (t ≢ k) × (rows.count * n ≤ length out.old) }
+    requires { (t < 8) × (k < 8) × (t ≢ k) × (rows.count * n ≤ length out.old) }
     ensures { Marks (λ σ. meet σ t k) n rows team.now out.old out.new }
 {
     let a = node_of(team, t);
@@ -50,13 +50,11 @@ fn mark_pair(team: &TeamTable, n: usize, rows: Rows, t: usize, k: usize, out: &m
 
 // Thread t has met those before it.
 fn mark_before(team: &TeamTable, n: usize, rows: Rows, t: usize, out: &mut [u8])
-    requires { (length team.now ≡ 786) × (t < 8) × (rows.count * n ≤ length out.old) }
+    requires { (t < 8) × (rows.count * n ≤ length out.old) }
     ensures { Marks (λ σ. meets t σ t) n rows team.now out.old out.new }
 {
-    let mut k = 0;
-    while k < t {
+    for k in 0..t {
         mark_pair(team, n, rows, t, k, out);
-        k += 1;
     }
 }
 
@@ -74,24 +72,20 @@ fn next_thread(m: usize, t: usize, k: usize) -> usize
 
 // Thread t has met the others. Which of the team it is makes no branch, since no trace tells it ahead.
 pub fn mark_thread(team: &TeamTable, m: usize, n: usize, rows: Rows, t: usize, out: &mut [u8])
-    requires { (length team.now ≡ 786) × (m ≤ 8) × (t < m) × (rows.count * n ≤ length out.old) }
+    requires { (m ≤ 8) × (t < m) × (rows.count * n ≤ length out.old) }
     ensures { Marks (λ σ. meets m σ t) n rows team.now out.old out.new }
 {
-    let mut k = 1;
-    while k < m {
+    for k in 1..m {
         mark_pair(team, n, rows, t, next_thread(m, t, k), out);
-        k += 1;
     }
 }
 
 // All threads have met.
 pub fn mark_state(team: &TeamTable, m: usize, n: usize, rows: Rows, out: &mut [u8])
-    requires { (length team.now ≡ 786) × (m ≤ 8) × (rows.count * n ≤ length out.old) }
+    requires { (m ≤ 8) × (rows.count * n ≤ length out.old) }
     ensures { Marks (together m) n rows team.now out.old out.new }
 {
-    let mut t = 0;
-    while t < m {
+    for t in 0..m {
         mark_before(team, n, rows, t, out);
-        t += 1;
     }
 }

@@ -8,7 +8,6 @@ ghost use Rattle.call_replay.specs.Playing.{Playing, Plays};
 use crate::feed::{at_finish, feed};
 use crate::pairs_met::Rows;
 use answer_steps::tables::{RegionTable, TeamTable};
-use chart::cursor::wide;
 use theory_traces::Replayed;
 
 // What the replay says; the team and the rows kept of the sheet are left as at the last legal entry.
@@ -23,15 +22,12 @@ pub fn play(
     requires { (R : Region) × Tabled R table.now × Playing R m rows (begun R m) team.old out.old × (m ≤ 8) × (rows.count * R.nodes ≤ length out.old) }
     ensures { Plays m rows trace.now result table.now team.old out.old team.new out.new }
 {
-    let n = trace.len() / 2;
-    let mut i = 0;
-    while i < n {
-        let t = wide(trace[2 * i]);
-        let v = wide(trace[2 * i + 1]);
+    for i in 0..trace.len() / 2 {
+        let t = usize::from(trace[2 * i]);
+        let v = usize::from(trace[2 * i + 1]);
         if !feed(table, team, m, t, v, rows, out) {
             return Replayed::Forbidden(i);
         }
-        i += 1;
     }
     if at_finish(table, team, m) {
         return Replayed::Finished;

@@ -6,23 +6,27 @@ ghost use Rattle.answer_steps.specs.Tables.{Tabled, Shows};
 ghost use Rattle.call_replay.specs.PairsMet.{Cleared};
 
 use crate::pairs_met::Rows;
-use answer_steps::tables::{RegionTable, START, TEAM, THREAD, TeamTable};
+use answer_steps::tables::{RegionTable, START, TeamTable};
+use chart::format::Chart;
 use theory_traces::Thread;
 
 // The team at start.
 pub fn set_team(table: &RegionTable, team: &mut TeamTable)
     requires { (R : Region) × Tabled R table.now }
     ensures shows { (R : Region) → Tabled R table.now → Shows (initial R) team.new }
-    ensures team_after { get_or team.new 784 0 ≡ 0 }
+    ensures team_after { team.new.pending ≡ 0 }
 {
-    let start = table[START];
-    let mut fresh = [0u64; TEAM];
-    let mut t = 0;
-    while t < Thread::MOST {
-        fresh[THREAD * t] = start;
-        t += 1;
-    }
-    *team = fresh;
+    let thread = Thread {
+        node: table[START] as u8,
+        counts: [0; Chart::CONSTRUCTS],
+        taken: [0; Chart::CONSTRUCTS],
+    };
+    *team = TeamTable {
+        threads: [thread; Thread::MOST],
+        chosen: [0; Thread::MOST],
+        pending: 0,
+        left: 0,
+    };
 }
 
 // The first bytes: no pair met.
@@ -30,9 +34,5 @@ pub fn clear(out: &mut [u8], size: usize)
     requires { size ≤ length out.old }
     ensures { Cleared size out.old out.new }
 {
-    let mut i = 0;
-    while i < size {
-        out[i] = Rows::NOT_MET;
-        i += 1;
-    }
+    out[..size].fill(Rows::NOT_MET);
 }

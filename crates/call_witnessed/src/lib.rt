@@ -4,20 +4,19 @@
 ghost use Rattle.std.specs.Prelude.{◌≡◌, [], ◌∷◌, ◌≤◌, ◌<◌};
 ghost use Rattle.chart.specs.Checked.{reading};
 ghost use Rattle.chart.specs.Refusal.{first_of};
+ghost use Rattle.chart.specs.declared.format.Refusal.TheVariants.{BadTrace};
 ghost use Rattle.mark_tables.specs.Tables.{Accepted};
 ghost use Rattle.theory_calls.specs.Pair.{numbers_row};
 ghost use Rattle.theory_calls.specs.Witness.{is_witness, answered_by, witnessed as witnessed_by};
 ghost use Rattle.theory_traces.specs.Call.{bad_trace};
 
 use answer_pairs::numbers::bad_node;
-use answer_steps::tables::TEAM;
+use answer_steps::tables::TeamTable;
 use call_replay::pairs_met::Rows;
 use call_replay::rows::replay_rows;
 use call_replay::run::bad_trace;
 use chart::format::{Chart, Refusal};
 use mark_regions::entrance::enter;
-use mark_regions::outermost::Entered;
-use theory_calls::Witnessed;
 use theory_traces::Replayed;
 
 // What no row refuses: whether the run is finished, and b marked in the row of a, which alone is kept.
@@ -25,36 +24,39 @@ fn is_witness(s: &[u8], chart: Chart, size: usize, trace: &[u8], a: usize, b: us
     requires { Accepted s.now chart × (1 ≤ size) × (size ≤ 8) × (b < chart.nodes) }
     ensures { result ≡ is_witness (reading s.now chart) size trace.now a b }
 {
-    let mut team = [0u64; TEAM];
+    let mut team = TeamTable::BLANK;
     let mut row = [0u8; Chart::NODES];
     let rows = Rows { first: a, count: 1 };
     match replay_rows(s, chart, trace, size, rows, &mut team, &mut row) {
         Replayed::Finished => row[b] == Rows::MET,
         Replayed::Unfinished => false,
         Replayed::Forbidden(_) => false,
-        Replayed::Refused(_) => false,
     }
 }
 
 // Rows 13 and 22 and the answer, of a chart that the rows before them let pass.
-fn tell(s: &[u8], chart: Chart, size: usize, trace: &[u8], a: usize, b: usize) -> Witnessed
+fn tell(
+    s: &[u8],
+    chart: Chart,
+    size: usize,
+    trace: &[u8],
+    a: usize,
+    b: usize,
+) -> Result<bool, Refusal>
     requires { Accepted s.now chart }
     ensures { let R = reading s.now chart in
-        result ≡ answered_by (first_of (numbers_row R a b ∷ record { number = 22; applies = bad_trace trace.now size } ∷ [])) (is_witness R size trace.now a b) }
+        result ≡ answered_by (first_of (numbers_row R a b ∷ record { refusal = BadTrace; applies = bad_trace trace.now size } ∷ [])) (is_witness R size trace.now a b) }
 {
     if bad_node(s, chart, a) {
-        return Witnessed::Refused(Refusal::NUMBERS);
+        return Err(Refusal::BadNumber);
     }
     if bad_node(s, chart, b) {
-        return Witnessed::Refused(Refusal::NUMBERS);
+        return Err(Refusal::BadNumber);
     }
     if bad_trace(trace, size) {
-        return Witnessed::Refused(Refusal::TRACE);
+        return Err(Refusal::BadTrace);
     }
-    if is_witness(s, chart, size, trace, a, b) {
-        return Witnessed::Yes;
-    }
-    Witnessed::No
+    Ok(is_witness(s, chart, size, trace, a, b))
 }
 
 // The first of rows 1 to 10, 23, 13 and 22 that applies, or whether the trace is a finished run of a team of this size by the team rules that has
@@ -66,14 +68,12 @@ pub fn witnessed(
     trace: &[u8],
     a: usize,
     b: usize,
-) -> Witnessed
+) -> Result<bool, Refusal>
     ensures { result ≡ witnessed_by s.now region size trace.now a b }
 {
     let mut starts = [0u64; Chart::NODES];
     let mut ends = [0u64; Chart::NODES];
     let mut levels = [0u8; Chart::NODES];
-    match enter(s, region, &mut starts, &mut ends, &mut levels) {
-        Entered::Refused(refusal) => Witnessed::Refused(refusal),
-        Entered::Marked(chart, _) => tell(s, chart, size, trace, a, b),
-    }
+    let chart = enter(s, region, &mut starts, &mut ends, &mut levels)?.chart;
+    tell(s, chart, size, trace, a, b)
 }

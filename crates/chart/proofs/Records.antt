@@ -95,6 +95,10 @@ module _ (s : List ℕ) (chart : Chart) (laid : Laid s chart) where
         sym (ap (λ (n : Construct). n.filter) here ∙ rw (field-drop s at 4, laid.same-edition) refl),
       )
 
+  -- no record of a construct reaches past the end, a filter among its fields or not
+  pub construct_room : (c at : ℕ) → c < chart.constructs → at ≡ 4 * chart.nodes + 2 * chart.edges + construct_bytes chart.edition c → at + 5 < length s
+  construct_room c at l e = omega (arith, laid.whole, bytes-rise chart.edition c chart.constructs (omega arith))
+
   -- the tables have as many records as the counts say
   pub nodes-length : length (decode s).nodes ≡ chart.nodes
   unfolding decode

@@ -1,12 +1,15 @@
 -- The refusal table as a first match: what the first row that applies is in two tables, one after the other, and what it says where none does.
 -- Assumes nothing.
-use mathlib.Core.Path.{◌≡◌, refl}
+use mathlib.Core.Path.{◌≡◌, refl, sym, ap, ◌∙◌}
+use Prim.Native.Nat.{ℕ, ◌-◌}
+use lib.ListN.{get_or}
 use mathlib.Core.Bool.{Bool, true, false, cond}
 use mathlib.Core.List.{List, [], ◌∷◌, ◌++◌}
 use mathlib.Core.Option.{none, some}
-use Prim.Native.Nat.{ℕ}
 use Rattle.lists.specs.Truth.{bad}
-use Rattle.chart.specs.Refusal.{Row, first_of}
+use Rattle.chart.specs.Refusal.{Row, first_of, row_number}
+use Rattle.chart.specs.declared.format.Refusal.{Refusal}
+use Rattle.chart.specs.declared.format.Refusal.TheVariants.{TooShort, BadMarks, BadCounts, BadLengths, BadNodes, BadConstructs, BadFrames, BadBarriers, BadEdges, BadPaths, NoRoom, OddClaims, BadNumber, BadGrammar, TooDeep, TooLarge, OldReceipt, NoSpace, NoEdge, BadAccesses, BadSize, BadTrace, NoRegion}
 
 -- No row applies, a part for each row in their order.
 abbrev pub NoneApplies : List Row → Type 0
@@ -17,7 +20,7 @@ head-passes : (row : Row) (rows : List Row) → first_of (row ∷ rows) ≡ none
 unfolding first_of
 head-passes row rows h = go row.applies h
   where
-    go : (applies : Bool) → cond applies (some row.number) (first_of rows) ≡ none → (applies ≡ false) × (first_of rows ≡ none)
+    go : (applies : Bool) → cond applies (some row.refusal) (first_of rows) ≡ none → (applies ≡ false) × (first_of rows ≡ none)
     go true h = absurd (bad (cc))
     go false h = (refl, h)
 
@@ -31,14 +34,14 @@ applies-none [] h = refl
 applies-none (row ∷ rows) h = rw h.0 (applies-none rows h.1)
 
 -- in two tables, one after the other, the second one decides where the first one refuses nothing
-pub first-decides : (rows more : List Row) (number : ℕ) → first_of rows ≡ some number → first_of (rows ++ more) ≡ some number
+pub first-decides : (rows more : List Row) (refusal : Refusal) → first_of rows ≡ some refusal → first_of (rows ++ more) ≡ some refusal
 unfolding first_of
-first-decides [] more number h = absurd (bad (cc))
-first-decides (row ∷ rows) more number h = go row.applies h (first-decides rows more number)
+first-decides [] more refusal h = absurd (bad (cc))
+first-decides (row ∷ rows) more refusal h = go row.applies h (first-decides rows more refusal)
   where
-    go : (applies : Bool) → cond applies (some row.number) (first_of rows) ≡ some number
-        → (first_of rows ≡ some number → first_of (rows ++ more) ≡ some number)
-        → cond applies (some row.number) (first_of (rows ++ more)) ≡ some number
+    go : (applies : Bool) → cond applies (some row.refusal) (first_of rows) ≡ some refusal
+        → (first_of rows ≡ some refusal → first_of (rows ++ more) ≡ some refusal)
+        → cond applies (some row.refusal) (first_of (rows ++ more)) ≡ some refusal
     go true h later = h
     go false h later = later h
 
@@ -54,3 +57,40 @@ both-pass (row ∷ rows) more h =
     let p = head-passes row (rows ++ more) h in
     let both = both-pass rows more p.1 in
     (rw p.0 both.0, both.1)
+
+-- The refusals by their numbers.
+abbrev in_order : List Refusal
+in_order = TooShort ∷ BadMarks ∷ BadCounts ∷ BadLengths ∷ BadNodes ∷ BadConstructs ∷ BadFrames ∷ BadBarriers ∷ BadEdges ∷ BadPaths ∷ NoRoom ∷ OddClaims ∷ BadNumber ∷ BadGrammar ∷ TooDeep ∷ TooLarge ∷ OldReceipt ∷ NoSpace ∷ NoEdge ∷ BadAccesses ∷ BadSize ∷ BadTrace ∷ NoRegion ∷ []
+
+abbrev refusal_at : ℕ → Refusal
+refusal_at number = get_or in_order (number - 1) NoRegion
+
+found-again : (r : Refusal) → refusal_at (row_number r) ≡ r
+unfolding row_number
+found-again TooShort = refl
+found-again BadMarks = refl
+found-again BadCounts = refl
+found-again BadLengths = refl
+found-again BadNodes = refl
+found-again BadConstructs = refl
+found-again BadFrames = refl
+found-again BadBarriers = refl
+found-again BadEdges = refl
+found-again BadPaths = refl
+found-again NoRoom = refl
+found-again OddClaims = refl
+found-again BadNumber = refl
+found-again BadGrammar = refl
+found-again TooDeep = refl
+found-again TooLarge = refl
+found-again OldReceipt = refl
+found-again NoSpace = refl
+found-again NoEdge = refl
+found-again BadAccesses = refl
+found-again BadSize = refl
+found-again BadTrace = refl
+found-again NoRegion = refl
+
+-- Refusals with one number are one.
+pub one-number : (r s : Refusal) → row_number r ≡ row_number s → r ≡ s
+one-number r s h = sym (found-again r) ∙ (ap refusal_at h ∙ found-again s)

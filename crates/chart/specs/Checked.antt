@@ -1,14 +1,13 @@
 -- What checking a chart answers, and what the checks of single rows rest on.
 -- Assumes nothing.
-use Rattle.std.specs.Prelude.{◌≡◌, List, ℕ, ◌≤◌, length}
+use Rattle.std.specs.Prelude.{◌≡◌, List, ℕ, ◌≤◌, length, Result, Ok, Err}
 use Rattle.std.proofs.Math.Option.{Option, none, some}
 use Rattle.chart.specs.Format.{outside, decode, size}
 use Rattle.chart.specs.Region.{Region}
 use Rattle.chart.specs.Reading.{region_of}
 use Rattle.chart.specs.Refusal.{first_of, chart_rows}
 use Rattle.chart.specs.declared.format.Chart.{Chart}
-use Rattle.chart.specs.declared.format.Checked.{Checked}
-use Rattle.chart.specs.declared.format.Checked.TheVariants.{Passed, Refused}
+use Rattle.chart.specs.declared.format.Refusal.{Refusal}
 
 -- The edition and the counts that a trailer gives, of a chart that is read for its outermost region.
 unfoldable pub counts_of : List ℕ → Chart
@@ -30,12 +29,12 @@ read_for chart p = record {
   region = p;
 }
 
-unfoldable pub checked_by : Option ℕ → Chart → Checked
-checked_by none chart = Passed chart
-checked_by (some number) chart = Refused (record { number = number })
+unfoldable pub checked_by : Option Refusal → Chart → Result Chart Refusal
+checked_by none chart = Ok chart
+checked_by (some refusal) chart = Err refusal
 
 -- Rows 1 to 9 over the bytes of a chart.
-unfoldable pub checked : List ℕ → Checked
+unfoldable pub checked : List ℕ → Result Chart Refusal
 checked s = checked_by (first_of (chart_rows s)) (counts_of s)
 
 -- The region that the bytes of a chart are read for.

@@ -8,6 +8,8 @@ use Rattle.chart.specs.Format.{outside, Node, Construct, Trailer, Decoded, decod
 use Rattle.chart.specs.Scope.{barrier_node, begin_node, end_node, master_byte, critical_byte, sections_byte, section_byte, leaving_at, arriving_at}
 use Rattle.chart.specs.Nested.{is_parallel}
 use Rattle.chart.specs.Nesting.{kinds, misnested}
+use Rattle.chart.specs.declared.format.Refusal.{Refusal}
+use Rattle.chart.specs.declared.format.Refusal.TheVariants.{TooShort, BadMarks, BadCounts, BadLengths, BadNodes, BadConstructs, BadFrames, BadBarriers, BadEdges, BadPaths, NoRoom, OddClaims, BadNumber, BadGrammar, TooDeep, TooLarge, OldReceipt, NoSpace, NoEdge, BadAccesses, BadSize, BadTrace, NoRegion}
 
 -- Row 2: edition neither 1 nor 2, or closing bytes differ. The bytes 4F 43, read as a field, are 0x434F.
 unfoldable pub bad_edition : ℕ → Bool
@@ -138,33 +140,59 @@ joins_sections D i = frames_section D end_node (edge_at D.edges i).from && frame
 unfoldable pub bad_edges : Decoded → Bool
 bad_edges D = any (length D.edges) (bad_edge_at D) || any (length D.edges) (joins_sections D)
 
--- A row of the table: its number, and whether it applies.
+-- The number of a refusal's row, in 01 and 02.
+unfoldable pub row_number : Refusal → ℕ
+row_number TooShort = 1
+row_number BadMarks = 2
+row_number BadCounts = 3
+row_number BadLengths = 4
+row_number BadNodes = 5
+row_number BadConstructs = 6
+row_number BadFrames = 7
+row_number BadBarriers = 8
+row_number BadEdges = 9
+row_number BadPaths = 10
+row_number NoRoom = 11
+row_number OddClaims = 12
+row_number BadNumber = 13
+row_number BadGrammar = 14
+row_number TooDeep = 15
+row_number TooLarge = 16
+row_number OldReceipt = 17
+row_number NoSpace = 18
+row_number NoEdge = 19
+row_number BadAccesses = 20
+row_number BadSize = 21
+row_number BadTrace = 22
+row_number NoRegion = 23
+
+-- A row of the table: how it refuses, and whether it applies.
 pub record Row : Type 0 where
-  pub number : ℕ
+  pub refusal : Refusal
   pub applies : Bool
 
--- The number of the first row that applies.
-unfoldable pub first_of : List Row → Option ℕ
+-- The first row that applies.
+unfoldable pub first_of : List Row → Option Refusal
 first_of [] = none
-first_of (row ∷ rows) = cond row.applies (some row.number) (first_of rows)
+first_of (row ∷ rows) = cond row.applies (some row.refusal) (first_of rows)
 
 -- Rows 1 to 4, over the trailer.
 unfoldable pub trailer_rows : List ℕ → List Row
 trailer_rows s =
-    record { number = 1; applies = ltb (length s) trailer_size }
-    ∷ record { number = 2; applies = bad_marks (decode s).trailer }
-    ∷ record { number = 3; applies = bad_counts (decode s).trailer.nodes (decode s).trailer.edges (decode s).trailer.constructs }
-    ∷ record { number = 4; applies = bad_lengths (length s) (decode s).trailer }
+    record { refusal = TooShort; applies = ltb (length s) trailer_size }
+    ∷ record { refusal = BadMarks; applies = bad_marks (decode s).trailer }
+    ∷ record { refusal = BadCounts; applies = bad_counts (decode s).trailer.nodes (decode s).trailer.edges (decode s).trailer.constructs }
+    ∷ record { refusal = BadLengths; applies = bad_lengths (length s) (decode s).trailer }
     ∷ []
 
 -- Rows 5 to 9, over the tables.
 unfoldable pub table_rows : Decoded → List Row
 table_rows D =
-    record { number = 5; applies = bad_nodes D }
-    ∷ record { number = 6; applies = bad_constructs D }
-    ∷ record { number = 7; applies = bad_frames D }
-    ∷ record { number = 8; applies = bad_barriers D }
-    ∷ record { number = 9; applies = bad_edges D }
+    record { refusal = BadNodes; applies = bad_nodes D }
+    ∷ record { refusal = BadConstructs; applies = bad_constructs D }
+    ∷ record { refusal = BadFrames; applies = bad_frames D }
+    ∷ record { refusal = BadBarriers; applies = bad_barriers D }
+    ∷ record { refusal = BadEdges; applies = bad_edges D }
     ∷ []
 
 -- Rows 1 to 9. A call's table goes on from here: its own rows are appended.

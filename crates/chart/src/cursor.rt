@@ -60,14 +60,13 @@ impl Cursor {
     }
 
     // The field of two bytes at an offset from the cursor.
+    #[tactic(auto, unfolding(crate::specs::Format::field))]
     pub fn field(self, s: &[u8], offset: usize) -> usize
         requires { self.at + offset + 1 < length s.now }
         ensures { (result ≡ field s.now (self.at + offset)) × (result < 65536) }
     {
         let at = self.at + offset;
-        let low = wide(s[at]);
-        let high = wide(s[at + 1]);
-        low + 256 * high
+        usize::from(u16::from_le_bytes([s[at], s[at + 1]]))
     }
 
     // The four bytes at the cursor as one number, lowest first. Loops that read records so are taken several at a time by the compiler,
@@ -77,7 +76,7 @@ impl Cursor {
         ensures { (result % 256 ≡ get_or s.now self.at 0) × (result / 256 % 256 ≡ get_or s.now (self.at + 1) 0) }
     {
         let at = self.at;
-        four_bytes(s[at], s[at + 1], s[at + 2], s[at + 3])
+        u32::from_le_bytes([s[at], s[at + 1], s[at + 2], s[at + 3]])
     }
 
     // The filter of the construct at the cursor.
@@ -85,36 +84,25 @@ impl Cursor {
         requires { self.at + 5 < length s.now }
         ensures { result ≡ cond (eqb edition 2) (field s.now (self.at + 4)) 0 }
     {
-        if edition != Chart::EDITION_2 {
-            return 0;
+        if edition == Chart::EDITION_2 {
+            self.field(s, 4)
+        } else {
+            0
         }
-        self.field(s, 4)
     }
 }
 
-// Four bytes as one number, the lowest one first.
-fn four_bytes(a: u8, b: u8, c: u8, d: u8) -> u32
-    ensures { (result ≡ a + 256 * b + 65536 * c + 16777216 * d) × (a < 256) × (b < 256) }
-{
-    (a as u32) + 256 * (b as u32) + 65536 * (c as u32) + 16777216 * (d as u32)
-}
-
 // The bytes of c construct records.
+#[tactic(auto, unfolding(crate::specs::Format::construct_bytes))]
 pub fn construct_bytes(edition: usize, c: usize) -> usize
     requires { c < 65536 }
     ensures { (result ≡ construct_bytes edition c) × (result ≤ 6 * c) }
 {
     if edition == Chart::EDITION_2 {
-        return Construct::BYTES_2 * c;
+        Construct::BYTES_2 * c
+    } else {
+        Construct::BYTES_1 * c
     }
-    Construct::BYTES_1 * c
-}
-
-// A byte as an index.
-pub fn wide(byte: u8) -> usize
-    ensures { (result ≡ byte) × (result < 256) }
-{
-    byte as usize
 }
 
 impl Chart {
@@ -138,13 +126,7 @@ impl Chart {
     pub fn read_for(self, region: usize) -> Chart
         ensures { result ≡ read_for self region }
     {
-        Chart {
-            edition: self.edition,
-            nodes: self.nodes,
-            edges: self.edges,
-            constructs: self.constructs,
-            region,
-        }
+        Chart { region, ..self }
     }
 }
 
@@ -154,11 +136,8 @@ impl Node {
         requires { Laid s.now chart × (x < chart.nodes) }
         ensures { (result.kind ≡ (node_at (decode s.now).nodes x).kind) × (result.number ≡ (node_at (decode s.now).nodes x).number) }
     {
-        let word = Cursor::node(x).word(s);
-        Node {
-            kind: (word % 256) as u8,
-            number: (word / 256 % 256) as u8,
-        }
+        let [kind, number, _, _] = Cursor::node(x).word(s).to_le_bytes();
+        Node { kind, number }
     }
 }
 
@@ -178,6 +157,7 @@ impl Edge {
 
 impl Construct {
     // Construct c of a chart.
+    #[tactic(auto, using(crate::proofs::Records::construct_room))]
     pub fn read(s: &[u8], chart: Chart, c: usize) -> Construct
         requires { Laid s.now chart × (c < chart.constructs) }
         ensures { let k = construct_at (decode s.now).constructs c in
@@ -197,14 +177,6 @@ impl Construct {
         requires { Laid s.now chart }
         ensures { result ≡ any_of (decode s.now).constructs kind }
     {
-        let n = chart.constructs;
-        let mut c = 0;
-        while c < n {
-            if Construct::read(s, chart, c).kind == kind {
-                return true;
-            }
-            c += 1;
-        }
-        false
+        (0..chart.constructs).any(|c| Construct::read(s, chart, c).kind == kind)
     }
 }

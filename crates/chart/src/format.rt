@@ -75,7 +75,7 @@ impl Node {
     pub const END: u8 = 3;
 }
 
-#[derive(Clone, Copy)]
+#[derive(Clone, Copy, PartialEq, Eq)]
 pub struct Edge {
     pub from: u8,
     pub to: u8,
@@ -128,63 +128,56 @@ impl Construct {
 // For each construct the node where it begins, or that where it ends.
 pub type Frames = [u8; Construct::FRAMES];
 
-// A refusal is its number alone.
+// Both, as row 7 of the refusals finds them.
 #[derive(Clone, Copy)]
-pub struct Refusal {
-    pub number: u8,
+pub struct Framing {
+    pub begins: Frames,
+    pub ends: Frames,
 }
 
-impl Refusal {
-    pub const SHORT: Refusal = Refusal { number: 1 };
-
-    pub const MARKS: Refusal = Refusal { number: 2 };
-
-    pub const COUNTS: Refusal = Refusal { number: 3 };
-
-    pub const LENGTHS: Refusal = Refusal { number: 4 };
-
-    pub const NODES: Refusal = Refusal { number: 5 };
-
-    pub const CONSTRUCTS: Refusal = Refusal { number: 6 };
-
-    pub const FRAMES: Refusal = Refusal { number: 7 };
-
-    pub const BARRIERS: Refusal = Refusal { number: 8 };
-
-    pub const EDGES: Refusal = Refusal { number: 9 };
-
-    pub const PATHS: Refusal = Refusal { number: 10 };
-
-    pub const ROOM: Refusal = Refusal { number: 11 };
-
-    pub const CLAIMS: Refusal = Refusal { number: 12 };
-
-    pub const NUMBERS: Refusal = Refusal { number: 13 };
-
-    pub const GRAMMAR: Refusal = Refusal { number: 14 };
-
-    pub const DEPTH: Refusal = Refusal { number: 15 };
-
-    pub const LIMITS: Refusal = Refusal { number: 16 };
-
-    pub const RECEIPT: Refusal = Refusal { number: 17 };
-
-    pub const SPACE: Refusal = Refusal { number: 18 };
-
-    pub const NO_EDGE: Refusal = Refusal { number: 19 };
-
-    pub const ACCESSES: Refusal = Refusal { number: 20 };
-
-    pub const SIZE: Refusal = Refusal { number: 21 };
-
-    pub const TRACE: Refusal = Refusal { number: 22 };
-
-    pub const REGION: Refusal = Refusal { number: 23 };
+impl Framing {
+    // Before they are found.
+    pub const NONE: Framing = Framing {
+        begins: [0u8; Construct::FRAMES],
+        ends: [0u8; Construct::FRAMES],
+    };
 }
 
-// What checking a chart answers.
-#[derive(Clone, Copy)]
-pub enum Checked {
-    Passed(Chart),
-    Refused(Refusal),
+// Why a call refuses: a variant for each row of 01's table and of 02's, which is its number.
+#[derive(Clone, Copy, Debug, PartialEq, Eq)]
+pub enum Refusal {
+    TooShort = 1,
+    BadMarks = 2,
+    BadCounts = 3,
+    BadLengths = 4,
+    BadNodes = 5,
+    BadConstructs = 6,
+    BadFrames = 7,
+    BadBarriers = 8,
+    BadEdges = 9,
+    BadPaths = 10,
+    NoRoom = 11,
+    OddClaims = 12,
+    BadNumber = 13,
+    BadGrammar = 14,
+    TooDeep = 15,
+    TooLarge = 16,
+    OldReceipt = 17,
+    NoSpace = 18,
+    NoEdge = 19,
+    BadAccesses = 20,
+    BadSize = 21,
+    BadTrace = 22,
+    NoRegion = 23,
+}
+
+impl From<Refusal> for u8 {
+    ghost use Rattle.std.specs.Prelude.{◌≡◌};
+    ghost use Rattle.chart.specs.Refusal.{row_number};
+
+    ghost from_gives = { λ refusal number. number ≡ row_number refusal };
+
+    fn from(refusal: Refusal) -> u8 {
+        refusal as u8
+    }
 }

@@ -20,8 +20,7 @@ pub fn put_field(out: &mut [u8], at: usize, value: usize)
     requires { (at + 2 ≤ length out.old) × (value < 65536) }
     ensures { take (at + 2) out.new ≡ take at out.old ++ field_bytes value [] }
 {
-    put_byte(out, at, (value % 256) as u8);
-    put_byte(out, at + 1, (value / 256) as u8);
+    put_part(out, at, &(value as u16).to_le_bytes());
 }
 
 // All bytes of a part; what stands past them stays.
@@ -30,11 +29,7 @@ pub fn put_part(out: &mut [u8], at: usize, part: &[u8])
     ensures out_after { take (at + length part.now) out.new ≡ take at out.old ++ part.now }
     ensures out_unchanged { drop (at + length part.now) out.new ≡ drop (at + length part.now) out.old }
 {
-    let mut k = 0;
-    while k < part.len() {
-        out[at + k] = part[k];
-        k += 1;
-    }
+    out[at..at + part.len()].copy_from_slice(part);
 }
 
 // The first half of a trailer: edition and counts.

@@ -1,5 +1,6 @@
 // Rows 5 and 9 of the refusals, on charts without constructs, and of row 9 on any chart the order of the edges. Each byte place tells a
 // number, 0 where no record begins, and the highest decides: with no branch and no place left out the compiler takes 16 places at once.
+// `check_nodes` and `check_edges` ask the same rows of other charts, by records and tables, and share no loop with these.
 #![tactic(auto)]
 
 ghost use Rattle.std.specs.Prelude.{◌≡◌, false, cond, ◌*◌, ◌-◌, ◌<◌, min, max};
@@ -9,57 +10,35 @@ ghost use Rattle.chart.specs.Refusal.{bad_nodes, bad_edges};
 ghost use Rattle.chart.specs.Checked.{Laid};
 ghost use Rattle.check_bare.specs.Told.{evenly, node_told, edge_told, node_place, edge_place, Highest, bad_next};
 
-use chart::cursor::wide;
 use chart::format::{Chart, Construct, Edge, Node};
-
-fn larger(a: u8, b: u8) -> u8
-    ensures { result ≡ max a b }
-{
-    if a < b {
-        return b;
-    }
-    a
-}
-
-fn smaller(a: u8, b: u8) -> u8
-    ensures { result ≡ min a b }
-{
-    if a < b {
-        return a;
-    }
-    b
-}
 
 // The highest byte where that holds, and 0 where not.
 fn full(holds: bool) -> u8
     ensures { result ≡ cond holds 255 0 }
 {
-    if holds {
-        return 255;
-    }
-    0
+    if holds { 255 } else { 0 }
 }
 
 // The byte at an even place, and 0 at an odd one.
 fn at_even(k: usize, byte: u8) -> u8
     ensures { result ≡ evenly k byte }
 {
-    smaller(byte, full(k % 2 == 0))
+    byte.min(full(k % 2 == 0))
 }
 
 fn tell_node(kind: u8, number: u8) -> u8
     ensures { result ≡ node_told kind number }
 {
-    larger(kind, full(number != Construct::NONE))
+    kind.max(full(number != Construct::NONE))
 }
 
 // Of the edge (from, to), after the edge (a, b).
 fn tell_edge(a: u8, b: u8, from: u8, to: u8) -> u8
     ensures { result ≡ edge_told a b from to }
 {
-    let alone = larger(to, full(to == 0));
-    let falls = larger(full(from < a), smaller(full(a == from), full(to <= b)));
-    larger(alone, falls)
+    let alone = to.max(full(to == 0));
+    let falls = full(from < a).max(full(a == from).min(full(to <= b)));
+    alone.max(falls)
 }
 
 // A node begins at every fourth place: at the even ones of the even places.
@@ -69,10 +48,8 @@ fn highest_node(s: &[u8], chart: Chart) -> u8
 {
     let all = Node::BYTES * chart.nodes;
     let mut high = 0u8;
-    let mut k = 0;
-    while k < all {
-        high = larger(high, at_even(k, at_even(k / 2, tell_node(s[k], s[k + 1]))));
-        k += 1;
+    for k in 0..all {
+        high = high.max(at_even(k, at_even(k / 2, tell_node(s[k], s[k + 1]))));
     }
     high
 }
@@ -84,14 +61,9 @@ fn highest_edge(s: &[u8], chart: Chart) -> u8
     let first = Node::BYTES * chart.nodes;
     let last = Edge::BYTES * (chart.edges - 1);
     let mut high = 0u8;
-    let mut k = 0;
-    while k < last {
+    for k in 0..last {
         let at = first + k;
-        high = larger(
-            high,
-            at_even(k, tell_edge(s[at], s[at + 1], s[at + 2], s[at + 3])),
-        );
-        k += 1;
+        high = high.max(at_even(k, tell_edge(s[at], s[at + 1], s[at + 2], s[at + 3])));
     }
     high
 }
@@ -101,7 +73,7 @@ pub fn bad_order(s: &[u8], chart: Chart) -> bool
     requires { Laid s.now chart }
     ensures { result ≡ any (chart.edges - 1) (bad_next (decode s.now)) }
 {
-    chart.nodes <= wide(highest_edge(s, chart))
+    chart.nodes <= usize::from(highest_edge(s, chart))
 }
 
 // Row 5: with no construct a node is plain or a barrier, and outside.
@@ -118,16 +90,7 @@ pub fn bad_edges(s: &[u8], chart: Chart) -> bool
     ensures { result ≡ bad_edges (decode s.now) }
 {
     let n = chart.nodes;
-    let to = wide(Edge::read(s, chart, 0).to);
-    if to == 0 {
-        return true;
-    }
-    if n <= to {
-        return true;
-    }
-    let from = wide(Edge::read(s, chart, chart.edges - 1).from);
-    if n <= from + 1 {
-        return true;
-    }
-    bad_order(s, chart)
+    let to = usize::from(Edge::read(s, chart, 0).to);
+    let from = usize::from(Edge::read(s, chart, chart.edges - 1).from);
+    to == 0 || n <= to || n <= from + 1 || bad_order(s, chart)
 }

@@ -4,10 +4,9 @@ ghost use Rattle.chart.specs.Format.{decode};
 ghost use Rattle.chart.specs.Refusal.{first_of, table_rows};
 ghost use Rattle.chart.specs.Checked.{Laid, checked_by, checked};
 ghost use Rattle.chart.specs.declared.format.Chart.{Chart};
-ghost use Rattle.chart.specs.declared.format.Checked.TheVariants.{Passed};
 ghost use Rattle.check_nodes.specs.Framed.{BothFramed};
 
-use chart::format::{Chart, Checked, Frames, Refusal};
+use chart::format::{Chart, Framing, Refusal};
 use check_constructs::nesting::bad_constructs;
 use check_edges::bad_edges;
 use check_nodes::counts::{bad_barriers, bad_frames};
@@ -15,36 +14,34 @@ use check_nodes::nodes::bad_nodes;
 use check_trailer::read_trailer;
 
 // Rows 5 to 9. Row 7 finds where the constructs begin and end; row 9 reads it.
-fn check_tables(s: &[u8], chart: Chart, begins: &mut Frames, ends: &mut Frames) -> Checked
+fn check_tables(s: &[u8], chart: Chart, framing: &mut Framing) -> Result<Chart, Refusal>
     requires { Laid s.now chart }
     ensures value { result ≡ checked_by (first_of (table_rows (decode s.now))) chart }
-    ensures both_framed { (counts : Chart) → result ≡ Passed counts → BothFramed (decode s.now) begins.new ends.new }
+    ensures both_framed { (counts : Chart) → result ≡ Ok counts → BothFramed (decode s.now) framing.new.begins framing.new.ends }
 {
     if bad_nodes(s, chart) {
-        return Checked::Refused(Refusal::NODES);
+        return Err(Refusal::BadNodes);
     }
     if bad_constructs(s, chart) {
-        return Checked::Refused(Refusal::CONSTRUCTS);
+        return Err(Refusal::BadConstructs);
     }
-    if bad_frames(s, chart, begins, ends) {
-        return Checked::Refused(Refusal::FRAMES);
+    if bad_frames(s, chart, framing) {
+        return Err(Refusal::BadFrames);
     }
     if bad_barriers(s, chart) {
-        return Checked::Refused(Refusal::BARRIERS);
+        return Err(Refusal::BadBarriers);
     }
-    if bad_edges(s, chart, begins, ends) {
-        return Checked::Refused(Refusal::EDGES);
+    if bad_edges(s, chart, framing) {
+        return Err(Refusal::BadEdges);
     }
-    Checked::Passed(chart)
+    Ok(chart)
 }
 
 // The first of rows 1 to 9 that applies, or the counts of the chart, and where its constructs begin and end.
-pub fn check(s: &[u8], begins: &mut Frames, ends: &mut Frames) -> Checked
+pub fn check(s: &[u8], framing: &mut Framing) -> Result<Chart, Refusal>
     ensures value { result ≡ checked s.now }
-    ensures both_framed { (chart : Chart) → result ≡ Passed chart → BothFramed (decode s.now) begins.new ends.new }
+    ensures both_framed { (chart : Chart) → result ≡ Ok chart → BothFramed (decode s.now) framing.new.begins framing.new.ends }
 {
-    match read_trailer(s) {
-        Checked::Refused(refusal) => Checked::Refused(refusal),
-        Checked::Passed(chart) => check_tables(s, chart, begins, ends),
-    }
+    let chart = read_trailer(s)?;
+    check_tables(s, chart, framing)
 }

@@ -10,17 +10,13 @@ ghost use Rattle.chart.specs.Checked.{Laid};
 ghost use Rattle.check_constructs.specs.Kinds.{KindsFrom, barred_by};
 
 use crate::kinds::bit;
-use chart::cursor::wide;
 use chart::format::{Chart, Construct};
 
 // Whether `outer` may not stand above a critical of this name.
 fn same_name(name: usize, outer: Construct) -> bool
     ensures { result ≡ excluded critical_byte name outer.kind outer.name }
 {
-    if outer.kind != Construct::CRITICAL {
-        return false;
-    }
-    name == outer.name
+    outer.kind == Construct::CRITICAL && name == outer.name
 }
 
 // Whether some construct above the critical c in its region may not stand there. The walk upwards stops at the first parallel, where nesting
@@ -33,7 +29,7 @@ fn same_above(s: &[u8], chart: Chart, c: usize) -> bool
     let inner = Construct::read(s, chart, c);
     let mut p = inner.parent;
     while p != Construct::NONE {
-        let outer = Construct::read(s, chart, wide(p));
+        let outer = Construct::read(s, chart, usize::from(p));
         if outer.kind == Construct::PARALLEL {
             return false;
         }

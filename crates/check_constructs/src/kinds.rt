@@ -20,9 +20,10 @@ pub fn within(kind: u8, above: u8) -> u8
     ensures { result ≡ cond (eqb kind parallel_byte) 0 (bit_or above (bit_of kind)) }
 {
     if kind == Construct::PARALLEL {
-        return 0;
+        0
+    } else {
+        above | bit(kind)
     }
-    above | bit(kind)
 }
 
 // A row of the nesting table as the bits of the kinds that may not stand above its kind. The column of parallel is not asked.
@@ -31,26 +32,20 @@ fn row_bits(table: &[[bool; Construct::KINDS]; Construct::KINDS], row: usize) ->
     ensures { result ≡ mask_of (barred_by (row + 1)) 8 }
 {
     let mut bits = 0u8;
-    let mut k = 1;
-    while k < Construct::KINDS {
+    for k in 1..Construct::KINDS {
         bits = (((!table[row][k - 1]) as u8) << k) | bits;
-        k += 1;
     }
     bits
 }
 
 // All rows. The nesting table is a constant, so that the compiler makes constants of them.
-pub fn barred_kinds(
-    table: &[[bool; Construct::KINDS]; Construct::KINDS],
-    barred: &mut [u8; Construct::KINDS],
-)
+pub fn barred_kinds(table: &[[bool; Construct::KINDS]; Construct::KINDS]) -> [u8; Construct::KINDS]
     requires { NestingTable table.now }
-    ensures { BarredTable barred.new }
+    ensures { BarredTable result }
 {
-    *barred = [0u8; Construct::KINDS];
-    let mut row = 0;
-    while row < Construct::KINDS {
+    let mut barred = [0u8; Construct::KINDS];
+    for row in 0..Construct::KINDS {
         barred[row] = row_bits(table, row);
-        row += 1;
     }
+    barred
 }

@@ -11,7 +11,6 @@ use crate::alone::bad_construct;
 use crate::enclosing::bad_above;
 use crate::kinds::{barred_kinds, bit, within};
 use crate::stray::stray_nodes;
-use chart::cursor::wide;
 use chart::format::{Chart, Construct};
 
 // A place for each construct, and the last for none: its number, 255, is taken modulo this.
@@ -47,8 +46,8 @@ fn bad_at(
         return true;
     }
     let kind = construct.kind;
-    let row = wide(kind) - 1;
-    let up = wide(construct.parent) % PLACES;
+    let row = usize::from(kind) - 1;
+    let up = usize::from(construct.parent) % PLACES;
     let above = under[up];
     let parent = own[up];
     under[c] = within(kind, above);
@@ -65,18 +64,15 @@ fn bad_nesting(s: &[u8], chart: Chart, table: [[bool; Construct::KINDS]; Constru
     ensures { let cs = (decode s.now).constructs in
         result ≡ (any (length cs) (bad_alone cs) || any (length cs) (misnested cs)) }
 {
-    let mut barred = [0u8; Construct::KINDS];
-    barred_kinds(&table, &mut barred);
+    let barred = barred_kinds(&table);
     let misplaced = MISPLACED;
     let mut under = [0u8; PLACES];
     let mut own = [1u8; PLACES];
-    let n = chart.constructs;
-    let mut c = 0;
-    while c < n {
+    // no `any`: each turn notes its construct for those above
+    for c in 0..chart.constructs {
         if bad_at(s, chart, c, &barred, &misplaced, &mut under, &mut own) {
             return true;
         }
-        c += 1;
     }
     false
 }
@@ -86,11 +82,6 @@ pub fn bad_constructs(s: &[u8], chart: Chart) -> bool
     requires { Laid s.now chart }
     ensures { result ≡ bad_constructs (decode s.now) }
 {
-    if bad_nesting(s, chart, Chart::NESTING) {
-        return true;
-    }
-    if !Construct::occurs(s, chart, Construct::SECTIONS) {
-        return false;
-    }
-    stray_nodes(s, chart)
+    bad_nesting(s, chart, Chart::NESTING)
+        || Construct::occurs(s, chart, Construct::SECTIONS) && stray_nodes(s, chart)
 }

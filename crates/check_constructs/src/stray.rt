@@ -6,22 +6,18 @@ ghost use Rattle.chart.specs.Refusal.{stray_node};
 ghost use Rattle.chart.specs.Checked.{Laid};
 ghost use Rattle.check_constructs.specs.Sections.{SectionsBelow};
 
-use chart::cursor::wide;
 use chart::format::{Chart, Construct, Node};
 
 // There is a flag for every value of a byte, so that no number of a node is out of range.
 const BYTES: usize = 256;
 
-// A flag on each sections, where none is before.
+// A flag on each sections, where none is before: 1 or 0, which `check_constructs.specs.Sections` promises.
 fn flag_sections(s: &[u8], chart: Chart, flags: &mut [u8; BYTES])
     requires { Laid s.now chart × (flags.old ≡ replicate 256 0) }
     ensures { SectionsBelow (decode s.now).constructs chart.constructs flags.new }
 {
-    let n = chart.constructs;
-    let mut c = 0;
-    while c < n {
+    for c in 0..chart.constructs {
         flags[c] = (Construct::read(s, chart, c).kind == Construct::SECTIONS) as u8;
-        c += 1;
     }
 }
 
@@ -32,14 +28,11 @@ pub fn stray_nodes(s: &[u8], chart: Chart) -> bool
 {
     let mut flags = [0u8; BYTES];
     flag_sections(s, chart, &mut flags);
-    let n = chart.nodes;
     let mut found = 0u8;
-    let mut x = 0;
-    while x < n {
+    for x in 0..chart.nodes {
         let node = Node::read(s, chart, x);
         let plain = (node.kind < Node::BEGIN) as u8;
-        found = found | (plain & flags[wide(node.number)]);
-        x += 1;
+        found |= plain & flags[usize::from(node.number)];
     }
     found != 0
 }

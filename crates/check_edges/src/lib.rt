@@ -9,24 +9,19 @@ ghost use Rattle.chart.specs.Refusal.{bad_nodes, rises, bad_edge_at, joins_secti
 ghost use Rattle.chart.specs.Checked.{Laid};
 ghost use Rattle.check_edges.specs.Tables.{no_leaving, no_arriving, ScopesOf, FilledTo, ScopeTable, EdgeScopes, FramesKnown, SectionsTo, bad_by_itself};
 
-use chart::cursor::wide;
-use chart::format::{Chart, Construct, Edge, Frames, Node};
+use chart::format::{Chart, Construct, Edge, Framing, Node};
 
 // The scope of node x: where it lies, or its own construct where its kind is `own`.
 pub fn scope(s: &[u8], chart: Chart, x: usize, own: u8) -> u8
     requires { Laid s.now chart × (x < chart.nodes) × (bad_nodes (decode s.now) ≡ false) }
     ensures { result ≡ scope_at own (decode s.now).nodes (decode s.now).constructs x }
 {
-    let node = Node::read(s, chart, x);
-    let kind = node.kind;
-    let number = node.number;
-    if kind == own {
-        return number;
+    let Node { kind, number } = Node::read(s, chart, x);
+    if kind == own || kind < Node::BEGIN {
+        number
+    } else {
+        Construct::read(s, chart, usize::from(number)).parent
     }
-    if kind < Node::BEGIN {
-        return number;
-    }
-    Construct::read(s, chart, wide(number)).parent
 }
 
 // The tables have a scope for every value of a byte, so that no number of an edge is out of range.
@@ -37,144 +32,108 @@ const NO_LEAVING: u16 = 256;
 
 const NO_ARRIVING: u16 = 257;
 
-// A scope as a number that also has room for these.
-fn widened(scope: u8) -> u16
-    ensures { (result ≡ scope) × (result < 256) }
-{
-    scope as u16
+// The scope of each number, on leaving and on arriving.
+#[derive(Clone, Copy)]
+struct NodeScopes {
+    leave: [u16; BYTES],
+    arrive: [u16; BYTES],
 }
 
 // The number of each node as its scope, on leaving and on arriving, which it is but for ends on leaving and begins on arriving; a number
 // that no node has gets a scope that no other has. No turn branches, so that several nodes are taken at once.
-fn fill_numbers(s: &[u8], chart: Chart, leave: &mut [u16; BYTES], arrive: &mut [u16; BYTES])
+fn number_scopes(s: &[u8], chart: Chart) -> NodeScopes
     requires { Laid s.now chart × (bad_nodes (decode s.now) ≡ false) }
     ensures { let D = decode s.now in
-        ScopesOf (FilledTo D end_node 0) begin_node no_leaving D chart.nodes leave.new × ScopesOf (FilledTo D begin_node 0) end_node no_arriving D chart.nodes arrive.new }
+        ScopesOf (FilledTo D end_node 0) begin_node no_leaving D chart.nodes result.leave
+        × ScopesOf (FilledTo D begin_node 0) end_node no_arriving D chart.nodes result.arrive }
 {
-    *leave = [NO_LEAVING; BYTES];
-    *arrive = [NO_ARRIVING; BYTES];
-    let n = chart.nodes;
-    let mut x = 0;
-    while x < n {
-        let number = widened(Node::read(s, chart, x).number);
-        leave[x] = number;
-        arrive[x] = number;
-        x += 1;
+    let mut scopes = NodeScopes {
+        leave: [NO_LEAVING; BYTES],
+        arrive: [NO_ARRIVING; BYTES],
+    };
+    for x in 0..chart.nodes {
+        let number = u16::from(Node::read(s, chart, x).number);
+        scopes.leave[x] = number;
+        scopes.arrive[x] = number;
     }
+    scopes
 }
 
 // The scopes of all nodes, by number, on leaving and on arriving; a number that no node has gets a scope that no other has. Ends on
 // leaving and begins on arriving get the parent of their construct in place of its number: by constructs, as most nodes are neither.
-fn fill_scopes(
-    s: &[u8],
-    chart: Chart,
-    begins: &Frames,
-    ends: &Frames,
-    leave: &mut [u16; BYTES],
-    arrive: &mut [u16; BYTES],
-)
-    requires { FramesKnown s.now chart begins.now ends.now }
-    ensures { ScopeTable begin_node no_leaving (decode s.now) leave.new × ScopeTable end_node no_arriving (decode s.now) arrive.new }
+fn node_scopes(s: &[u8], chart: Chart, framing: &Framing) -> NodeScopes
+    requires { FramesKnown s.now chart framing.now.begins framing.now.ends }
+    ensures { ScopeTable begin_node no_leaving (decode s.now) result.leave × ScopeTable end_node no_arriving (decode s.now) result.arrive }
 {
-    fill_numbers(s, chart, leave, arrive);
-    let n = chart.constructs;
-    let mut c = 0;
-    while c < n {
-        let parent = widened(Construct::read(s, chart, c).parent);
-        leave[wide(ends[c])] = parent;
-        arrive[wide(begins[c])] = parent;
-        c += 1;
+    let mut scopes = number_scopes(s, chart);
+    for c in 0..chart.constructs {
+        let parent = u16::from(Construct::read(s, chart, c).parent);
+        scopes.leave[usize::from(framing.ends[c])] = parent;
+        scopes.arrive[usize::from(framing.begins[c])] = parent;
     }
-}
-
-// The pair (from, to) as one number, so that edges are ordered by one comparison.
-fn key(edge: Edge) -> usize
-    ensures { (result ≡ 256 * edge.from + edge.to) × (edge.to < 256) }
-{
-    256 * wide(edge.from) + wide(edge.to)
+    scopes
 }
 
 // Whether b comes after a by (from, to).
 pub fn rising(a: Edge, b: Edge) -> bool
     ensures { result ≡ rises a.from a.to b.from b.to }
 {
-    key(a) < key(b)
+    (a.from, a.to) < (b.from, b.to)
 }
 
 // Row 9 but for sections, of edge i by itself.
-fn bad_edge_at(
-    s: &[u8],
-    chart: Chart,
-    i: usize,
-    leave: &[u16; BYTES],
-    arrive: &[u16; BYTES],
-) -> bool
-    requires { Laid s.now chart × (i < chart.edges) × EdgeScopes (decode s.now) leave.now arrive.now }
+fn bad_edge_at(s: &[u8], chart: Chart, i: usize, scopes: &NodeScopes) -> bool
+    requires { Laid s.now chart × (i < chart.edges) × EdgeScopes (decode s.now) scopes.now.leave scopes.now.arrive }
     ensures { result ≡ bad_by_itself (decode s.now) i }
 {
     let edge = Edge::read(s, chart, i);
-    let from = wide(edge.from);
-    let to = wide(edge.to);
-    leave[from] != arrive[to]
+    scopes.leave[usize::from(edge.from)] != scopes.arrive[usize::from(edge.to)]
 }
 
 // Row 9 but for sections and for the order of the edges, given the scopes of all nodes.
-fn bad_edges_by(s: &[u8], chart: Chart, leave: &[u16; BYTES], arrive: &[u16; BYTES]) -> bool
-    requires { Laid s.now chart × EdgeScopes (decode s.now) leave.now arrive.now }
+fn bad_edges_by(s: &[u8], chart: Chart, scopes: &NodeScopes) -> bool
+    requires { Laid s.now chart × EdgeScopes (decode s.now) scopes.now.leave scopes.now.arrive }
     ensures { result ≡ any (length (decode s.now).edges) (bad_by_itself (decode s.now)) }
 {
-    let e = chart.edges;
-    let mut i = 0;
-    while i < e {
-        if bad_edge_at(s, chart, i, leave, arrive) {
-            return true;
-        }
-        i += 1;
-    }
-    false
+    (0..chart.edges).any(|i| bad_edge_at(s, chart, i, scopes))
 }
 
-// Which nodes are the end of a section, and which the begin, as 1 or 0: by constructs, as most nodes are neither.
-fn mark_sections(
-    s: &[u8],
-    chart: Chart,
-    begins: &Frames,
-    ends: &Frames,
-    from: &mut [u8; BYTES],
-    to: &mut [u8; BYTES],
-)
-    requires { FramesKnown s.now chart begins.now ends.now }
+// Which nodes are the end of a section, and which the begin, as 1 or 0, which `check_edges.specs.Tables` promises.
+#[derive(Clone, Copy)]
+struct SectionNodes {
+    from: [u8; BYTES],
+    to: [u8; BYTES],
+}
+
+// By constructs, as most nodes are neither.
+fn mark_sections(s: &[u8], chart: Chart, framing: &Framing) -> SectionNodes
+    requires { FramesKnown s.now chart framing.now.begins framing.now.ends }
     ensures { let D = decode s.now in
-        SectionsTo D end_node chart.constructs from.new × SectionsTo D begin_node chart.constructs to.new }
+        SectionsTo D end_node chart.constructs result.from × SectionsTo D begin_node chart.constructs result.to }
 {
-    *from = [0u8; BYTES];
-    *to = [0u8; BYTES];
-    let n = chart.constructs;
-    let mut c = 0;
-    while c < n {
-        let section = (Construct::read(s, chart, c).kind == Construct::SECTION) as u8;
-        from[wide(ends[c])] = section;
-        to[wide(begins[c])] = section;
-        c += 1;
+    let mut marks = SectionNodes {
+        from: [0u8; BYTES],
+        to: [0u8; BYTES],
+    };
+    for c in 0..chart.constructs {
+        let section = u8::from(Construct::read(s, chart, c).kind == Construct::SECTION);
+        marks.from[usize::from(framing.ends[c])] = section;
+        marks.to[usize::from(framing.begins[c])] = section;
     }
+    marks
 }
 
 // Row 9 for sections: whether some edge leads from a section's end to a section's begin. No turn branches on what it reads: on a chart
 // that was not seen before such a branch is mispredicted.
-fn joins_sections(s: &[u8], chart: Chart, begins: &Frames, ends: &Frames) -> bool
-    requires { FramesKnown s.now chart begins.now ends.now }
+fn joins_sections(s: &[u8], chart: Chart, framing: &Framing) -> bool
+    requires { FramesKnown s.now chart framing.now.begins framing.now.ends }
     ensures { result ≡ any (length (decode s.now).edges) (joins_sections (decode s.now)) }
 {
-    let mut from = [0u8; BYTES];
-    let mut to = [0u8; BYTES];
-    mark_sections(s, chart, begins, ends, &mut from, &mut to);
-    let e = chart.edges;
+    let SectionNodes { from, to } = mark_sections(s, chart, framing);
     let mut found = 0u8;
-    let mut i = 0;
-    while i < e {
+    for i in 0..chart.edges {
         let edge = Edge::read(s, chart, i);
-        found = found | (from[wide(edge.from)] & to[wide(edge.to)]);
-        i += 1;
+        found |= from[usize::from(edge.from)] & to[usize::from(edge.to)];
     }
     found != 0
 }
@@ -182,35 +141,24 @@ fn joins_sections(s: &[u8], chart: Chart, begins: &Frames, ends: &Frames) -> boo
 // Row 9 but for sections. The order is asked of all edges at once, so that one comparison of scopes is all that is left of each, and it is
 // asked after the scopes are filled, which need not be read at once then. They are noted once for each node, not looked up for each edge.
 // No edge may come to start or leave finish: there too stand scopes that no other has.
-fn bad_scopes(s: &[u8], chart: Chart, begins: &Frames, ends: &Frames) -> bool
-    requires { FramesKnown s.now chart begins.now ends.now }
+fn bad_scopes(s: &[u8], chart: Chart, framing: &Framing) -> bool
+    requires { FramesKnown s.now chart framing.now.begins framing.now.ends }
     ensures { result ≡ any (length (decode s.now).edges) (bad_edge_at (decode s.now)) }
 {
-    let mut leave = [0u16; BYTES];
-    let mut arrive = [0u16; BYTES];
-    fill_scopes(s, chart, begins, ends, &mut leave, &mut arrive);
-    let finish = chart.nodes - 1;
-    leave[finish] = NO_LEAVING;
-    arrive[0] = NO_ARRIVING;
-    if check_bare::bad_order(s, chart) {
-        return true;
-    }
-    bad_edges_by(s, chart, &leave, &arrive)
+    let mut scopes = node_scopes(s, chart, framing);
+    scopes.leave[chart.nodes - 1] = NO_LEAVING;
+    scopes.arrive[0] = NO_ARRIVING;
+    check_bare::bad_order(s, chart) || bad_edges_by(s, chart, &scopes)
 }
 
 // Row 9. Edges are asked for sections only where there is one, and for scopes only where there is a construct.
-pub fn bad_edges(s: &[u8], chart: Chart, begins: &Frames, ends: &Frames) -> bool
-    requires { FramesKnown s.now chart begins.now ends.now }
+pub fn bad_edges(s: &[u8], chart: Chart, framing: &Framing) -> bool
+    requires { FramesKnown s.now chart framing.now.begins framing.now.ends }
     ensures { result ≡ bad_edges (decode s.now) }
 {
     if chart.constructs == 0 {
         return check_bare::bad_edges(s, chart);
     }
-    if bad_scopes(s, chart, begins, ends) {
-        return true;
-    }
-    if !Construct::occurs(s, chart, Construct::SECTION) {
-        return false;
-    }
-    joins_sections(s, chart, begins, ends)
+    bad_scopes(s, chart, framing)
+        || Construct::occurs(s, chart, Construct::SECTION) && joins_sections(s, chart, framing)
 }

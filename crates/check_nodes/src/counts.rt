@@ -10,9 +10,7 @@ ghost use Rattle.chart.specs.Checked.{Laid};
 ghost use Rattle.check_nodes.specs.Counted.{Counted};
 ghost use Rattle.check_nodes.specs.Framed.{not_noted, noted_at, lacking, Noted, BothFramed};
 
-use chart::cursor::wide;
-use chart::format::{Chart, Construct, Frames, Node};
-use masks::bits::either;
+use chart::format::{Chart, Construct, Frames, Framing, Node};
 
 // How many numbers a node may have.
 const NUMBERS: usize = 256;
@@ -23,8 +21,7 @@ fn count_if(holds: bool, number: u8, found: &mut [u8; NUMBERS])
     ensures { (length found.new ≡ 256) × ((c : ℕ) → get_or found.new c 0 ≡ get_or found.old c 0 + cond (holds && eqb number c) 1 0) }
 {
     if holds {
-        let c = wide(number);
-        found[c] += 1;
+        found[usize::from(number)] += 1;
     }
 }
 
@@ -34,7 +31,7 @@ type NodeTable = [u8; PLACES];
 
 const PLACES: usize = 4 * Construct::FRAMES;
 
-// In place of a node, that none was noted.
+// In place of a node, that none was noted: a place is one byte, which `check_nodes.specs.Framed` promises, and no Option.
 const NOT_NOTED: u8 = 255;
 
 // Each node is noted in its place, of several the last there; how many are begins and ends. No turn branches: of which kind the next node is
@@ -43,16 +40,13 @@ fn note_nodes(s: &[u8], chart: Chart, noted: &mut NodeTable) -> usize
     requires { Laid s.now chart × (bad_nodes (decode s.now) ≡ false) × (noted.old ≡ replicate 256 not_noted) }
     ensures { Noted (decode s.now) chart.nodes noted.new result }
 {
-    let n = chart.nodes;
     let mut frames = 0;
-    let mut x = 0;
-    while x < n {
+    for x in 0..chart.nodes {
         let node = Node::read(s, chart, x);
-        let kind = wide(node.kind);
+        let kind = usize::from(node.kind);
         // 1 for a begin and an end, else 0
         frames += kind / 2;
-        noted[kind * Construct::FRAMES + wide(node.number) % Construct::FRAMES] = (x % 256) as u8;
-        x += 1;
+        noted[kind * Construct::FRAMES + usize::from(node.number) % Construct::FRAMES] = x as u8;
     }
     frames
 }
@@ -63,26 +57,23 @@ fn take_frames(noted: &NodeTable, kind: u8, constructs: usize, frames: &mut Fram
     ensures value { result ≡ lacking kind constructs noted.now }
     ensures written { Written (noted_at kind noted.now) constructs frames.new }
 {
-    let row = wide(kind) * Construct::FRAMES;
+    let row = usize::from(kind) * Construct::FRAMES;
     let mut lacks = false;
-    let mut c = 0;
-    while c < constructs {
+    for c in 0..constructs {
         let node = noted[row + c];
         frames[c] = node;
-        lacks = either(lacks, node == NOT_NOTED);
-        c += 1;
+        lacks |= node == NOT_NOTED;
     }
     lacks
 }
 
 // Row 7, and for each construct its begin and its end where the row does not apply. Without constructs there is none that could lack a frame.
-pub fn bad_frames(s: &[u8], chart: Chart, begins: &mut Frames, ends: &mut Frames) -> bool
+pub fn bad_frames(s: &[u8], chart: Chart, framing: &mut Framing) -> bool
     requires { Laid s.now chart × (bad_nodes (decode s.now) ≡ false) }
     ensures value { result ≡ bad_frames (decode s.now) }
-    ensures both_framed { result ≡ false → BothFramed (decode s.now) begins.new ends.new }
+    ensures both_framed { result ≡ false → BothFramed (decode s.now) framing.new.begins framing.new.ends }
 {
-    *begins = [0u8; Construct::FRAMES];
-    *ends = [0u8; Construct::FRAMES];
+    *framing = Framing::NONE;
     if chart.constructs == 0 {
         return false;
     }
@@ -92,36 +83,27 @@ pub fn bad_frames(s: &[u8], chart: Chart, begins: &mut Frames, ends: &mut Frames
     if frames != 2 * c {
         return true;
     }
-    let no_begin = take_frames(&noted, Node::BEGIN, c, begins);
-    let no_end = take_frames(&noted, Node::END, c, ends);
-    either(no_begin, no_end)
+    let no_begin = take_frames(&noted, Node::BEGIN, c, &mut framing.begins);
+    let no_end = take_frames(&noted, Node::END, c, &mut framing.ends);
+    no_begin || no_end
 }
 
 // What a node counts for the outermost region: one if it is a barrier there.
 fn outermost(node: Node) -> u8
     ensures { result ≡ cond (leb barrier_node node.kind && eqb node.number outside) 1 0 }
 {
-    let number = node.number;
-    if node.kind < Node::BARRIER {
-        return 0;
-    }
-    if number != Construct::NONE {
-        return 0;
-    }
-    1
+    u8::from(Node::BARRIER <= node.kind && node.number == Construct::NONE)
 }
 
-// How many barriers the outermost region has. No turn branches, so that many nodes are taken at once.
+// How many barriers the outermost region has. No turn branches and the count is a byte, so that many nodes are taken at once: `count` of an
+// iterator counts in words.
 fn count_outermost(s: &[u8], chart: Chart) -> u8
     requires { Laid s.now chart }
     ensures { let nodes = (decode s.now).nodes in result ≡ count (length nodes) (barrier_of nodes outside) }
 {
-    let n = chart.nodes;
     let mut found = 0u8;
-    let mut x = 0;
-    while x < n {
+    for x in 0..chart.nodes {
         found += outermost(Node::read(s, chart, x));
-        x += 1;
     }
     found
 }
@@ -131,12 +113,9 @@ fn count_barriers(s: &[u8], chart: Chart, found: &mut [u8; NUMBERS])
     requires { Laid s.now chart × Counted (decode s.now) (leb barrier_node) 0 found.old }
     ensures { Counted (decode s.now) (leb barrier_node) chart.nodes found.new }
 {
-    let n = chart.nodes;
-    let mut x = 0;
-    while x < n {
+    for x in 0..chart.nodes {
         let node = Node::read(s, chart, x);
         count_if(Node::BARRIER <= node.kind, node.number, found);
-        x += 1;
     }
 }
 
@@ -145,10 +124,8 @@ fn crowded_at(s: &[u8], chart: Chart, found: &[u8; NUMBERS], c: usize) -> bool
     requires { Laid s.now chart × Counted (decode s.now) (leb barrier_node) chart.nodes found.now × (c < chart.constructs) }
     ensures { let D = decode s.now in result ≡ (is_parallel D.constructs c && too_many_in D.nodes c) }
 {
-    if wide(found[c]) <= Chart::BARRIERS {
-        return false;
-    }
-    Construct::read(s, chart, c).kind == Construct::PARALLEL
+    Chart::BARRIERS < usize::from(found[c])
+        && Construct::read(s, chart, c).kind == Construct::PARALLEL
 }
 
 // Whether the region of some parallel has over 64 barriers.
@@ -156,15 +133,7 @@ fn crowded(s: &[u8], chart: Chart, found: &[u8; NUMBERS]) -> bool
     requires { Laid s.now chart × Counted (decode s.now) (leb barrier_node) chart.nodes found.now }
     ensures { let D = decode s.now in result ≡ any (length D.constructs) (λ c. is_parallel D.constructs c && too_many_in D.nodes c) }
 {
-    let n = chart.constructs;
-    let mut c = 0;
-    while c < n {
-        if crowded_at(s, chart, found, c) {
-            return true;
-        }
-        c += 1;
-    }
-    false
+    (0..chart.constructs).any(|c| crowded_at(s, chart, found, c))
 }
 
 // Row 8. Barriers are counted by regions only where there is a parallel.
@@ -173,13 +142,10 @@ pub fn bad_barriers(s: &[u8], chart: Chart) -> bool
     ensures { result ≡ bad_barriers (decode s.now) }
 {
     let n = chart.nodes;
-    if Node::read(s, chart, 0).kind != Node::BARRIER {
-        return true;
-    }
-    if Node::read(s, chart, n - 1).kind != Node::BARRIER {
-        return true;
-    }
-    if Chart::BARRIERS < wide(count_outermost(s, chart)) {
+    if Node::read(s, chart, 0).kind != Node::BARRIER
+        || Node::read(s, chart, n - 1).kind != Node::BARRIER
+        || Chart::BARRIERS < usize::from(count_outermost(s, chart))
+    {
         return true;
     }
     if !Construct::occurs(s, chart, Construct::PARALLEL) {

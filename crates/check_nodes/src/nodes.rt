@@ -7,31 +7,21 @@ ghost use Rattle.chart.specs.Refusal.{bad_node, bad_nodes};
 ghost use Rattle.chart.specs.Checked.{Laid};
 ghost use Rattle.check_nodes.specs.Parts.{alone_at, doubtful as parts_doubtful, doubtful_at};
 
-use chart::cursor::wide;
 use chart::format::{Chart, Construct, Node};
-use masks::bits::either;
 
 // Row 5, of one node by itself.
 fn bad_node(s: &[u8], chart: Chart, node: Node) -> bool
     requires { Laid s.now chart }
     ensures { result ≡ bad_node (decode s.now).constructs node.kind node.number }
 {
-    let kind = node.kind;
-    let number = node.number;
-    if Node::END < kind {
-        return true;
-    }
+    let Node { kind, number } = node;
     if number == Construct::NONE {
         return Node::BEGIN <= kind;
     }
-    let c = wide(number);
-    if chart.constructs <= c {
-        return true;
-    }
-    if kind != Node::BARRIER {
-        return false;
-    }
-    Construct::read(s, chart, c).kind != Construct::PARALLEL
+    let c = usize::from(number);
+    Node::END < kind
+        || chart.constructs <= c
+        || kind == Node::BARRIER && Construct::read(s, chart, c).kind != Construct::PARALLEL
 }
 
 // Row 5, of each node by itself.
@@ -39,40 +29,22 @@ fn bad_each(s: &[u8], chart: Chart) -> bool
     requires { Laid s.now chart }
     ensures { result ≡ any (length (decode s.now).nodes) (alone_at (decode s.now)) }
 {
-    let n = chart.nodes;
-    let mut x = 0;
-    while x < n {
-        if bad_node(s, chart, Node::read(s, chart, x)) {
-            return true;
-        }
-        x += 1;
-    }
-    false
-}
-
-// The first of two answers where the test holds, else the second.
-fn choose(test: bool, a: bool, b: bool) -> bool
-    ensures { result ≡ cond test a b }
-{
-    if test {
-        return a;
-    }
-    b
+    (0..chart.nodes).any(|x| bad_node(s, chart, Node::read(s, chart, x)))
 }
 
 // Whether a node may be bad by itself: a bad one, or a barrier that names a construct, be it a parallel or not. Only bytes are compared, so
 // that many nodes are taken at once.
+#[tactic(auto, using(std::proofs::lemmas::Bool::Decides::nat_tests), unfolding(crate::specs::Parts::doubtful))]
 fn doubtful(node: Node, constructs: u8) -> bool
     ensures { result ≡ parts_doubtful constructs node.kind node.number }
 {
-    let kind = node.kind;
-    let number = node.number;
-    let unnamed = Node::BEGIN <= kind;
-    let named = either(constructs <= number, kind == Node::BARRIER);
-    either(
-        Node::END < kind,
-        choose(number == Construct::NONE, unnamed, named),
-    )
+    let Node { kind, number } = node;
+    let doubtful = if number == Construct::NONE {
+        Node::BEGIN <= kind
+    } else {
+        constructs <= number || kind == Node::BARRIER
+    };
+    Node::END < kind || doubtful
 }
 
 // Whether some node may be. No turn leaves the loop or reads a construct.
@@ -80,13 +52,10 @@ fn any_doubtful(s: &[u8], chart: Chart) -> bool
     requires { Laid s.now chart }
     ensures { result ≡ any (length (decode s.now).nodes) (doubtful_at (decode s.now)) }
 {
-    let n = chart.nodes;
-    let constructs = (chart.constructs % 256) as u8;
+    let constructs = chart.constructs as u8;
     let mut found = false;
-    let mut x = 0;
-    while x < n {
-        found = either(found, doubtful(Node::read(s, chart, x), constructs));
-        x += 1;
+    for x in 0..chart.nodes {
+        found |= doubtful(Node::read(s, chart, x), constructs);
     }
     found
 }
@@ -95,11 +64,7 @@ fn any_doubtful(s: &[u8], chart: Chart) -> bool
 fn names_region(node: Node) -> bool
     ensures { result ≡ (eqb node.kind barrier_node && not (eqb node.number outside)) }
 {
-    let number = node.number;
-    if node.kind != Node::BARRIER {
-        return false;
-    }
-    number != Construct::NONE
+    node.kind == Node::BARRIER && node.number != Construct::NONE
 }
 
 // Row 5. Nodes are asked one by one only where one is doubtful, as none is in most charts.
@@ -110,14 +75,7 @@ pub fn bad_nodes(s: &[u8], chart: Chart) -> bool
     if chart.constructs == 0 {
         return check_bare::bad_nodes(s, chart);
     }
-    if names_region(Node::read(s, chart, 0)) {
-        return true;
-    }
-    if names_region(Node::read(s, chart, chart.nodes - 1)) {
-        return true;
-    }
-    if !any_doubtful(s, chart) {
-        return false;
-    }
-    bad_each(s, chart)
+    names_region(Node::read(s, chart, 0))
+        || names_region(Node::read(s, chart, chart.nodes - 1))
+        || any_doubtful(s, chart) && bad_each(s, chart)
 }

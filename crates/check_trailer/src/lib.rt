@@ -7,15 +7,13 @@ ghost use Rattle.chart.specs.Refusal.{bad_edition, bad_marks, bad_counts, bad_le
 ghost use Rattle.chart.specs.Checked.{counts_of, checked_by};
 
 use chart::cursor::{Cursor, construct_bytes};
-use chart::format::{Chart, Checked, Edge, Node, Refusal};
+use chart::format::{Chart, Edge, Node, Refusal};
 
+#[tactic(auto, using(std::proofs::lemmas::Bool::Decides::nat_tests), unfolding(chart::specs::Refusal::bad_edition))]
 fn bad_edition(edition: usize) -> bool
     ensures { result ≡ bad_edition edition }
 {
-    if edition == Chart::EDITION_1 {
-        return false;
-    }
-    edition != Chart::EDITION_2
+    edition != Chart::EDITION_1 && edition != Chart::EDITION_2
 }
 
 // Row 2.
@@ -24,31 +22,21 @@ fn bad_marks(s: &[u8]) -> bool
     ensures { result ≡ bad_marks (decode s.now).trailer }
 {
     let cursor = Cursor::trailer(s);
-    if bad_edition(cursor.field(s, 0)) {
-        return true;
-    }
-    cursor.field(s, 14) != Chart::CLOSING
+    bad_edition(cursor.field(s, 0)) || cursor.field(s, 14) != Chart::CLOSING
 }
 
 // Row 3.
+#[tactic(auto, using(std::proofs::lemmas::Bool::Decides::nat_tests), unfolding(chart::specs::Refusal::bad_counts))]
 fn bad_counts(chart: Chart) -> bool
     ensures { result ≡ bad_counts chart.nodes chart.edges chart.constructs }
 {
     let n = chart.nodes;
     let e = chart.edges;
-    if n < Chart::LEAST_NODES {
-        return true;
-    }
-    if Chart::NODES < n {
-        return true;
-    }
-    if e < Chart::LEAST_EDGES {
-        return true;
-    }
-    if Chart::EDGES < e {
-        return true;
-    }
-    Chart::CONSTRUCTS < chart.constructs
+    n < Chart::LEAST_NODES
+        || Chart::NODES < n
+        || e < Chart::LEAST_EDGES
+        || Chart::EDGES < e
+        || Chart::CONSTRUCTS < chart.constructs
 }
 
 // Row 4.
@@ -61,34 +49,28 @@ fn bad_lengths(s: &[u8], chart: Chart) -> bool
     let n = chart.nodes;
     let e = chart.edges;
     let constructs = construct_bytes(chart.edition, chart.constructs);
-    if all != Node::BYTES * n + Edge::BYTES * e + constructs + Chart::TRAILER_BYTES {
-        return true;
-    }
-    if cursor.field(s, 8) != all {
-        return true;
-    }
-    if cursor.field(s, 10) != Edge::BYTES * e + constructs + Chart::TRAILER_BYTES {
-        return true;
-    }
-    cursor.field(s, 12) != constructs + Chart::TRAILER_BYTES
+    all != Node::BYTES * n + Edge::BYTES * e + constructs + Chart::TRAILER_BYTES
+        || cursor.field(s, 8) != all
+        || cursor.field(s, 10) != Edge::BYTES * e + constructs + Chart::TRAILER_BYTES
+        || cursor.field(s, 12) != constructs + Chart::TRAILER_BYTES
 }
 
 // Rows 1 to 4: the counts, or the refusal.
-pub fn read_trailer(s: &[u8]) -> Checked
+pub fn read_trailer(s: &[u8]) -> Result<Chart, Refusal>
     ensures { result ≡ checked_by (first_of (trailer_rows s.now)) (counts_of s.now) }
 {
     if s.len() < Chart::TRAILER_BYTES {
-        return Checked::Refused(Refusal::SHORT);
+        return Err(Refusal::TooShort);
     }
     if bad_marks(s) {
-        return Checked::Refused(Refusal::MARKS);
+        return Err(Refusal::BadMarks);
     }
     let chart = Chart::read(s);
     if bad_counts(chart) {
-        return Checked::Refused(Refusal::COUNTS);
+        return Err(Refusal::BadCounts);
     }
     if bad_lengths(s, chart) {
-        return Checked::Refused(Refusal::LENGTHS);
+        return Err(Refusal::BadLengths);
     }
-    Checked::Passed(chart)
+    Ok(chart)
 }

@@ -2,66 +2,67 @@
 // for each list's number, as Judge gives it, and one with the bytes of the part from the first false claim on.
 #![tactic(auto)]
 
-mod lines;
-
 use call_judge::two::judge_two;
-use chart::cursor::wide;
 use chart::format::Chart;
-use program_io::input::{Part, list_at, read_full, too_long, too_short};
+use program_io::input;
+use program_io::input::{read_shorter, split_list};
 use std::io;
 
-// Bytes in front of the lists: the region.
-const FRONT: usize = 1;
+// The longest input: a byte for the region, both lists and the chart as long as they can be.
+const MOST: usize = 1 + 2 * (input::LENGTH + input::MOST) + Chart::MOST_BYTES;
 
-// The longest input: both lists and the chart as long as they can be.
-const MOST: usize = FRONT + 2 * (Part::LENGTH + Part::MOST) + Chart::MOST_BYTES;
-
-fn print_judged<'a>(
-    rt: &impl Print,
-    s: &[u8],
+#[derive(Clone, Copy)]
+struct Case<'a> {
     region: usize,
-    x: &'a [u8],
-    y: &'a [u8],
-) -> io::Result<()> {
+    first: &'a [u8],
+    second: &'a [u8],
+    chart: &'a [u8],
+}
+
+// What the input asks, if it has all of the lists.
+fn read(input: &[u8]) -> Option<Case<'_>> {
+    let (region, rest) = input.split_first()?;
+    let (first, rest) = split_list(rest)?;
+    let (second, chart) = split_list(rest)?;
+    Some(Case {
+        region: usize::from(*region),
+        first,
+        second,
+        chart,
+    })
+}
+
+fn print_judged(rt: &impl Print, case: Case) -> io::Result<()> {
     let mut first = 0i64;
     let mut second = 0i64;
-    let part = judge_two(s, region, x, y, &mut first, &mut second);
-    lines::number(rt, b"first ", first)?;
-    lines::number(rt, b"second ", second)?;
-    lines::bytes(rt, b"part", part)
+    let part = judge_two(
+        case.chart,
+        case.region,
+        case.first,
+        case.second,
+        &mut first,
+        &mut second,
+    );
+    println!(rt; "first {first}")?;
+    println!(rt; "second {second}")?;
+    print!(rt; "part")?;
+    for byte in part {
+        print!(rt; " {byte}")?;
+    }
+    println!(rt)
 }
 
 fn print(rt: &impl Print, input: &[u8]) -> io::Result<()> {
-    if input.len() < FRONT {
-        return too_short(rt);
+    match read(input) {
+        Some(case) => print_judged(rt, case),
+        None => println!(rt; "input too short"),
     }
-    let first = list_at(input, FRONT);
-    if !first.whole {
-        return too_short(rt);
-    }
-    let start = first.start;
-    let end = first.end;
-    let second = list_at(input, end);
-    if !second.whole {
-        return too_short(rt);
-    }
-    let from = second.start;
-    let to = second.end;
-    let region = wide(input[0]);
-    print_judged(
-        rt,
-        &input[to..],
-        region,
-        &input[start..end],
-        &input[from..to],
-    )
 }
 
 fn main(rt: HostRuntime) -> io::Result<()> {
     let mut buffer = [0u8; MOST + 1];
-    let n = read_full(&rt, &mut buffer)?;
-    if MOST < n {
-        return too_long(&rt);
+    match read_shorter(&rt, &mut buffer)? {
+        Some(input) => print(&rt, input),
+        None => println!(rt; "input too long"),
     }
-    print(&rt, &buffer[..n])
 }

@@ -1,211 +1,153 @@
 // Charts at the limits and one past them, too long to be spelt.
-use crate::report::report_before;
-use crate::spelling::{put, put_field};
-use crate::trailer::{Ends, put_trailer};
+use crate::draft::Draft;
+use crate::report::report;
 use chart::format::{Chart, Construct, Node};
 use std::io;
 
-// What is written again and again: a plain node, a barrier, one of the region of parallel 0, the begin and the end of construct k, a critical, a
-// masked of edition 2 for thread k, the edge from k to k + 1, edge k of all those from the first 32 nodes to nodes 1 to 32, or edge k of the longest chart.
-#[derive(Clone, Copy)]
-enum Pattern {
-    Plain,
-    Barrier,
-    Inner,
-    BeginEnd,
-    Critical,
-    Masked,
-    Step,
-    Grid,
-    Longest,
-}
-
-fn put_edge(out: &mut [u8], at: usize, from: u32, to: u32) -> usize {
-    let next = put(out, at, (from % 256) as u8);
-    put(out, next, (to % 256) as u8)
-}
-
 // A node with its number, or a construct with its parent.
-fn put_record(out: &mut [u8], at: usize, kind: u8, number: u8) -> usize {
-    let second = put(out, at, kind);
-    let last = put(out, second, number);
-    put_field(out, last, 0)
+fn put_record(draft: &mut Draft, kind: u8, number: u8) {
+    draft.put(kind);
+    draft.put(number);
+    draft.put_field(0);
 }
 
-fn put_begin_end(out: &mut [u8], at: usize, number: u8) -> usize {
-    let next = put_record(out, at, Node::BEGIN, number);
-    put_record(out, next, Node::END, number)
+fn put_edge(draft: &mut Draft, from: u32, to: u32) {
+    draft.put((from % 256) as u8);
+    draft.put((to % 256) as u8);
 }
 
-fn put_masked(out: &mut [u8], at: usize, thread: u16) -> usize {
-    let filter = put_record(out, at, Construct::MASTER, Construct::NONE);
-    put_field(out, filter, thread as usize)
+// What is written again and again, for the k-th time.
+
+fn plain(draft: &mut Draft, _k: u16) {
+    put_record(draft, Node::PLAIN, Construct::NONE);
 }
 
-// The grid as far as node 26, and from node 27 on a row.
-fn put_longest(out: &mut [u8], at: usize, k: u32) -> usize {
+fn barrier(draft: &mut Draft, _k: u16) {
+    put_record(draft, Node::BARRIER, Construct::NONE);
+}
+
+// A barrier of the region of parallel 0.
+fn inner(draft: &mut Draft, _k: u16) {
+    put_record(draft, Node::BARRIER, 0);
+}
+
+// The begin and the end of construct k.
+fn begin_end(draft: &mut Draft, k: u16) {
+    let number = (k % 256) as u8;
+    put_record(draft, Node::BEGIN, number);
+    put_record(draft, Node::END, number);
+}
+
+fn critical(draft: &mut Draft, _k: u16) {
+    put_record(draft, Construct::CRITICAL, Construct::NONE);
+}
+
+// A masked of edition 2 for thread k.
+fn masked(draft: &mut Draft, k: u16) {
+    put_record(draft, Construct::MASTER, Construct::NONE);
+    draft.put_field(usize::from(k));
+}
+
+// The edge from k to k + 1.
+fn step(draft: &mut Draft, k: u16) {
+    let from = u32::from(k);
+    put_edge(draft, from, from + 1);
+}
+
+// Edge k of all those from the first 32 nodes to nodes 1 to 32.
+fn grid(draft: &mut Draft, k: u16) {
+    let k = u32::from(k);
+    put_edge(draft, k / 32, k % 32 + 1);
+}
+
+// Edge k of the longest chart: the grid as far as node 26, and from node 27 on a row.
+fn longest(draft: &mut Draft, k: u16) {
     if k < 860 {
-        return put_edge(out, at, k / 32, k % 32 + 1);
-    }
-    put_edge(out, at, k - 833, k - 832)
-}
-
-fn put_pattern(out: &mut [u8], at: usize, pattern: Pattern, k: u16) -> usize {
-    let number = k as u32;
-    match pattern {
-        Pattern::Plain => put_record(out, at, Node::PLAIN, Construct::NONE),
-        Pattern::Barrier => put_record(out, at, Node::BARRIER, Construct::NONE),
-        Pattern::Inner => put_record(out, at, Node::BARRIER, 0),
-        Pattern::BeginEnd => put_begin_end(out, at, (k % 256) as u8),
-        Pattern::Critical => put_record(out, at, Construct::CRITICAL, Construct::NONE),
-        Pattern::Masked => put_masked(out, at, k),
-        Pattern::Step => put_edge(out, at, number, number + 1),
-        Pattern::Grid => put_edge(out, at, number / 32, number % 32 + 1),
-        Pattern::Longest => put_longest(out, at, number),
+        grid(draft, k);
+    } else {
+        step(draft, k - 833);
     }
 }
 
-// Writes a pattern so many times and answers the place after.
-fn repeat(out: &mut [u8], start: usize, pattern: Pattern, times: u16) -> usize {
-    let mut at = start;
-    let mut k = 0;
-    while k < times {
-        at = put_pattern(out, at, pattern, k);
-        k += 1;
+fn repeat<F: Fn(&mut Draft, u16)>(draft: &mut Draft, put: F, times: u16)
+    requires { F.IsAlwaysCallable put }
+{
+    for k in 0..times {
+        put(draft, k);
     }
-    at
 }
 
-fn put_nodes(out: &mut [u8], pattern: Pattern, times: u16) -> usize {
-    let start = repeat(out, 0, Pattern::Barrier, 1);
-    let middle = repeat(out, start, pattern, times);
-    repeat(out, middle, Pattern::Barrier, 1)
+// A line for a chart that lacks its trailer.
+fn finish(rt: &impl Print, name: &str, mut draft: Draft) -> io::Result<()> {
+    draft.put_trailer();
+    print!(rt; "{name}")?;
+    report(rt, draft.chart())
 }
 
-// Writes the trailer of a chart, and a line for it.
-fn finish(rt: &impl Print, name: &[u8], buffer: &mut [u8], ends: Ends) -> io::Result<()> {
-    let end = put_trailer(buffer, ends);
-    rt.write_all(name)?;
-    report_before(rt, buffer, end)
-}
-
-// A line for the chart with these nodes between Start and Finish, these edges and so many criticals.
-fn generate(
+// A line for the chart with so many of these nodes between Start and Finish, of these edges and of criticals.
+fn generate<N: Fn(&mut Draft, u16), E: Fn(&mut Draft, u16)>(
     rt: &impl Print,
-    name: &[u8],
-    nodes: Pattern,
-    n: u16,
-    edges: Pattern,
-    e: u16,
-    c: u16,
-) -> io::Result<()> {
-    let mut buffer = [0u8; 4096];
-    let nodes_end = put_nodes(&mut buffer, nodes, n);
-    let edges_end = repeat(&mut buffer, nodes_end, edges, e);
-    let constructs_end = repeat(&mut buffer, edges_end, Pattern::Critical, c);
-    let ends = Ends {
-        edition: Chart::EDITION_1,
-        nodes: nodes_end,
-        edges: edges_end,
-        constructs: constructs_end,
-    };
-    finish(rt, name, &mut buffer, ends)
+    name: &str,
+    node: N,
+    nodes: u16,
+    edge: E,
+    edges: u16,
+    criticals: u16,
+) -> io::Result<()>
+    requires node { N.IsAlwaysCallable node }
+    requires edge { E.IsAlwaysCallable edge }
+{
+    let mut draft = Draft::new();
+    barrier(&mut draft, 0);
+    repeat(&mut draft, node, nodes);
+    barrier(&mut draft, 0);
+    draft.end_nodes();
+    repeat(&mut draft, edge, edges);
+    draft.end_edges();
+    repeat(&mut draft, critical, criticals);
+    finish(rt, name, draft)
 }
 
 // A line for a chart with so many barriers between the begin and the end of parallel 0, and so many edges in a row.
-fn generate_region(rt: &impl Print, name: &[u8], barriers: u16, e: u16) -> io::Result<()> {
-    let mut buffer = [0u8; 4096];
-    let start_end = repeat(&mut buffer, 0, Pattern::Barrier, 1);
-    let begin_end = put_record(&mut buffer, start_end, Node::BEGIN, 0);
-    let barriers_end = repeat(&mut buffer, begin_end, Pattern::Inner, barriers);
-    let end_end = put_record(&mut buffer, barriers_end, Node::END, 0);
-    let nodes_end = repeat(&mut buffer, end_end, Pattern::Barrier, 1);
-    let edges_end = repeat(&mut buffer, nodes_end, Pattern::Step, e);
-    let ends = Ends {
-        edition: Chart::EDITION_1,
-        nodes: nodes_end,
-        edges: edges_end,
-        constructs: put_record(&mut buffer, edges_end, Construct::PARALLEL, Construct::NONE),
-    };
-    finish(rt, name, &mut buffer, ends)
+fn generate_region(rt: &impl Print, name: &str, barriers: u16, edges: u16) -> io::Result<()> {
+    let mut draft = Draft::new();
+    barrier(&mut draft, 0);
+    put_record(&mut draft, Node::BEGIN, 0);
+    repeat(&mut draft, inner, barriers);
+    put_record(&mut draft, Node::END, 0);
+    barrier(&mut draft, 0);
+    draft.end_nodes();
+    repeat(&mut draft, step, edges);
+    draft.end_edges();
+    put_record(&mut draft, Construct::PARALLEL, Construct::NONE);
+    finish(rt, name, draft)
 }
 
 // A line for a chart of edition 2 at all limits: 94 plain nodes and 48 masked constructs, each with its begin and its end.
-fn generate_longest(rt: &impl Print, name: &[u8]) -> io::Result<()> {
-    let mut buffer = [0u8; 4096];
-    let start_end = repeat(&mut buffer, 0, Pattern::Barrier, 1);
-    let plain_end = repeat(&mut buffer, start_end, Pattern::Plain, 94);
-    let pairs_end = repeat(&mut buffer, plain_end, Pattern::BeginEnd, 48);
-    let nodes_end = repeat(&mut buffer, pairs_end, Pattern::Barrier, 1);
-    let edges_end = repeat(&mut buffer, nodes_end, Pattern::Longest, 1024);
-    let constructs_end = repeat(&mut buffer, edges_end, Pattern::Masked, 48);
-    let ends = Ends {
-        edition: Chart::EDITION_2,
-        nodes: nodes_end,
-        edges: edges_end,
-        constructs: constructs_end,
-    };
-    finish(rt, name, &mut buffer, ends)
+fn generate_longest(rt: &impl Print, name: &str) -> io::Result<()> {
+    let mut draft = Draft::new();
+    draft.edition = Chart::EDITION_2;
+    barrier(&mut draft, 0);
+    repeat(&mut draft, plain, 94);
+    repeat(&mut draft, begin_end, 48);
+    barrier(&mut draft, 0);
+    draft.end_nodes();
+    repeat(&mut draft, longest, 1024);
+    draft.end_edges();
+    repeat(&mut draft, masked, 48);
+    finish(rt, name, draft)
 }
 
 pub fn limits(rt: &impl Print) -> io::Result<()> {
-    generate(rt, b"nodes-192", Pattern::Plain, 190, Pattern::Step, 191, 0)?;
-    generate(rt, b"nodes-193", Pattern::Plain, 191, Pattern::Step, 192, 0)?;
-    generate(
-        rt,
-        b"edges-1024",
-        Pattern::Plain,
-        31,
-        Pattern::Grid,
-        1024,
-        0,
-    )?;
-    generate(
-        rt,
-        b"edges-1025",
-        Pattern::Plain,
-        31,
-        Pattern::Grid,
-        1025,
-        0,
-    )?;
-    generate(
-        rt,
-        b"constructs-48",
-        Pattern::BeginEnd,
-        48,
-        Pattern::Step,
-        97,
-        48,
-    )?;
-    generate(
-        rt,
-        b"constructs-49",
-        Pattern::BeginEnd,
-        49,
-        Pattern::Step,
-        99,
-        49,
-    )?;
-    generate(
-        rt,
-        b"barriers-64",
-        Pattern::Barrier,
-        62,
-        Pattern::Step,
-        63,
-        0,
-    )?;
-    generate(
-        rt,
-        b"barriers-65",
-        Pattern::Barrier,
-        63,
-        Pattern::Step,
-        64,
-        0,
-    )?;
-    generate_region(rt, b"region-barriers-64", 62, 65)?;
-    generate_region(rt, b"region-barriers-65", 63, 66)?;
-    generate_longest(rt, b"bytes-3120")
+    generate(rt, "nodes-192", plain, 190, step, 191, 0)?;
+    generate(rt, "nodes-193", plain, 191, step, 192, 0)?;
+    generate(rt, "edges-1024", plain, 31, grid, 1024, 0)?;
+    generate(rt, "edges-1025", plain, 31, grid, 1025, 0)?;
+    generate(rt, "constructs-48", begin_end, 48, step, 97, 48)?;
+    generate(rt, "constructs-49", begin_end, 49, step, 99, 49)?;
+    generate(rt, "barriers-64", barrier, 62, step, 63, 0)?;
+    generate(rt, "barriers-65", barrier, 63, step, 64, 0)?;
+    generate_region(rt, "region-barriers-64", 62, 65)?;
+    generate_region(rt, "region-barriers-65", 63, 66)?;
+    generate_longest(rt, "bytes-3120")
 }

@@ -2,11 +2,10 @@
 // spelt in standard input, then those at the limits.
 #![tactic(auto)]
 
+mod draft;
 mod limits;
 mod lines;
 mod report;
-mod spelling;
-mod trailer;
 
 use program_io::input::read_full;
 use std::io;
@@ -14,7 +13,6 @@ use std::io;
 fn main(rt: HostRuntime) -> io::Result<()> {
     let mut text = [0u8; 65536];
     let n = read_full(&rt, &mut text)?;
-    let mut buffer = [0u8; 4096];
-    lines::read_lines(&rt, &mut buffer, &text[..n])?;
+    lines::read_lines(&rt, &text[..n])?;
     limits::limits(&rt)
 }

@@ -1,6 +1,7 @@
 pub mod Truth
 pub mod Flags
 pub mod Range
+pub mod Ranges
 pub mod Means
 pub mod Counting
 pub mod Mask

@@ -9,7 +9,6 @@ ghost use Rattle.search.specs.Promises.{Table};
 
 use crate::joining::{any_apart, any_missed, any_stuck};
 use chart::format::Chart;
-use masks::bits::either;
 use search::edges::{Extent, Parts};
 use search::search::{boundaries, reach_stops};
 
@@ -32,9 +31,9 @@ pub fn conclude(
     reach_stops(edges, extent, nodes, starts, &mut all);
     let apart = any_apart(&all, nodes, extent.barriers);
     let stuck = any_stuck(&all, nodes, extent.barriers);
-    let unreached = either(apart, any_missed(starts, extent.nodes, extent.barriers));
-    let unreaching = either(stuck, any_missed(ends, extent.nodes, extent.barriers));
-    either(unreached, unreaching)
+    let unreached = apart | any_missed(starts, extent.nodes, extent.barriers);
+    let unreaching = stuck | any_missed(ends, extent.nodes, extent.barriers);
+    unreached | unreaching
 }
 
 // The starts with their levels and the ends, which are 0 before, and whether a node is cut off.

@@ -8,7 +8,6 @@ ghost use Rattle.lists.specs.Bits.{has as has_bit};
 ghost use Rattle.theory_paths.specs.Phases.{Direction, forward, backward};
 ghost use Rattle.mark.specs.Joined.{Told, JoinedTo, Passed, lost_barrier, FoundAlong};
 
-use chart::cursor::wide;
 use chart::format::Chart;
 use masks::bits::{bit, has, ones};
 
@@ -17,10 +16,7 @@ fn join(mask: u64, b: usize, all: u64) -> u64
     requires { b < 64 }
     ensures { result ≡ cond (eqb (bit_and mask all) 0) all (bit_or (2 ^ b) all) }
 {
-    if mask & all == 0 {
-        return all;
-    }
-    bit(b) | all
+    if mask & all == 0 { all } else { bit(b) | all }
 }
 
 // Where barrier b is joined, so are those that its mask has.
@@ -28,11 +24,10 @@ fn join_with(mask: u64, b: usize, all: u64) -> u64
     requires { b < 64 }
     ensures { result ≡ cond (has_bit all b) (bit_or mask all) all }
 {
-    if has(all, b) {
-        return mask | all;
-    }
-    all
+    if has(all, b) { mask | all } else { all }
 }
+
+// The barriers are the first `total` of the whole list and no slice of it: `Barriers`, of which `FoundAlong` speaks, is of a list of 64.
 
 // One pass over the barriers along the masks: from the first on, so that one will do for a chart in program order.
 fn pass_along(
@@ -46,10 +41,8 @@ fn pass_along(
     ensures { Passed (Told false masks.now nodes.now total) (λ b c. b < total) before result }
 {
     let mut all = before;
-    let mut b = 0;
-    while b < total {
-        all = join(masks[wide(nodes[b])], b, all);
-        b += 1;
+    for b in 0..total {
+        all = join(masks[nodes[b] as usize], b, all);
     }
     all
 }
@@ -66,10 +59,8 @@ fn pass_against(
     ensures { Passed (Told true masks.now nodes.now total) (λ b c. c < total) before result }
 {
     let mut all = before;
-    let mut left = total;
-    while left > 0 {
-        left -= 1;
-        all = join_with(masks[wide(nodes[left])], left, all);
+    for b in (0..total).rev() {
+        all = join_with(masks[nodes[b] as usize], b, all);
     }
     all
 }
@@ -87,9 +78,10 @@ fn pass(
     ensures { Passed (Told against masks.now nodes.now total) (λ b c. (b < total) × (c < total)) before result }
 {
     if against {
-        return pass_against(masks, nodes, total, before);
+        pass_against(masks, nodes, total, before)
+    } else {
+        pass_along(masks, nodes, total, before)
     }
-    pass_along(masks, nodes, total, before)
 }
 
 // The barriers that are joined to the source: passes, until all are joined or one brings nothing more.
@@ -133,16 +125,6 @@ pub fn any_stuck(masks: &[u64; Chart::NODES], nodes: &[u8; Chart::BARRIERS], tot
     ones(joined(masks, nodes, total, total - 1, true)) < total
 }
 
-// 1 for a mask without a bit.
-fn blank(mask: u64) -> usize
-    ensures { result ≡ cond (eqb mask 0) 1 0 }
-{
-    if mask == 0 {
-        return 1;
-    }
-    0
-}
-
 // Whether one of the first n nodes that is no barrier has a blank mask: those of the barriers are blank, and no other is if there are as many blank
 // ones. No turn leaves the loop, so that several are taken at once.
 pub fn any_missed(masks: &[u64; Chart::NODES], n: usize, barriers: usize) -> bool
@@ -150,10 +132,8 @@ pub fn any_missed(masks: &[u64; Chart::NODES], n: usize, barriers: usize) -> boo
     ensures { result ≡ not (eqb (count n (λ x. eqb (get_or masks.now x 0) 0)) barriers) }
 {
     let mut found = 0;
-    let mut x = 0;
-    while x < n {
-        found += blank(masks[x]);
-        x += 1;
+    for mask in &masks[..n] {
+        found += usize::from(*mask == 0);
     }
     found != barriers
 }

@@ -13,35 +13,29 @@ ghost use Rattle.search.specs.Search.{Ready};
 ghost use Rattle.mark.specs.Joined.{ArrangedBy};
 ghost use Rattle.mark.specs.Returning.{Asked, Added, First, Barred, TellsReturned};
 
-use chart::cursor::wide;
-use chart::format::{Chart, Construct, Frames};
+use chart::format::{Chart, Construct, Frames, Framing};
 use masks::bits::{bit, has};
 use search::edges::{Extent, Parts};
 use search::search::ahead;
-use search::sources::Sources;
+use search::sources::MOST_SOURCES;
 
 // One bit more, where the mask has it.
 fn add_bit(mask: u64, c: usize, all: u64) -> u64
     requires { c < 64 }
     ensures { result ≡ cond (has_bit mask c) (bit_or (2 ^ c) all) all }
 {
-    if has(mask, c) {
-        return (1 << c) | all;
-    }
-    all
+    if has(mask, c) { bit(c) | all } else { all }
 }
 
-// Bit first + c of the mask of node c of the list, for each of the first n.
-fn diagonal(masks: &[u64; Chart::NODES], nodes: &[u8; Sources::MOST], first: usize, n: usize) -> u64
-    requires first_bound { (first < 64) × (n ≤ 64) }
+// Bit first + c of the mask of node c, for each of the nodes.
+fn diagonal(masks: &[u64; Chart::NODES], nodes: &[u8], first: usize) -> u64
+    requires first_bound { (first < 64) × (length nodes.now ≤ 64) }
     requires by_index { (c : ℕ) → get_or nodes.now c 0 < 192 }
-    ensures { result ≡ mask_of (λ c. has_bit (get_or masks.now (get_or nodes.now c 0) 0) (first + c)) n }
+    ensures { result ≡ mask_of (λ c. has_bit (get_or masks.now (get_or nodes.now c 0) 0) (first + c)) (length nodes.now) }
 {
     let mut all = 0;
-    let mut c = 0;
-    while c < n {
-        all = add_bit(masks[wide(nodes[c])] >> first, c, all);
-        c += 1;
+    for (c, x) in nodes.iter().enumerate() {
+        all = add_bit(masks[*x as usize] >> first, c, all);
     }
     all
 }
@@ -52,39 +46,24 @@ fn keep_first(masks: &mut [u64; Chart::NODES], k: usize)
     ensures { Each (First k) masks.old masks.new }
 {
     let above = bit(k);
-    let mut x = 0;
-    while x < Chart::NODES {
-        masks[x] = masks[x] % above;
-        x += 1;
+    for mask in masks.iter_mut() {
+        *mask %= above;
     }
 }
 
 // Whether each of the first n constructs begins before it ends, by the numbers of the nodes.
-fn all_before(begins: &Frames, ends: &Frames, n: usize) -> bool
+fn all_before(framing: &Framing, n: usize) -> bool
     requires { n ≤ 64 }
-    ensures { result ≡ true → (c : ℕ) → c < n → get_or begins.now c 0 < get_or ends.now c 0 }
+    ensures { result ≡ true → (c : ℕ) → c < n → get_or framing.now.begins c 0 < get_or framing.now.ends c 0 }
 {
-    let mut c = 0;
-    while c < n {
-        if ends[c] <= begins[c] {
-            return false;
-        }
-        c += 1;
-    }
-    true
+    (0..n).all(|c| framing.begins[c] < framing.ends[c])
 }
 
 // Whether a rule asks of a construct of this kind whether it returns.
 fn asks(kind: u8) -> bool
     ensures { result ≡ asks_return (kind_of kind) }
 {
-    if kind == Construct::SINGLE {
-        return true;
-    }
-    if kind == Construct::DO {
-        return true;
-    }
-    kind == Construct::SECTIONS
+    kind == Construct::SINGLE || kind == Construct::DO || kind == Construct::SECTIONS
 }
 
 // Whether there is such a construct.
@@ -92,21 +71,13 @@ fn any_asked(s: &[u8], chart: Chart) -> bool
     requires { Laid s.now chart }
     ensures { result ≡ false → (c : ℕ) → c < chart.constructs → asks_return (kind_of (construct_at (decode s.now).constructs c).kind) ≡ false }
 {
-    let n = chart.constructs;
-    let mut c = 0;
-    while c < n {
-        if asks(Construct::read(s, chart, c).kind) {
-            return true;
-        }
-        c += 1;
-    }
-    false
+    (0..chart.constructs).any(|c| asks(Construct::read(s, chart, c).kind))
 }
 
 // Of how many constructs it is asked whether they return: of all or, where no rule asks, of none. Where no edge falls between nodes that are
 // no barriers, no path leads back.
-pub fn asked(s: &[u8], chart: Chart, begins: &Frames, ends: &Frames, parts: Parts) -> usize
-    requires accepted { Accepted s.now chart × Framed (decode s.now) begin_node begins.now × Framed (decode s.now) end_node ends.now }
+pub fn asked(s: &[u8], chart: Chart, framing: &Framing, parts: Parts) -> usize
+    requires accepted { Accepted s.now chart × Framed (decode s.now) begin_node framing.now.begins × Framed (decode s.now) end_node framing.now.ends }
     requires by_index { (edges : List (List ℕ)) × (places : List ℕ) × ArrangedBy (reading s.now chart) edges places parts }
     ensures { Asked s.now chart result }
 {
@@ -114,26 +85,23 @@ pub fn asked(s: &[u8], chart: Chart, begins: &Frames, ends: &Frames, parts: Part
         return 0;
     }
     let n = chart.constructs;
-    if parts.low == Chart::EDGES {
-        if all_before(begins, ends, n) {
-            return 0;
-        }
+    if parts.low == Chart::EDGES && all_before(framing, n) {
+        0
+    } else {
+        n
     }
-    n
 }
 
 // The ends of the first n constructs behind the barriers, where there is room for all, and how many nodes there are then.
-pub fn add_ends(ends: &Frames, n: usize, barriers: usize, nodes: &mut [u8; Sources::MOST]) -> usize
+pub fn add_ends(ends: &Frames, n: usize, barriers: usize, nodes: &mut [u8; MOST_SOURCES]) -> usize
     requires { (barriers ≤ 64) × (n ≤ 64) × (length nodes.old ≡ 64) }
     ensures { Added ends.now n barriers nodes.old result nodes.new }
 {
-    if Sources::MOST < barriers + n {
+    if MOST_SOURCES < barriers + n {
         return barriers;
     }
-    let mut c = 0;
-    while c < n {
+    for c in 0..n {
         nodes[barriers + c] = ends[c];
-        c += 1;
     }
     barriers + n
 }
@@ -141,8 +109,7 @@ pub fn add_ends(ends: &Frames, n: usize, barriers: usize, nodes: &mut [u8; Sourc
 // The mask of the constructs that return, as far as it is asked, given where each begins and ends: off the starts, which keep the bits of the
 // barriers, or by a search from the ends alone where there was no room for them.
 pub fn returns(
-    begins: &Frames,
-    ends: &Frames,
+    framing: &Framing,
     n: usize,
     edges: &[[u8; Chart::EDGES]; Parts::ROWS],
     places: &[usize; Chart::PLACES],
@@ -151,8 +118,8 @@ pub fn returns(
 ) -> u64
     requires n_bound { (n ≤ 64) × (extent.barriers ≤ extent.total) × (extent.total ≤ 64) × (n ≡ 0 → extent.total ≡ extent.barriers) × (length starts.old ≡ 192)
         × Ready edges.now places.now extent.parts }
-    requires by_index { ((c : ℕ) → get_or begins.now c 0 < 192) × ((c : ℕ) → get_or ends.now c 0 < 192) }
-    ensures tells_returned { TellsReturned edges.now places.now extent begins.now ends.now n starts.old result }
+    requires by_index { ((c : ℕ) → get_or framing.now.begins c 0 < 192) × ((c : ℕ) → get_or framing.now.ends c 0 < 192) }
+    ensures tells_returned { TellsReturned edges.now places.now extent framing.now.begins framing.now.ends n starts.old result }
     ensures barred { Barred edges.now extent starts.old starts.new }
 {
     if n == 0 {
@@ -160,10 +127,11 @@ pub fn returns(
     }
     if extent.total == extent.barriers {
         let mut masks = [0u64; Chart::NODES];
-        ahead(edges, places, extent.parts, ends, n, &mut masks);
-        return diagonal(&masks, begins, 0, n);
+        ahead(edges, places, extent.parts, &framing.ends[..n], &mut masks);
+        diagonal(&masks, &framing.begins[..n], 0)
+    } else {
+        let all = diagonal(starts, &framing.begins[..n], extent.barriers);
+        keep_first(starts, extent.barriers);
+        all
     }
-    let all = diagonal(starts, begins, extent.barriers, n);
-    keep_first(starts, extent.barriers);
-    all
 }

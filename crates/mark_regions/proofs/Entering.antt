@@ -1,6 +1,7 @@
 -- The entrance: what the marking says about row 10, and an answer read backwards.
 -- Assumes nothing.
-use mathlib.Core.Path.{◌≡◌, refl, ap, sym, ◌∙◌}
+use Rattle.std.specs.Prelude.{Result, Ok, Err}
+use mathlib.Core.Path.{◌≡◌, refl, ap, sym, subst, ◌∙◌}
 use mathlib.Core.Bool.{true, false}
 use mathlib.Core.List.{List}
 use mathlib.Core.Option.{Option, none, some}
@@ -15,7 +16,6 @@ use Rattle.chart.specs.Refusal.{first_of}
 use Rattle.chart.specs.Checked.{counts_of, checked, reading}
 use Rattle.chart.specs.declared.format.Chart.{Chart}
 use Rattle.chart.specs.declared.format.Refusal.{Refusal}
-use Rattle.chart.specs.declared.format.Checked.TheVariants.{Passed}
 use Rattle.chart.proofs.RegionFacts.{start-outer, finish-outer}
 use Rattle.check_chart.proofs.Outcome.{passed_none}
 use Rattle.theory_paths.specs.Admission.{bad_paths, admit_rows}
@@ -27,32 +27,33 @@ use Rattle.mark_tables.proofs.Rows.{refused-paths, admits}
 use Rattle.mark.specs.Joined.{lost_in}
 use Rattle.mark.proofs.JoiningLaws.{some-barrier, both_ways}
 use Rattle.mark_regions.specs.Entered.{entered, admitted}
-use Rattle.mark_regions.specs.declared.outermost.Entered.TheVariants.{Marked, Refused}
+use Rattle.mark_regions.specs.declared.outermost.Marked.{Marked}
+use Rattle.chart.specs.declared.format.Refusal.TheVariants.{BadPaths}
 
-pub entered-refused : (o : Option ℕ) (counts : Chart) (barriers : ℕ) {refusal : Refusal} → entered o counts barriers ≡ Refused refusal → o ≡ some refusal.number
+pub entered-refused : (o : Option Refusal) (counts : Chart) (barriers : ℕ) {refusal : Refusal} → entered o counts barriers ≡ Err refusal → o ≡ some refusal
 unfolding entered
 entered-refused none counts barriers h = absurd (bad (cc))
-entered-refused (some number) counts barriers {refusal} h = ap some (ap (λ (r : Refusal). r.number) same)
+entered-refused (some given) counts barriers {refusal} h = ap some same
   where
-    same : record { number = number } ≡ refusal
+    same : given ≡ refusal
     same = cc
 
-pub entered-marked : (o : Option ℕ) (counts : Chart) (barriers : ℕ) {chart : Chart} {total : ℕ} → entered o counts barriers ≡ Marked chart total → o ≡ none
+pub entered-marked : (o : Option Refusal) (counts : Chart) (barriers : ℕ) {m : Marked} → entered o counts barriers ≡ Ok m → o ≡ none
 unfolding entered
 entered-marked none counts barriers h = refl
-entered-marked (some number) counts barriers h = absurd (bad (cc))
+entered-marked (some refusal) counts barriers h = absurd (bad (cc))
 
-pub entered-counts : (o : Option ℕ) (counts : Chart) (barriers : ℕ) {chart : Chart} {total : ℕ} → entered o counts barriers ≡ Marked chart total → counts ≡ chart
+pub entered-counts : (o : Option Refusal) (counts : Chart) (barriers : ℕ) {m : Marked} → entered o counts barriers ≡ Ok m → counts ≡ m.chart
 unfolding entered
-entered-counts none counts barriers h = cc
-entered-counts (some number) counts barriers h = absurd (bad (cc))
+entered-counts none counts barriers {m} h = ap (λ (k : Marked). k.chart) same
+  where
+    same : record { chart = counts; barriers = barriers } ≡ m
+    same = cc
+entered-counts (some refusal) counts barriers h = absurd (bad (cc))
 
 -- marked as two answers that are one
-pub marked-same : {a b : Chart} {m n : ℕ} → Marked a m ≡ Marked b n → (P : Chart → ℕ → Type 0) → P a m → P b n
-marked-same {a} {b} {m} {n} e P p =
-    let q : a ≡ b = cc in
-    let r : m ≡ n = cc in
-    rw (← q, ← r) p
+pub marked-same : {m n : Marked} → ◌≡◌ {A = Result Marked Refusal} (Ok m) (Ok n) → (P : Marked → Type 0) → P m → P n
+marked-same {m} {n} e P p = let same : m ≡ n = cc in subst P same p
 
 -- the barriers of an accepted chart
 
@@ -65,7 +66,7 @@ module _ {s : List ℕ} {chart : Chart} (A : Accepted s chart) {nodes : List ℕ
 
 -- row 10, of a chart that is read for its outermost region
 
-module _ (s : List ℕ) (chart : Chart) (h : checked s ≡ Passed chart) where
+module _ (s : List ℕ) (chart : Chart) (h : checked s ≡ Ok chart) where
   abbrev R : Region
   R = reading s chart
 
@@ -88,7 +89,7 @@ module _ (s : List ℕ) (chart : Chart) (h : checked s ≡ Passed chart) where
       sym (ap bad_paths outermost)
       ∙ both_ways R (well-formed s chart A) (start-outer (decode s) chart.region read_whole) (finish-outer (decode s) chart.region read_whole)
 
-  pub cut_off : lost_in (reading s chart) ≡ true → first_of (admit_rows s) ≡ some 10
+  pub cut_off : lost_in (reading s chart) ≡ true → first_of (admit_rows s) ≡ some BadPaths
   cut_off f = refused-paths s chart h (bad-paths ∙ f)
 
   pub connects : lost_in (reading s chart) ≡ false → first_of (admit_rows s) ≡ none
@@ -96,13 +97,13 @@ module _ (s : List ℕ) (chart : Chart) (h : checked s ≡ Passed chart) where
 
   -- the answer of the entrance
 
-  pub refuses : (number : ℕ) → first_of (admit_rows s) ≡ some number
-      → Refused (record { number = number }) ≡ admitted s
+  pub refuses : (refusal : Refusal) → first_of (admit_rows s) ≡ some refusal
+      → Err refusal ≡ admitted s
   unfolding entered
   refuses number e = rw e
 
   pub marks : (total : ℕ) → total ≡ length (barriers (reading s chart)) → first_of (admit_rows s) ≡ none
-      → Marked chart total ≡ admitted s
+      → Ok (record { chart = chart; barriers = total }) ≡ admitted s
   unfolding entered
   marks total q e =
       let n : total ≡ length (barriers (region (decode s))) = q ∙ ap (λ (r : Region). length (barriers r)) outermost in

@@ -1,5 +1,6 @@
 -- Row 23 after rows 1 to 10: what the entrance answers for a region that is named.
 -- Assumes nothing.
+use Rattle.std.specs.Prelude.{Result, Ok, Err}
 use mathlib.Core.Path.{◌≡◌, refl}
 use mathlib.Core.Bool.{true, false, not}
 use mathlib.Core.Logic.{◌≢◌}
@@ -24,9 +25,10 @@ use Rattle.chart.proofs.Facts.{Named, names-fit}
 use Rattle.theory_paths.specs.Admission.{admit_rows, bad_region, region_rows}
 use Rattle.theory_paths.specs.AdmissionLaws.{outermost-rows}
 use Rattle.theory_paths.specs.Phases.{barriers}
+use Rattle.mark_regions.specs.declared.outermost.Marked.{Marked}
 use Rattle.mark_regions.specs.Entered.{entered, admitted, admitted_for}
-use Rattle.mark_regions.specs.declared.outermost.Entered.{Entered}
-use Rattle.mark_regions.specs.declared.outermost.Entered.TheVariants.{Marked, Refused}
+use Rattle.chart.specs.declared.format.Refusal.TheVariants.{NoRegion}
+use Rattle.chart.specs.declared.format.Refusal.{Refusal}
 
 -- a number names a parallel's region where that construct is a parallel
 module _ (D : Decoded) (p : ℕ) (n : p ≢ outside) where
@@ -43,19 +45,19 @@ module _ (D : Decoded) (p : ℕ) (n : p ≢ outside) where
 
 module _ (s : List ℕ) (p : ℕ) where
   abbrev last : List Row
-  last = record { number = 23; applies = bad_region (decode s) p } ∷ []
+  last = record { refusal = NoRegion; applies = bad_region (decode s) p } ∷ []
 
-  pub refused-first : (number : ℕ) → first_of (admit_rows s) ≡ some number → Refused (record { number = number }) ≡ admitted_for s p
+  pub refused-first : (refusal : Refusal) → first_of (admit_rows s) ≡ some refusal → Err refusal ≡ admitted_for s p
   unfolding region_rows entered
-  refused-first number h = rw (first-decides (admit_rows s) last number h)
+  refused-first refusal h = rw (first-decides (admit_rows s) last refusal h)
 
   module _ (admits : first_of (admit_rows s) ≡ none) where
-    pub refused-region : bad_region (decode s) p ≡ true → Refused (record { number = 23 }) ≡ admitted_for s p
+    pub refused-region : bad_region (decode s) p ≡ true → Err NoRegion ≡ admitted_for s p
     unfolding region_rows entered first_of
     refused-region b = rw (second-decides (admit_rows s) last admits, b)
 
     pub marked-region : {chart : Chart} {total : ℕ} → chart ≡ read_for (counts_of s) p → total ≡ length (barriers (region_of p (decode s)))
-        → bad_region (decode s) p ≡ false → Marked chart total ≡ admitted_for s p
+        → bad_region (decode s) p ≡ false → Ok (record { chart = chart; barriers = total }) ≡ admitted_for s p
     unfolding region_rows entered first_of
     marked-region c q b = rw (second-decides (admit_rows s) last admits, b, c, q)
 
@@ -64,7 +66,7 @@ module _ (s : List ℕ) (p : ℕ) where
   named h = names-fit (decode s).constructs p h
 
 -- for the outermost region row 23 never applies
-pub marked-outermost : (s : List ℕ) {r : Entered} → r ≡ admitted s → (p : ℕ) → p ≡ outside
+pub marked-outermost : (s : List ℕ) {r : Result Marked Refusal} → r ≡ admitted s → (p : ℕ) → p ≡ outside
     → r ≡ admitted_for s p
 unfolding counts_of
 marked-outermost s e p q = rw (q, outermost-rows s) e

@@ -2,12 +2,12 @@
 // refuses, with the fewest edges from a barrier to each node that is none. Row 10 is asked of the outermost region, by its marking; a
 // parallel's region is marked after that, and needs no row of its own.
 ghost use Rattle.std.specs.Prelude.{◌≡◌, ℕ, replicate};
+ghost use Rattle.mark_regions.specs.declared.outermost.Marked.{Marked};
 ghost use Rattle.mark_regions.specs.Entered.{admitted_for, Entry};
-ghost use Rattle.mark_regions.specs.declared.outermost.Entered.TheVariants.{Marked};
 
 use crate::inner::enter_inner;
-use crate::outermost::{Entered, enter_outermost};
-use chart::format::Chart;
+use crate::outermost::{Marked, enter_outermost};
+use chart::format::{Chart, Refusal};
 
 // The first of rows 1 to 10 and 23 that applies, or the masks, which are 0 before, and levels of all nodes of the region.
 pub fn enter(
@@ -16,18 +16,14 @@ pub fn enter(
     starts: &mut [u64; Chart::NODES],
     ends: &mut [u64; Chart::NODES],
     levels: &mut [u8; Chart::NODES],
-) -> Entered
+) -> Result<Marked, Refusal>
     requires { (starts.old ≡ replicate 192 0) × (ends.old ≡ replicate 192 0) }
     ensures value { result ≡ admitted_for s.now region }
-    ensures entry { (chart : Chart) (total : ℕ) → result ≡ Marked chart total → Entry s.now chart total starts.new ends.new levels.new }
+    ensures entry { (m : Marked) → result ≡ Ok m → Entry s.now m.chart m.barriers starts.new ends.new levels.new }
 {
-    match enter_outermost(s, starts, ends, levels) {
-        Entered::Refused(refusal) => Entered::Refused(refusal),
-        Entered::Marked(chart, barriers) => {
-            if region == Chart::OUTERMOST {
-                return Entered::Marked(chart, barriers);
-            }
-            enter_inner(s, chart, region, starts, ends, levels)
-        }
+    let marked = enter_outermost(s, starts, ends, levels)?;
+    if region == Chart::OUTERMOST {
+        return Ok(marked);
     }
+    enter_inner(s, marked.chart, region, starts, ends, levels)
 }

@@ -6,10 +6,10 @@ ghost use Rattle.chart.specs.Refusal.{first_of};
 ghost use Rattle.chart.specs.Checked.{Laid, counts_of};
 ghost use Rattle.theory_paths.specs.Admission.{admit_rows, bad_region};
 ghost use Rattle.mark_tables.specs.Tables.{Accepted};
+ghost use Rattle.mark_regions.specs.declared.outermost.Marked.{Marked};
 ghost use Rattle.mark_regions.specs.Entered.{admitted_for, Entry};
-ghost use Rattle.mark_regions.specs.declared.outermost.Entered.TheVariants.{Marked};
 
-use crate::outermost::{Entered, enter_region};
+use crate::outermost::{Marked, enter_region};
 use chart::format::{Chart, Construct, Refusal};
 
 // Row 23, of a number that names no region.
@@ -34,13 +34,13 @@ pub fn enter_inner(
     starts: &mut [u64; Chart::NODES],
     ends: &mut [u64; Chart::NODES],
     levels: &mut [u8; Chart::NODES],
-) -> Entered
+) -> Result<Marked, Refusal>
     requires { (first_of (admit_rows s.now) ≡ none) × (counts_of s.now ≡ chart) × Accepted s.now chart × (region ≢ outside) }
     ensures value { result ≡ admitted_for s.now region }
-    ensures entry { (chart : Chart) (total : ℕ) → result ≡ Marked chart total → Entry s.now chart total starts.new ends.new levels.new }
+    ensures entry { (m : Marked) → result ≡ Ok m → Entry s.now m.chart m.barriers starts.new ends.new levels.new }
 {
     if bad_region(s, chart, region) {
-        return Entered::Refused(Refusal::REGION);
+        return Err(Refusal::NoRegion);
     }
     // marks of the outermost region stand there
     *starts = [0u64; Chart::NODES];

@@ -1,5 +1,6 @@
 -- What rows 1 to 9 leave: a chart that `check` passes is accepted, its tables fit, and each of its regions is well formed.
 -- Assumes nothing.
+use Rattle.std.specs.Prelude.{Ok}
 use mathlib.Core.Path.{◌≡◌, ap, sym, subst}
 use mathlib.Core.Logic.{inl, inr}
 use mathlib.Core.List.{List}
@@ -12,7 +13,6 @@ use Rattle.chart.specs.WellFormed.{WellFormed}
 use Rattle.chart.specs.Refusal.{first_of, trailer_rows, table_rows, chart_rows}
 use Rattle.chart.specs.Checked.{Laid, counts_of, read_for, checked, reading}
 use Rattle.chart.specs.declared.format.Chart.{Chart}
-use Rattle.chart.specs.declared.format.Checked.TheVariants.{Passed}
 use Rattle.chart.proofs.Records.{constructs-length}
 use Rattle.chart.proofs.Constructs.{parallel-below}
 use Rattle.chart.proofs.Rows.{both-pass}
@@ -21,11 +21,11 @@ use Rattle.chart.proofs.Accepted.{laid, tables-fit, well-formed-tables}
 use Rattle.check_chart.proofs.Outcome.{passed_none}
 use Rattle.mark_tables.specs.Tables.{Accepted}
 
-pub passed : (s : List ℕ) (chart : Chart) → checked s ≡ Passed chart → first_of (chart_rows s) ≡ none
+pub passed : (s : List ℕ) (chart : Chart) → checked s ≡ Ok chart → first_of (chart_rows s) ≡ none
 unfolding checked
 passed s chart h = (passed_none _ (counts_of s) chart h).0
 
-pub accepted : (s : List ℕ) (chart : Chart) → checked s ≡ Passed chart → Accepted s chart
+pub accepted : (s : List ℕ) (chart : Chart) → checked s ≡ Ok chart → Accepted s chart
 unfolding checked chart_rows counts_of
 accepted s chart h =
     let both = both-pass (trailer_rows s) (table_rows (decode s)) (passed s chart h) in

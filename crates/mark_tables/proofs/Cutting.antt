@@ -29,7 +29,7 @@ use Rattle.theory_paths.specs.Decide.{no_barrier}
 use Rattle.theory_answers.specs.Numbers.{asked}
 use Rattle.mark_tables.proofs.Accepted.{tables, few-constructs}
 use Rattle.mark_tables.proofs.Loading.{stop-byte}
-use Rattle.mark_tables.specs.Tables.{Accepted, kept, Within, Stops, Closed}
+use Rattle.mark_tables.specs.Tables.{Accepted, Within, Stops, Closed}
 
 abbrev pub flag_of : Bool → ℕ
 flag_of b = cond b 1 0

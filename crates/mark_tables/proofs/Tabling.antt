@@ -26,7 +26,7 @@ use Rattle.search.proofs.Placing.{split-none}
 use Rattle.mark_tables.proofs.Accepted.{tables}
 use Rattle.mark_tables.proofs.Columns.{edge-past}
 use Rattle.mark_tables.proofs.Cutting.{flag_of}
-use Rattle.mark_tables.specs.Tables.{Accepted, Columns, Stored, left, kept, Leaving, Blank, Tabled}
+use Rattle.mark_tables.specs.Tables.{Accepted, Columns, Stored, left, kept, Blank, Tabled}
 
 -- a table of zeros is blank
 
@@ -167,12 +167,8 @@ module _ (D : Decoded) (p : ℕ) where
       → Tabled p D stops table total parts
   tabling-all q T = let (columns, count) = kept-all (rw q at T.columns) in record { six = T.sized.six; count = count; columns = columns; split = T.split }
 
-  -- an edge has the flag of the node that it leaves
-  pub leaving-flag : (n : ℕ) {flags : List ℕ} {index from : ℕ} → Leaving D p flags → index ≡ from → from ≡ (edge_at D.edges n).from → get_or flags index 0 ≡ flag_of (keeps D p n)
-  leaving-flag n {flags} L i a = ap (λ (x : ℕ). get_or flags x 0) (i ∙ a) ∙ L.at _
-
 -- each edge is one of the outermost region
-pub keeps-all : (D : Decoded) (p n : ℕ) → p ≡ outside → 1 ≡ flag_of (keeps D p n)
+pub keeps-all : (D : Decoded) (p n : ℕ) → p ≡ outside → true ≡ keeps D p n
 unfolding lies_within
 keeps-all D p n q = rw (eq-eqb p outside q) refl
 

@@ -7,17 +7,17 @@ ghost use Rattle.mark_tables.specs.Tables.{Accepted, Closed};
 
 use crate::cut::within;
 use crate::load::{load_stops, region_byte, stop};
-use chart::cursor::wide;
 use chart::format::{Chart, Node};
 
 // 1 for a node whose number has no flag, and for a barrier.
 fn shut(node: Node, region: u8, flags: &[u8; 256]) -> u8
     ensures { result ≡ cond (eqb (get_or flags.now node.number 0) 0) 1 (cond (leb 1 node.kind && eqb node.number region) 1 0) }
 {
-    if flags[wide(node.number)] == 0 {
-        return 1;
+    if flags[node.number as usize] == 0 {
+        1
+    } else {
+        stop(node, region)
     }
-    stop(node, region)
 }
 
 // A flag on each of them, of a parallel's region.
@@ -28,12 +28,9 @@ fn close_region(s: &[u8], chart: Chart, closed: &mut [u8; Chart::NODES])
     let mut places = [0u8; 256];
     within(s, chart, &mut places);
     *closed = [0u8; Chart::NODES];
-    let n = chart.nodes;
     let region = region_byte(chart);
-    let mut x = 0;
-    while x < n {
+    for x in 0..chart.nodes {
         closed[x] = shut(Node::read(s, chart, x), region, &places);
-        x += 1;
     }
 }
 
@@ -44,9 +41,9 @@ pub fn load_closed(s: &[u8], chart: Chart, closed: &mut [u8; Chart::NODES])
 {
     if chart.region == Chart::OUTERMOST {
         load_stops(s, chart, closed);
-        return;
+    } else {
+        close_region(s, chart, closed);
     }
-    close_region(s, chart, closed);
 }
 
 // The flag of one node.

@@ -6,7 +6,7 @@ ghost use Rattle.chart.specs.Checked.{reading};
 ghost use Rattle.check_nodes.specs.Framed.{BothFramed};
 ghost use Rattle.mark_tables.specs.Tables.{Accepted, Stops, Barriers, Noted, has_stop, stop_from, Listing};
 
-use chart::format::{Chart, Frames, Node};
+use chart::format::{Chart, Framing, Node};
 use check_nodes::counts::bad_frames;
 
 // The region by the byte that its nodes have for a number: on bytes alone the compiler takes several nodes at a time.
@@ -14,20 +14,14 @@ pub fn region_byte(chart: Chart) -> u8
     requires { chart.region < 256 }
     ensures { result ≡ chart.region }
 {
-    (chart.region % 256) as u8
+    chart.region as u8
 }
 
 // 1 for a barrier of the region, its begin and its end among them, 0 for any other node.
 pub fn stop(node: Node, region: u8) -> u8
     ensures { result ≡ cond (leb 1 node.kind && eqb node.number region) 1 0 }
 {
-    if node.kind == Node::PLAIN {
-        return 0;
-    }
-    if node.number == region {
-        return 1;
-    }
-    0
+    u8::from((node.kind != Node::PLAIN) & (node.number == region))
 }
 
 // A stop on each barrier.
@@ -36,12 +30,9 @@ pub fn load_stops(s: &[u8], chart: Chart, stops: &mut [u8; Chart::NODES])
     ensures { Stops (reading s.now chart) stops.new }
 {
     *stops = [0u8; Chart::NODES];
-    let n = chart.nodes;
     let region = region_byte(chart);
-    let mut x = 0;
-    while x < n {
+    for x in 0..chart.nodes {
         stops[x] = stop(Node::read(s, chart, x), region);
-        x += 1;
     }
 }
 
@@ -53,7 +44,7 @@ fn note(stop: u8, x: usize, nodes: &mut [u8; Chart::BARRIERS], total: usize) -> 
     if stop == 0 {
         return total;
     }
-    nodes[total] = (x % 256) as u8;
+    nodes[total] = x as u8;
     total + 1
 }
 
@@ -63,10 +54,8 @@ fn any_stop(stops: &[u8; Chart::NODES], x: usize) -> bool
     ensures { result ≡ any 8 (stop_from stops.now x) }
 {
     let mut found = 0u8;
-    let mut k = 0;
-    while k < 8 {
-        found = found | stops[x + k];
-        k += 1;
+    for stop in &stops[x..x + 8] {
+        found |= *stop;
     }
     found != 0
 }
@@ -82,10 +71,8 @@ fn list_eight(
     ensures { Listing stops.now (from + 8) nodes.new result }
 {
     let mut total = before;
-    let mut k = 0;
-    while k < 8 {
+    for k in 0..8 {
         total = note(stops[from + k], from + k, nodes, total);
-        k += 1;
     }
     total
 }
@@ -103,20 +90,18 @@ pub fn barriers(
 {
     *nodes = [0u8; Chart::BARRIERS];
     let mut total = 0;
-    let mut x = 0;
-    while x < Chart::NODES {
+    for x in (0..Chart::NODES).step_by(8) {
         if any_stop(stops, x) {
             total = list_eight(stops, x, nodes, total);
         }
-        x += 8;
     }
     total
 }
 
 // For each construct its begin, and its end: row 7, which does not apply, finds them.
-pub fn frames(s: &[u8], chart: Chart, begins: &mut Frames, ends: &mut Frames)
+pub fn frames(s: &[u8], chart: Chart, framing: &mut Framing)
     requires { Accepted s.now chart }
-    ensures { BothFramed (decode s.now) begins.new ends.new }
+    ensures { BothFramed (decode s.now) framing.new.begins framing.new.ends }
 {
-    bad_frames(s, chart, begins, ends);
+    bad_frames(s, chart, framing);
 }

@@ -1,7 +1,7 @@
 // The table of the edges for all searches: the places where the edges of each node begin, and the edges parted by the stops.
 ghost use Rattle.std.specs.Prelude.{◌≡◌, List, ℕ, ◌≤◌, ◌<◌, get_or, length, replicate};
 ghost use Rattle.theory_paths.specs.Graph.{Rising, Places};
-ghost use Rattle.search.specs.Parts.{row};
+ghost use Rattle.search.specs.Parts.{row, Sized};
 ghost use Rattle.chart.specs.Format.{Edge, decode};
 ghost use Rattle.chart.specs.Checked.{reading};
 ghost use Rattle.mark_tables.specs.Tables.{Accepted, Columns, FirstEdges, Blank, Arranged, Handed, Stops, Barriers};
@@ -18,12 +18,12 @@ fn find_places(
     e: usize,
     places: &mut [usize; Chart::PLACES],
 )
-    requires e_bound { (e ≤ 1024) × Rising (row table.now 0) e × (length table.now ≡ 6) × ((j : ℕ) → get_or (row table.now 0) j 0 < 192) }
+    requires e_bound { (e ≤ 1024) × Rising (row table.now 0) e × Sized table.now × ((j : ℕ) → get_or (row table.now 0) j 0 < 192) }
     requires places_value { places.old ≡ replicate 193 0 }
     ensures places { Places (row table.now 0) e places.new }
     ensures first_edges { (edges : List Edge) → Columns edges (row table.now 0) (row table.now 1) → e ≡ length edges → FirstEdges edges places.new }
 {
-    places_rising(&table[Parts::FROM], e, places);
+    places_rising(&table[Parts::FROM][..e], places);
 }
 
 // What the searches work on: stops and barriers, the edges parted by the stops, and the places.
@@ -45,11 +45,10 @@ pub fn load_tables(
     let barriers = barriers(s, chart, stops, nodes);
     let loaded = load_edges(s, chart, stops, table);
     find_places(table, loaded.edges, places);
-    let parts = loaded.parts;
     Extent {
         barriers,
         total: barriers,
         nodes: chart.nodes,
-        parts,
+        parts: loaded.parts,
     }
 }

@@ -1,5 +1,5 @@
-// Bits of a mask, and flags: the leaves that counts, searches and rules are made of.
-ghost use Rattle.std.specs.Prelude.{◌≡◌, ◌&&◌, ◌||◌, ◌^◌, ◌≤◌, ◌<◌};
+// Bits of a mask: the leaves that counts, searches and rules are made of.
+ghost use Rattle.std.specs.Prelude.{◌≡◌, ◌^◌, ◌≤◌, ◌<◌};
 ghost use Rattle.std.specs.Int.Count.{ones as count_ones};
 ghost use Rattle.lists.specs.Bits.{has as has_bit};
 ghost use Rattle.lists.specs.Lowest.{Lowest};
@@ -25,7 +25,7 @@ pub fn has(mask: u64, b: usize) -> bool
 pub fn ones(mask: u64) -> usize
     ensures { (result ≡ count_ones mask) × (result ≤ 64) }
 {
-    u64::count_ones(mask) as usize
+    mask.count_ones() as usize
 }
 
 // The place of the lowest bit.
@@ -33,7 +33,7 @@ pub fn lowest(mask: u64) -> usize
     requires { 0 < mask }
     ensures { Lowest mask result 64 }
 {
-    u64::trailing_zeros(mask) as usize
+    mask.trailing_zeros() as usize
 }
 
 // Whether two masks have a bit in common.
@@ -41,24 +41,4 @@ pub fn common(m: u64, n: u64) -> bool
     ensures { result ≡ common_bit m n }
 {
     (m & n) != 0
-}
-
-// Both of two tests.
-pub fn both(a: bool, b: bool) -> bool
-    ensures { result ≡ (a && b) }
-{
-    if a {
-        return b;
-    }
-    false
-}
-
-// One of two tests.
-pub fn either(a: bool, b: bool) -> bool
-    ensures { result ≡ (a || b) }
-{
-    if a {
-        return true;
-    }
-    b
 }

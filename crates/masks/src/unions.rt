@@ -15,8 +15,8 @@ pub fn add(sets: &mut [u64; BITS], mask: u64, set: u64)
     let mut rest = mask;
     while rest != 0 {
         let b = lowest(rest);
-        sets[b] = sets[b] | set;
-        rest = rest & (rest - 1);
+        sets[b] |= set;
+        rest &= rest - 1;
     }
 }
 
@@ -34,20 +34,18 @@ pub fn join(mask: u64, low: &[u64; BITS], middle: &[u64; BITS], high: &[u64; BIT
     ensures joined_2 { Joined mask middle.now result.middle }
     ensures joined_3 { Joined mask high.now result.high }
 {
-    let mut a = 0;
-    let mut b = 0;
-    let mut c = 0;
+    let mut union = Words {
+        low: 0,
+        middle: 0,
+        high: 0,
+    };
     let mut rest = mask;
     while rest != 0 {
         let k = lowest(rest);
-        a = a | low[k];
-        b = b | middle[k];
-        c = c | high[k];
-        rest = rest & (rest - 1);
+        union.low |= low[k];
+        union.middle |= middle[k];
+        union.high |= high[k];
+        rest &= rest - 1;
     }
-    Words {
-        low: a,
-        middle: b,
-        high: c,
-    }
+    union
 }

@@ -1,3 +1,2 @@
-pub mod Negation
 pub mod Outputs
 pub mod OutputCorrectLaws

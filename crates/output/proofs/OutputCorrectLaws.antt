@@ -8,10 +8,11 @@ use Rattle.std.proofs.Math.Decide.{dec_lt}
 use Rattle.std.proofs.Math.IntN.{pos}
 use borrow.Author.Tests.{ltb-false}
 use Rattle.lists.specs.Front.{front_length, front_at, front-past}
-use Rattle.chart.specs.Refusal.{Row, first_of}
+use Rattle.chart.specs.Refusal.{Row, first_of, row_number}
 use Rattle.chart.proofs.Rows.{none-applies, both-pass}
 use Rattle.output.specs.Output.{room_row, output_rows, written, content, written_by, left_by, number_of}
 use Rattle.output.specs.OutputCorrect.{OutputCorrect}
+use Rattle.chart.specs.declared.format.Refusal.{Refusal}
 
 -- `before` and `after` are the call's rows on both sides of row 11, `bytes` its result.
 module _ (before after : List Row) (bytes old : List ℕ) (size : ℕ) (long : length bytes ≡ size) where
@@ -24,13 +25,13 @@ module _ (before after : List Row) (bytes old : List ℕ) (size : ℕ) (long : l
   abbrev leaves : List ℕ
   leaves = left_by (rows (length bytes)) bytes old
 
-  abbrev outcome : Option ℕ
+  abbrev outcome : Option Refusal
   outcome = first_of (rows size)
 
   -- what the call gives, by what its rows say
-  refused : (row : ℕ) → outcome ≡ some row → (gives ≡ neg_ℤ (pos row)) × (leaves ≡ old)
+  refused : (refusal : Refusal) → outcome ≡ some refusal → (gives ≡ neg_ℤ (pos (row_number refusal))) × (leaves ≡ old)
   unfolding written_by left_by written content number_of
-  refused row h = rw (long, h) (refl, refl)
+  refused refusal h = rw (long, h) (refl, refl)
 
   passed : outcome ≡ none → (gives ≡ pos size) × (leaves ≡ bytes ++ drop (length bytes) old)
   unfolding written_by left_by written content number_of
@@ -63,7 +64,7 @@ module _ (before after : List Row) (bytes old : List ℕ) (size : ℕ) (long : l
       long = go outcome refl;
     }
       where
-        go : (o : Option ℕ) → outcome ≡ o → length leaves ≡ length old
+        go : (o : Option Refusal) → outcome ≡ o → length leaves ≡ length old
         go none h = left-length h
         go (some row) h = rw (refused row h).1
 
@@ -76,7 +77,7 @@ module _ (before after : List Row) (bytes old : List ℕ) (size : ℕ) (long : l
         at h j (yes l) = only (passes h).0 (C.writes h).1 j l ∙ sym (left_at h j l)
         at h j (no l) = C.rest h j (omega arith) ∙ sym (left-past h j (omega arith))
 
-        go : (o : Option ℕ) → outcome ≡ o → (number ≡ gives) × (new ≡ leaves)
+        go : (o : Option Refusal) → outcome ≡ o → (number ≡ gives) × (new ≡ leaves)
         go none h = (
           (C.writes h).0 ∙ sym (passed h).0,
           ext_get_or 0 new leaves (C.long ∙ sym (left-length h)) (λ j l. at h j (dec_lt j size)),

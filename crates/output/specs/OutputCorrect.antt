@@ -3,12 +3,13 @@
 -- Assumes nothing.
 use Rattle.std.specs.Prelude.{◌≡◌, List, ℕ, ◌≤◌, ℤ, pos, neg_ℤ, length, get_or}
 use Rattle.std.proofs.Math.Option.{none, some}
-use Rattle.chart.specs.Refusal.{Row, first_of}
+use Rattle.chart.specs.Refusal.{Row, first_of, row_number}
+use Rattle.chart.specs.declared.format.Refusal.{Refusal}
 
 -- A result of this size is written as it should be.
 pub record OutputCorrect (rows : List Row) (size : ℕ) (Holds : List ℕ → Type 0) (old : List ℕ) (number : ℤ) (new : List ℕ) : Type 0 where
   -- refused: the number of the first row that applies, negated, and the lent bytes as they were
-  pub refuses : (row : ℕ) → first_of rows ≡ some row → (number ≡ neg_ℤ (pos row)) × (new ≡ old)
+  pub refuses : (refusal : Refusal) → first_of rows ≡ some refusal → (number ≡ neg_ℤ (pos (row_number refusal))) × (new ≡ old)
   -- otherwise the number of bytes written, the result, and past it the bytes that were there
   pub writes : first_of rows ≡ none → (number ≡ pos size) × Holds new
   pub rest : first_of rows ≡ none → (j : ℕ) → size ≤ j → get_or new j 0 ≡ get_or old j 0

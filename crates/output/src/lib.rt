@@ -9,26 +9,18 @@ use chart::format::Refusal;
 
 pub mod signed;
 
-// What a call that writes answers.
-#[derive(Clone, Copy)]
-pub enum Written {
-    Bytes(usize),
-    Refused(Refusal),
-}
+// Bytes of a mask.
+pub const MASK: usize = 8;
 
-impl Written {
-    // Bytes of a mask.
-    pub const MASK: usize = 8;
-    // Bytes that Phases writes for a node: its starts and its ends.
-    pub const PHASES_NODE: usize = 2 * Written::MASK;
-}
+// Bytes that Phases writes for a node: its starts and its ends.
+pub const PHASES_NODE: usize = 2 * MASK;
 
 // Row 11, for a result of this size.
-pub fn room_for(size: usize, room: usize) -> Written
+pub fn room_for(size: usize, room: usize) -> Result<usize, Refusal>
     ensures { result ≡ written_by (output_rows [] room size []) size }
 {
     if room < size {
-        return Written::Refused(Refusal::ROOM);
+        return Err(Refusal::NoRoom);
     }
-    Written::Bytes(size)
+    Ok(size)
 }

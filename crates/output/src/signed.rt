@@ -1,5 +1,6 @@
 // The two ways in which a call's answer becomes C's signed number.
 ghost use Rattle.std.specs.Prelude.{◌≡◌, ◌<◌, ◌^◌, pos, neg_ℤ};
+ghost use Rattle.chart.specs.Refusal.{row_number};
 
 use chart::format::Refusal;
 
@@ -13,8 +14,7 @@ pub fn counted(n: usize) -> i64
 
 // A refusal's number, negated.
 pub fn negated(refusal: Refusal) -> i64
-    ensures { result ≡ neg_ℤ (pos refusal.number) }
+    ensures { result ≡ neg_ℤ (pos (row_number refusal)) }
 {
-    let number = refusal.number;
-    -(number as i64)
+    -i64::from(u8::from(refusal))
 }

@@ -3,26 +3,23 @@
 
 use call_listing::drawing::listing;
 use chart::format::Chart;
-use output::Written;
-use program_io::input::{read_full, too_long};
+use program_io::input;
+use program_io::input::read_shorter;
 use program_io::printing::{print, print_refusal};
 use std::io;
-
-const MOST: usize = 65535;
 
 fn show(rt: &impl Print, text: &[u8]) -> io::Result<()> {
     let mut chart = [0u8; Chart::MOST_BYTES];
     match listing(text, &mut chart) {
-        Written::Refused(refusal) => print_refusal(rt, refusal),
-        Written::Bytes(size) => print(rt, &chart[..size]),
+        Err(refusal) => print_refusal(rt, refusal),
+        Ok(size) => print(rt, &chart[..size]),
     }
 }
 
 fn main(rt: HostRuntime) -> io::Result<()> {
-    let mut buffer = [0u8; MOST + 1];
-    let n = read_full(&rt, &mut buffer)?;
-    if n > MOST {
-        return too_long(&rt);
+    let mut buffer = [0u8; input::MOST + 1];
+    match read_shorter(&rt, &mut buffer)? {
+        Some(text) => show(&rt, text),
+        None => println!(rt; "input too long"),
     }
-    show(&rt, &buffer[..n])
 }

@@ -1,1 +1,1 @@
-pub mod Sheet
+mod List

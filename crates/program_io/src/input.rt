@@ -1,55 +1,23 @@
 // The input of a program that takes lists of bytes: each stands there after its length, a field of two bytes, little-endian.
-ghost use Rattle.std.specs.Prelude.{◌≡◌, ◌≤◌, IfOk, length};
-ghost use Rattle.program_io.specs.Part.{part_at};
+ghost use Rattle.std.specs.Prelude.{◌≡◌, ◌↔◌, ◌+◌, ◌≤◌, ◌<◌, IsSome, IfSome, IfOk, length};
+ghost use Rattle.chart.specs.Format.{field};
+ghost use Rattle.program_io.specs.Part.{list_in, after_list};
 
-use chart::cursor::Cursor;
 use std::io;
 use std::io::Read;
 
-// Where a list stands in the input, from which place to which; or that it is not whole there, since the input ends before the list does.
-#[derive(Clone, Copy)]
-pub struct Part {
-    pub start: usize,
-    pub end: usize,
-    pub whole: bool,
-}
+// Bytes of a length, and the most that it can be.
+pub const LENGTH: usize = 2;
 
-impl Part {
-    // Bytes of a length, and the most that it can be.
-    pub const LENGTH: usize = 2;
+pub const MOST: usize = 65535;
 
-    pub const MOST: usize = 65535;
-    // Not whole.
-    const SHORT: Part = Part {
-        start: 0,
-        end: 0,
-        whole: false,
-    };
-}
-
-// The list whose length stands at a place.
-pub fn list_at(input: &[u8], at: usize) -> Part
-    ensures value { result ≡ part_at input.now at }
-    ensures start_le_end { (result.start ≤ result.end) × (result.end ≤ length input.now) }
+// The list at the front and what comes after it, if the input has all of the list.
+pub fn split_list(input: &[u8]) -> Option<(&[u8], &[u8])>
+    ensures whole { IsSome result ↔ (2 + field input.now 0 ≤ length input.now) }
+    ensures parts { IfSome result (λ p. (p.0.now ≡ list_in input.now) × (p.1.now ≡ after_list input.now)) }
 {
-    let n = input.len();
-    if n < at {
-        return Part::SHORT;
-    }
-    if n - at < Part::LENGTH {
-        return Part::SHORT;
-    }
-    let cursor = Cursor { at };
-    let count = cursor.field(input, 0);
-    let start = at + Part::LENGTH;
-    if n - start < count {
-        return Part::SHORT;
-    }
-    Part {
-        start,
-        end: start + count,
-        whole: true,
-    }
+    let (size, rest) = input.split_first_chunk::<LENGTH>()?;
+    rest.split_at_checked(usize::from(u16::from_le_bytes(*size)))
 }
 
 // Reads until the buffer is full or the input ends, and answers how many bytes it put at the buffer's start. After an error those that were read
@@ -69,12 +37,14 @@ pub fn read_full(rt: &impl Input, buffer: &mut [u8]) -> io::Result<usize>
     Ok(done)
 }
 
-// What a program says of input that ends before a list of it does.
-pub fn too_short(rt: &impl Print) -> io::Result<()> {
-    rt.write_all(b"input too short\n")
-}
-
-// What a program says of input that is longer than its longest case.
-pub fn too_long(rt: &impl Print) -> io::Result<()> {
-    rt.write_all(b"input too long\n")
+// The whole input, if it ends before the buffer is full.
+pub fn read_shorter<'a>(rt: &impl Input, buffer: &'a mut [u8]) -> io::Result<Option<&'a [u8]>>
+    ensures { IfOk result (λ read. IfSome read (λ input. length input.now < length buffer.old)) }
+{
+    let n = read_full(rt, buffer)?;
+    if n < buffer.len() {
+        Ok(Some(&buffer[..n]))
+    } else {
+        Ok(None)
+    }
 }

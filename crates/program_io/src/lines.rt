@@ -1,109 +1,72 @@
-// The lines that the program prints, from what Admit answers and Phases and Sheet write.
-ghost use Rattle.std.specs.Prelude.{◌+◌, ◌≤◌, ◌<◌};
+// The lines that the programs print, from what Phases and Sheet write.
+ghost use Rattle.std.specs.Prelude.{◌≡◌, ◌+◌, ◌*◌, ◌≤◌, ◌<◌, get_or};
 
-use chart::cursor::wide;
 use chart::format::Chart;
-use output::Written;
 use std::io;
 use theory_answers::Answer;
-use theory_calls::Counts;
 
 // The most bytes that Phases writes, and that a sheet has.
-pub const PHASES: usize = Written::PHASES_NODE * Chart::NODES;
+pub const PHASES: usize = output::PHASES_NODE * Chart::NODES;
 
 pub const SHEET: usize = Chart::NODES * Chart::NODES;
 
-pub fn number(rt: &impl Print, word: &[u8], n: u64) -> io::Result<()> {
-    rt.write_all(word)?;
-    rt.print(n)
+// A byte for each pair of a chart's nodes: a row for each node.
+#[derive(Clone, Copy)]
+pub struct PairBytes<'a> {
+    pub bytes: &'a [u8; SHEET],
+    pub nodes: usize,
+    ghost room: { nodes ≤ 192 },
 }
 
-pub fn end_line(rt: &impl Print) -> io::Result<()> {
-    rt.write_all(b"\n")
-}
+impl PairBytes<'_> {
+    pub fn of(&self, a: usize, b: usize) -> u8
+        requires { (a < self.now.nodes) × (b < self.now.nodes) }
+        ensures { result ≡ get_or self.now.bytes.now (a * self.now.nodes + b) 0 }
+    {
+        self.bytes[a * self.nodes + b]
+    }
 
-pub fn counts(rt: &impl Print, counts: Counts) -> io::Result<()> {
-    number(rt, b"chart ", counts.nodes as u64)?;
-    number(rt, b" nodes ", counts.barriers as u64)?;
-    number(rt, b" barriers ", counts.phases as u64)?;
-    rt.write_all(b" phases\n")
+    // Writes a line for each pair, the lower node first.
+    pub fn each<F: Fn(usize, usize, u8) -> io::Result<()>>(&self, line: F) -> io::Result<()>
+        requires { F.IsAlwaysCallable line }
+    {
+        for a in 0..self.nodes {
+            for b in a..self.nodes {
+                line(a, b, self.of(a, b))?;
+            }
+        }
+        Ok(())
+    }
 }
 
 // The mask of the eight bytes that begin at `at`, little-endian.
 fn mask_at(masks: &[u8; PHASES], at: usize) -> u64
     requires { at + 8 ≤ 3072 }
 {
-    let mut mask = 0;
-    let mut k = Written::MASK;
-    while 0 < k {
-        k -= 1;
-        mask = (mask << 8) | wide(masks[at + k]) as u64;
-    }
-    mask
+    let mut bytes = [0; output::MASK];
+    bytes.copy_from_slice(&masks[at..at + output::MASK]);
+    u64::from_le_bytes(bytes)
 }
 
-fn node(rt: &impl Print, masks: &[u8; PHASES], x: usize) -> io::Result<()>
-    requires { x < 192 }
-{
-    number(rt, b"node ", x as u64)?;
-    number(rt, b" starts ", mask_at(masks, Written::PHASES_NODE * x))?;
-    number(
-        rt,
-        b" ends ",
-        mask_at(masks, Written::PHASES_NODE * x + Written::MASK),
-    )?;
-    end_line(rt)
-}
-
-// A line for each of the n nodes that is no barrier.
-pub fn nodes(
-    rt: &impl Print,
-    masks: &[u8; PHASES],
-    answers: &[u8; SHEET],
-    n: usize,
-) -> io::Result<()>
-    requires { n ≤ 192 }
-{
-    let mut x = 0;
-    while x < n {
-        if answers[x * n + x] != Answer::BARRIER {
-            node(rt, masks, x)?;
+// A line for each node that is no barrier.
+pub fn nodes(rt: &impl Print, masks: &[u8; PHASES], answers: PairBytes) -> io::Result<()> {
+    for x in 0..answers.nodes {
+        if answers.of(x, x) != Answer::BARRIER {
+            let starts = mask_at(masks, output::PHASES_NODE * x);
+            let ends = mask_at(masks, output::PHASES_NODE * x + output::MASK);
+            println!(rt; "node {x} starts {starts} ends {ends}")?;
         }
-        x += 1;
     }
     Ok(())
 }
 
-fn pair(rt: &impl Print, a: usize, b: usize, answer: u8) -> io::Result<()> {
-    number(rt, b"pair ", a as u64)?;
-    number(rt, b" ", b as u64)?;
-    number(rt, b" ", wide(answer) as u64)?;
-    end_line(rt)
-}
-
-// A line for each pair of a and a node from a on, neither of which is a barrier.
-fn pairs_of(rt: &impl Print, answers: &[u8; SHEET], n: usize, a: usize) -> io::Result<()>
-    requires { (n ≤ 192) × (a < n) }
-{
-    let mut b = a;
-    while b < n {
-        let answer = answers[a * n + b];
-        if answer != Answer::BARRIER {
-            pair(rt, a, b, answer)?;
+// A line for each pair of nodes, neither of which is a barrier.
+pub fn pairs(rt: &impl Print, answers: PairBytes) -> io::Result<()> {
+    answers.each(|a, b, answer| {
+        if answer == Answer::BARRIER {
+            Ok(())
+        } else {
+            println!(rt; "pair {a} {b} {answer}")
         }
-        b += 1;
-    }
-    Ok(())
-}
-
-// A line for each pair of the n nodes.
-pub fn pairs(rt: &impl Print, answers: &[u8; SHEET], n: usize) -> io::Result<()>
-    requires { n ≤ 192 }
-{
-    let mut a = 0;
-    while a < n {
-        pairs_of(rt, answers, n, a)?;
-        a += 1;
-    }
-    Ok(())
+    })
 }

@@ -1,68 +1,38 @@
 // What the replay says, and the pairs met.
-ghost use Rattle.std.specs.Prelude.{◌*◌, ◌≤◌, ◌<◌};
+ghost use Rattle.std.specs.Prelude.{◌≤◌, IfSome};
 
 use call_replay::pairs_met::Rows;
-use chart::cursor::wide;
 use chart::format::Chart;
-use program_io::lines::{SHEET, end_line, number};
+use program_io::lines::PairBytes;
 use std::io;
 use theory_traces::Replayed;
 
-fn word(rt: &impl Print, said: &[u8]) -> io::Result<()> {
-    rt.write_all(said)
-}
-
 pub fn outcome(rt: &impl Print, said: Replayed) -> io::Result<()> {
     match said {
-        Replayed::Finished => word(rt, b"finished")?,
-        Replayed::Unfinished => word(rt, b"unfinished")?,
-        Replayed::Forbidden(index) => number(rt, b"forbidden ", index as u64)?,
-        Replayed::Refused(refusal) => number(rt, b"refused ", wide(refusal.number) as u64)?,
+        Replayed::Finished => println!(rt; "finished"),
+        Replayed::Unfinished => println!(rt; "unfinished"),
+        Replayed::Forbidden(index) => println!(rt; "forbidden {index}"),
     }
-    end_line(rt)
 }
 
-// How many nodes a chart has; 0 for bytes that are none.
-pub fn nodes_of(s: &[u8]) -> usize
-    ensures { result ≤ 192 }
+// How many nodes a chart has; bytes that are none have no number.
+pub fn nodes_of(s: &[u8]) -> Option<usize>
+    ensures { IfSome result (λ n. n ≤ 192) }
 {
     if s.len() < Chart::TRAILER_BYTES {
-        return 0;
+        return None;
     }
     let n = Chart::read(s).nodes;
-    if Chart::NODES < n {
-        return 0;
-    }
-    n
+    if n <= Chart::NODES { Some(n) } else { None }
 }
 
-fn pair(rt: &impl Print, a: usize, b: usize) -> io::Result<()> {
-    number(rt, b"met ", a as u64)?;
-    number(rt, b" ", b as u64)?;
-    end_line(rt)
-}
-
-// A line for each pair of the row of a that is met, the lower node first.
-fn row(rt: &impl Print, out: &[u8; SHEET], n: usize, a: usize) -> io::Result<()>
-    requires { (n ≤ 192) × (a < n) }
-{
-    let mut b = a;
-    while b < n {
-        if out[a * n + b] == Rows::MET {
-            pair(rt, a, b)?;
+// A line for each pair that is met, the lower node first.
+pub fn met(rt: &impl Print, pairs: PairBytes) -> io::Result<()> {
+    pairs.each(|a, b, byte| {
+        if byte == Rows::MET {
+            println!(rt; "met {a} {b}")
+        } else {
+            Ok(())
         }
-        b += 1;
-    }
-    Ok(())
-}
-
-pub fn met(rt: &impl Print, out: &[u8; SHEET], n: usize) -> io::Result<()>
-    requires { n ≤ 192 }
-{
-    let mut a = 0;
-    while a < n {
-        row(rt, out, n, a)?;
-        a += 1;
-    }
-    Ok(())
+    })
 }

@@ -6,57 +6,63 @@ mod lines;
 mod threads;
 
 use call_replay::run::run;
-use chart::cursor::wide;
 use chart::format::Chart;
-use program_io::input::{Part, list_at, read_full, too_long, too_short};
-use program_io::lines::SHEET;
+use program_io::input;
+use program_io::input::{read_shorter, split_list};
+use program_io::lines::{PairBytes, SHEET};
+use program_io::printing::print_refusal;
 use std::io;
-use theory_traces::Replayed;
 
-// Bytes in front of the trace: the region, and the size of the team.
-const FRONT: usize = 2;
+// The longest input: two bytes for the region and the size of the team, trace and chart as long as they can be.
+const MOST: usize = 2 + input::LENGTH + input::MOST + Chart::MOST_BYTES;
 
-// The longest input: trace and chart as long as they can be.
-const MOST: usize = FRONT + Part::LENGTH + Part::MOST + Chart::MOST_BYTES;
-
-fn print_replayed(
-    rt: &impl Print,
-    s: &[u8],
+#[derive(Clone, Copy)]
+struct Case<'a> {
     region: usize,
-    trace: &[u8],
-    m: usize,
-) -> io::Result<()> {
+    team: usize,
+    trace: &'a [u8],
+    chart: &'a [u8],
+}
+
+// What the input asks, if it has all of the trace.
+fn read(input: &[u8]) -> Option<Case<'_>> {
+    let [region, team, rest @ ..] = input else {
+        return None;
+    };
+    let (trace, chart) = split_list(rest)?;
+    Some(Case {
+        region: usize::from(*region),
+        team: usize::from(*team),
+        trace,
+        chart,
+    })
+}
+
+fn print_replayed(rt: &impl Print, case: Case) -> io::Result<()> {
     let mut out = [0u8; SHEET];
-    let team = run(s, region, trace, m, &mut out);
-    let said = team.answer;
-    lines::outcome(rt, said)?;
-    if let Replayed::Refused(_) = said {
-        return Ok(());
+    let team = run(case.chart, case.region, case.trace, case.team, &mut out);
+    match team.answer {
+        Ok(said) => lines::outcome(rt, said)?,
+        Err(refusal) => return print_refusal(rt, refusal),
     }
     threads::all(rt, team)?;
-    lines::met(rt, &out, lines::nodes_of(s))
+    match lines::nodes_of(case.chart) {
+        Some(nodes) => lines::met(rt, PairBytes { bytes: &out, nodes }),
+        None => Ok(()),
+    }
 }
 
 fn print(rt: &impl Print, input: &[u8]) -> io::Result<()> {
-    if input.len() < FRONT {
-        return too_short(rt);
+    match read(input) {
+        Some(case) => print_replayed(rt, case),
+        None => println!(rt; "input too short"),
     }
-    let trace = list_at(input, FRONT);
-    if !trace.whole {
-        return too_short(rt);
-    }
-    let start = trace.start;
-    let end = trace.end;
-    let region = wide(input[0]);
-    let m = wide(input[1]);
-    print_replayed(rt, &input[end..], region, &input[start..end], m)
 }
 
 fn main(rt: HostRuntime) -> io::Result<()> {
     let mut buffer = [0u8; MOST + 1];
-    let n = read_full(&rt, &mut buffer)?;
-    if MOST < n {
-        return too_long(&rt);
+    match read_shorter(&rt, &mut buffer)? {
+        Some(input) => print(&rt, input),
+        None => println!(rt; "input too long"),
     }
-    print(&rt, &buffer[..n])
 }

@@ -11,7 +11,7 @@ use Rattle.theory_paths.specs.PathLaws.{append, edges-append}
 use Rattle.theory_paths.specs.Found.{Clear, Reached, ReachedIn, Leveled}
 use Rattle.search.specs.Steps.{Leads, Bounded, Run}
 use Rattle.search.specs.Invariant.{level_at, Queued, Spent, State}
-use Rattle.search.proofs.Visits.{Grown, Met, run}
+use Rattle.search.proofs.Visits.{Grown, Met, room-end, run}
 
 module _ (values places marks sources : List ℕ) (k : ℕ) where
   abbrev E : ℕ → ℕ → Type 0
@@ -154,3 +154,15 @@ module _ (values places marks sources : List ℕ) (k : ℕ) where
           let (a, c) = s.first b l y e p in
           let (f, g) = along p a o r in
           (f, omega arith)
+
+-- A turn is early enough, and its level fits.
+pub record Within (head : ℕ) (d q : List ℕ) : Type 0 where
+  pub early : head < 192
+  pub node : get_or q head 0 < 192
+  pub short : level_at d q head < 255
+
+pub turn-within : {E : ℕ → ℕ → Type 0} {marks sources : List ℕ} {k b v head : ℕ} {d q : List ℕ} {n : ℕ} → State E marks sources k b v head d q n → head < n → Within head d q
+turn-within {head = head} s h =
+    let Q = s.queued in
+    let e : head < 192 = omega (arith, room-end Q.room) in
+    record { early = e; node = Q.node head h; short = omega (arith, Q.short head h) }

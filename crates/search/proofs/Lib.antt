@@ -16,3 +16,4 @@ pub mod Leveling
 pub mod Settling
 pub mod Linking
 pub mod Waits
+pub mod Ranges

@@ -1,6 +1,7 @@
 -- One edge more in all rows of a table of edges keeps it split.
 -- Assumes nothing.
 use mathlib.Core.Path.{◌≡◌, ap, sym, ◌∙◌}
+use mathlib.Core.Bool.{Bool, true, false}
 use mathlib.Core.List.{List}
 use Prim.Native.Nat.{ℕ, ◌+◌, ◌≤◌, ◌<◌}
 use native.Mathlib.Omega.{arith}
@@ -94,8 +95,8 @@ module _ {stops : List ℕ} {j : ℕ} {l : List (List ℕ)} {parts : Parts} {x y
   order : Rising keys (j + 1)
   order = rising-more (row l 0) x in-keys N.split.order N.most
 
-  pub split-more : {keep : ℕ} {k m n : List (List ℕ)} {mid parts' : Parts} → row k 0 ≡ set (row l 0) j x → row k 1 ≡ set (row l 1) j y → Beside 0 1 l k
-      → ((keep ≡ 0 → ⊥) → Clear stops x × Clear stops y) → (keep ≡ 0 → Clear stops x → Clear stops y → ⊥)
+  pub split-more : {keep : Bool} {k m n : List (List ℕ)} {mid parts' : Parts} → row k 0 ≡ set (row l 0) j x → row k 1 ≡ set (row l 1) j y → Beside 0 1 l k
+      → (keep ≡ true → Clear stops x × Clear stops y) → (keep ≡ false → Clear stops x → Clear stops y → ⊥)
       → PutIn x y keep k parts m mid → NotedIn x y (get_or stops y 0) m mid n parts'
       → (Split n (j + 1) stops parts' × Sized n) × ((row n 0 ≡ set (row l 0) j x) × (row n 1 ≡ set (row l 1) j y))
   split-more {keep} {k} {m} {n} {mid} {parts'} a b c yes-kept no-kept p q = (

@@ -2,7 +2,7 @@
 -- Assumes nothing.
 use mathlib.Core.Path.{◌≡◌, refl, ◌∙◌}
 use mathlib.Core.Logic.{◌⊎◌, inl, inr}
-use mathlib.Core.Bool.{true, false}
+use mathlib.Core.Bool.{Bool, true, false}
 use mathlib.Core.List.{List}
 use Prim.Native.Nat.{ℕ, ◌+◌, ◌-◌, ◌≤◌, ◌<◌}
 use native.Mathlib.Omega.{arith}
@@ -260,15 +260,15 @@ module _ {keys values stops : List ℕ} {e j : ℕ} {s t : List ℕ} {ups low : 
         low_first a k l m n (yes z) (no w) = rw z (omega (arith, same_s k w, own-s, highest (i.down k (omega arith) n).0))
 
 -- one turn of the loop
-pub put-turn : {keys values stops : List ℕ} {e j : ℕ} {s t s' t' : List ℕ} {ups low ups' low' keep : ℕ} → Rising keys e → j < e
+pub put-turn : {keys values stops : List ℕ} {e j : ℕ} {s t s' t' : List ℕ} {ups low ups' low' : ℕ} {keep : Bool} → Rising keys e → j < e
     → get_or keys j 0 < 192 → get_or values j 0 < 192 → Parted keys values stops j s t ups low
-    → ((keep ≡ 0 → ⊥) → Clear stops (get_or keys j 0) × Clear stops (get_or values j 0))
-    → (keep ≡ 0 → Clear stops (get_or keys j 0) → Clear stops (get_or values j 0) → ⊥)
+    → (keep ≡ true → Clear stops (get_or keys j 0) × Clear stops (get_or values j 0))
+    → (keep ≡ false → Clear stops (get_or keys j 0) → Clear stops (get_or values j 0) → ⊥)
     → Put (get_or keys j 0) (get_or values j 0) keep s t ups low s' t' ups' low' → Parted keys values stops (j + 1) s' t' ups' low'
 put-turn {keys} {values} {stops} {e} {j} {s} {t} {s'} {t'} {ups} {low} {ups'} {low'} {keep} order within kn vn i yes-kept no-kept p = go p.way
   where
-    go : ((keep ≡ 0) × (ups' ≡ ups) × (low' ≡ low)) ⊎ (((keep ≡ 0 → ⊥) × (get_or keys j 0 < get_or values j 0) × (p.at ≡ ups) × (ups' ≡ ups + 1) × (low' ≡ low))
-        ⊎ ((keep ≡ 0 → ⊥) × (get_or values j 0 ≤ get_or keys j 0) × (p.at + 1 ≡ low) × (ups' ≡ ups) × (low' ≡ p.at)))
+    go : ((keep ≡ false) × (ups' ≡ ups) × (low' ≡ low)) ⊎ (((keep ≡ true) × (get_or keys j 0 < get_or values j 0) × (p.at ≡ ups) × (ups' ≡ ups + 1) × (low' ≡ low))
+        ⊎ ((keep ≡ true) × (get_or values j 0 ≤ get_or keys j 0) × (p.at + 1 ≡ low) × (ups' ≡ ups) × (low' ≡ p.at)))
         → Parted keys values stops (j + 1) s' t' ups' low'
     go (inl (z, u, l)) = rw (p.is-s, p.is-t, u, l) (put-none order within kn vn i p.at p.inside (no-kept z))
     go (inr (inl (z, h, q, u, l))) =

@@ -1,38 +1,38 @@
 -- Each visit keeps what holds of the queue and the levels, and so does a run of them.
 -- Assumes nothing.
-use mathlib.Core.Path.{◌≡◌, refl, ◌∙◌}
+use mathlib.Core.Path.{◌≡◌, refl, ap, ◌∙◌}
+use mathlib.Core.Bool.{Bool, true, false}
 use mathlib.Core.List.{List}
 use Prim.Native.Nat.{ℕ, zero, suc, ◌+◌, ◌≤◌, ◌<◌}
 use native.Mathlib.Omega.{arith}
 use borrow.Author.Count.{below_more}
+use lib.Dec.{eqb, eqb-suc-zero}
 use lib.ListN.{length, get_or, set, length-set}
+use mir.Val.{bool_byte}
 use lib.Seq.{get_or-set_same, get_or-set_other}
 use Rattle.lists.specs.Store.{at_set, filled-le, filled-set, filled-keep}
 use Rattle.theory_paths.specs.Found.{Clear}
-use Rattle.search.specs.Steps.{Room, first_of, tail_of, Visited, known, fresh, Run, none, more}
+use Rattle.search.specs.Steps.{Room, Visited, known, fresh, Run, none, more}
 use Rattle.search.specs.Invariant.{level_at, Waits, Queued}
 
-pub first-same : (m v : ℕ) → (m ≡ 0 → ⊥) → m ≡ first_of m v
-first-same zero v h = absurd (h refl)
-first-same (suc m) v h = refl
+-- whether a number is 0, as a flag
+pub none-flag : (m : ℕ) → m ≡ 0 → bool_byte (eqb m 0) ≡ 1
+none-flag zero e = refl
+none-flag (suc m) e = absurd (omega arith)
 
-pub tail_more : (n m : ℕ) → m ≡ 0 → n + 1 ≡ tail_of n m
-tail_more n zero h = refl
-tail_more n (suc m) h = absurd (omega arith)
+pub flag-most : (b : Bool) → bool_byte b ≤ 1
+flag-most true = omega arith
+flag-most false = omega arith
 
-pub tail-same : (n m : ℕ) → (m ≡ 0 → ⊥) → n ≡ tail_of n m
-tail-same n zero h = absurd (h refl)
-tail-same n (suc m) h = refl
-
--- what is stored is one of the two cases
-pub visited : (y v : ℕ) (d q : List ℕ) (n : ℕ) → Visited y v d q n (set d y (first_of (get_or d y 0) v)) (set q n y) (tail_of n (get_or d y 0))
-visited y v d q n = by_level (get_or d y 0) refl
+-- a node that has a level does not join
+pub known-adds : {y v : ℕ} {d q : List ℕ} {n : ℕ} → (get_or d y 0 ≡ 0 → ⊥) → Visited y v d q n (set d y (get_or d y 0)) (set q n y) (n + bool_byte (eqb (get_or d y 0) 0))
+known-adds {y} {v} {d} {q} {n} h =
+    let e : n + bool_byte (eqb (get_or d y 0) 0) ≡ n = omega (arith, some-flag (get_or d y 0) h) in
+    rw e (known (omega arith))
   where
-    by_level : (m : ℕ) → get_or d y 0 ≡ m → Visited y v d q n (set d y (first_of m v)) (set q n y) (tail_of n m)
-    by_level zero e = fresh e
-    by_level (suc m) e =
-        let k : Visited y v d q n (set d y (get_or d y 0)) (set q n y) n = known (omega arith) in
-        rw e at k
+    some-flag : (m : ℕ) → (m ≡ 0 → ⊥) → bool_byte (eqb m 0) ≡ 0
+    some-flag zero n = absurd (n refl)
+    some-flag (suc m) n = ap bool_byte (eqb-suc-zero m)
 
 -- the queue ends within its room
 pub room-end : {d q : List ℕ} {n : ℕ} → Room d q n → n ≤ 192

@@ -1,7 +1,7 @@
 -- The edges of a graph between nodes that may be passed, in two parts: rising ones in front, falling ones (and loops) at the back; and
 -- those that come to stops.
 -- Assumes nothing.
-use Rattle.std.specs.Prelude.{◌≡◌, ◌⊎◌, List, [], ℕ, ◌+◌, ◌-◌, ◌≤◌, ◌<◌, length, get_or, set}
+use Rattle.std.specs.Prelude.{◌≡◌, ◌⊎◌, Bool, true, false, List, [], ℕ, ◌+◌, ◌≤◌, ◌<◌, length, get_or, set}
 use Rattle.theory_paths.specs.Graph.{Listed, Rising}
 use Rattle.theory_paths.specs.Found.{Clear}
 use Rattle.search.specs.Sweep.{Between, Lies}
@@ -27,13 +27,13 @@ pub record Parted (keys values stops : List ℕ) (j : ℕ) (s t : List ℕ) (ups
   pub falling : (i k : ℕ) → low ≤ i → i ≤ k → k < 1024 → get_or s k 0 ≤ get_or s i 0
 
 -- One edge more is written between the parts; it belongs to one of them if it is kept.
-pub record Put (x y keep : ℕ) (s t : List ℕ) (ups low : ℕ) (s' t' : List ℕ) (ups' low' : ℕ) : Type 0 where
+pub record Put (x y : ℕ) (keep : Bool) (s t : List ℕ) (ups low : ℕ) (s' t' : List ℕ) (ups' low' : ℕ) : Type 0 where
   pub at : ℕ
   pub is-s : s' ≡ set s at x
   pub is-t : t' ≡ set t at y
   pub inside : (ups ≤ at) × (at < low)
-  pub way : ((keep ≡ 0) × (ups' ≡ ups) × (low' ≡ low)) ⊎ (((keep ≡ 0 → ⊥) × (x < y) × (at ≡ ups) × (ups' ≡ ups + 1) × (low' ≡ low))
-      ⊎ ((keep ≡ 0 → ⊥) × (y ≤ x) × (at + 1 ≡ low) × (ups' ≡ ups) × (low' ≡ at)))
+  pub way : ((keep ≡ false) × (ups' ≡ ups) × (low' ≡ low)) ⊎ (((keep ≡ true) × (x < y) × (at ≡ ups) × (ups' ≡ ups + 1) × (low' ≡ low))
+      ⊎ ((keep ≡ true) × (y ≤ x) × (at + 1 ≡ low) × (ups' ≡ ups) × (low' ≡ at)))
 
 -- The edges to stops, among the first j.
 pub record Come (keys values stops : List ℕ) (j : ℕ) (s t : List ℕ) (n : ℕ) : Type 0 where
@@ -62,7 +62,7 @@ pub record Beside (a b : ℕ) (old new : List (List ℕ)) : Type 0 where
   pub same : (r : ℕ) → (r ≡ a → ⊥) → (r ≡ b → ⊥) → row new r ≡ row old r
 
 -- One edge more between the two parts of a table; the other rows and the other part stay.
-pub record PutIn (x y keep : ℕ) (old : List (List ℕ)) (parts : Parts) (new : List (List ℕ)) (parts' : Parts) : Type 0 where
+pub record PutIn (x y : ℕ) (keep : Bool) (old : List (List ℕ)) (parts : Parts) (new : List (List ℕ)) (parts' : Parts) : Type 0 where
   pub put : Put x y keep (row old 2) (row old 3) parts.ups parts.low (row new 2) (row new 3) parts'.ups parts'.low
   pub beside : Beside 2 3 old new
   pub ins : parts'.ins ≡ parts.ins

@@ -1,6 +1,6 @@
 -- What one step of the search for levels does to its variables: the levels d, 0 for none, and the queue q with its end n.
 -- Assumes nothing.
-use Rattle.std.specs.Prelude.{◌≡◌, List, ℕ, zero, suc, ◌+◌, ◌≤◌, ◌<◌, get_or, set, length}
+use Rattle.std.specs.Prelude.{◌≡◌, List, ℕ, ◌+◌, ◌≤◌, ◌<◌, get_or, set, length}
 use Rattle.lists.specs.Store.{filled}
 
 -- An edge leads from x to y: one of those at the places of x.
@@ -20,16 +20,6 @@ pub record Room (d q : List ℕ) (n : ℕ) : Type 0 where
   pub levels : length d ≡ 192
   pub queue : length q ≡ 256
   pub few : n ≤ filled d
-
--- a level stays as it was first set
-abbrev pub first_of : ℕ → ℕ → ℕ
-first_of zero v = v
-first_of (suc m) v = suc m
-
--- a node that had none joins the queue
-abbrev pub tail_of : ℕ → ℕ → ℕ
-tail_of n zero = n + 1
-tail_of n (suc m) = n
 
 -- An edge leads to y, at level v. It is written behind the queue's end; if it had no level it gets this one, and joins the queue.
 pub data Visited (y v : ℕ) (d q : List ℕ) (n : ℕ) : List ℕ → List ℕ → ℕ → Type 0 where

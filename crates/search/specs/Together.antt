@@ -4,7 +4,7 @@ use Rattle.std.specs.Prelude.{◌≡◌, true, false, List, ℕ, ◌≤◌, ◌<
 use Rattle.std.specs.Int.Bits.{bit_or}
 use Rattle.lists.specs.Mask.{Sub}
 use Rattle.search.specs.Sweep.{Lies, Run, Carried, Closed}
-use Rattle.search.specs.LevelLaws.{nearer, Follows}
+use Rattle.search.specs.LevelLaws.{nearer}
 
 -- What has P of some number, which is 0 where `new` is.
 pub record Quietly (P : ℕ → Type 0) (new : ℕ) : Type 0 where

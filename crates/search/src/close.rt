@@ -26,10 +26,7 @@ pub fn place_of(a: usize, b: usize, j: usize, back: bool) -> usize
     requires { (a ≤ j) × (j < b) × (b ≤ 1024) }
     ensures { result ≡ place a b back j }
 {
-    if back {
-        return a + (b - 1 - j);
-    }
-    j
+    if back { a + (b - 1 - j) } else { j }
 }
 
 // The bits of x come to y; what is new. Along many edges nothing is written where nothing is new, as mostly where sweeps are many; along few
@@ -41,16 +38,15 @@ pub fn carry(masks: &mut [u64; Chart::NODES], x: u8, y: u8, few: bool) -> u64
     let to = y as usize;
     let old = masks[to];
     let all = old | masks[x as usize];
-    if all == old {
-        if !few {
-            return 0;
-        }
+    if all == old && !few {
+        return 0;
     }
     masks[to] = all;
     all ^ old
 }
 
-// Along the edges from place a up to place b; what is new, 0 when nothing is.
+// Along the edges from place a up to place b; what is new, 0 when nothing is. A sweep has the whole table and the places, and no slices of it: `Run`
+// and `Lies` in specs/ speak of places.
 fn sweep(
     keys: &[u8; Chart::EDGES],
     values: &[u8; Chart::EDGES],
@@ -66,17 +62,17 @@ fn sweep(
 {
     let few = b - a < FEW;
     let mut new = 0;
-    let mut j = a;
-    while j < b {
+    for j in a..b {
         let at = place_of(a, b, j, back);
-        new = new | carry(masks, keys[at], values[at], few);
-        j += 1;
+        new |= carry(masks, keys[at], values[at], few);
     }
     new
 }
 
 // Along the rising edges and the falling ones by turns, until nothing is new. That takes many turns where the nodes' numbers tell little of the
 // paths through them: there nodes that wait do the rest.
+// These turns, those of `measure` and those of `close_together` are no one function that is handed its sweep: the proof did not close, since a
+// caller learns nothing of the tables that a closure has changed.
 pub fn close(
     keys: &[u8; Chart::EDGES],
     values: &[u8; Chart::EDGES],

@@ -1,6 +1,6 @@
 // The edges by what they do in the marking: those between nodes that may be passed, in two parts, rising ones and falling ones, and those
 // that come to stops.
-ghost use Rattle.std.specs.Prelude.{◌≡◌, ◌+◌, ◌≤◌, ◌<◌, get_or, length, set};
+ghost use Rattle.std.specs.Prelude.{◌≡◌, true, false, ◌+◌, ◌≤◌, ◌<◌, get_or, length, set};
 ghost use Rattle.theory_paths.specs.Found.{Clear};
 ghost use Rattle.search.specs.Parts.{row, PutIn, NotedIn, Split, Sized, Next};
 
@@ -15,7 +15,8 @@ pub struct Parts {
     pub ins: usize,
 }
 
-// The rows of a table of edges: where all edges come from and where they lead, and so for the two kinds.
+// The rows of a table of edges: where all edges come from and where they lead, and so for the two kinds. An edge is split in two bytes, since a word
+// an edge was measured slower (docs/PERFORMANCE.md).
 impl Parts {
     pub const FROM: usize = 0;
 
@@ -30,9 +31,17 @@ impl Parts {
     pub const STOP_TO: usize = 5;
 
     pub const ROWS: usize = 6;
+
+    // Before the first edge.
+    pub const NONE: Parts = Parts {
+        ups: 0,
+        low: Chart::EDGES,
+        ins: 0,
+    };
 }
 
-// How many barriers, sources of a search and nodes there are, and the parts of the edges. The barriers are the first of the sources.
+// How many barriers, sources of a search and nodes there are, and the parts of the edges. The barriers are the first of the sources: a function that
+// is handed this takes the whole list of nodes with it, and no slice, since the list has these two ends.
 #[derive(Clone, Copy)]
 pub struct Extent {
     pub barriers: usize,
@@ -41,56 +50,18 @@ pub struct Extent {
     pub parts: Parts,
 }
 
-// 1 for an edge between nodes that may be passed.
-fn kept(stops: &[u8; Chart::NODES], from: u8, to: u8) -> u8
+// Whether the edge is between nodes that may be passed.
+fn kept(stops: &[u8; Chart::NODES], from: u8, to: u8) -> bool
     requires { (from < 192) × (to < 192) }
-    ensures clear { (result ≡ 0 → ⊥) → Clear stops.now from × Clear stops.now to }
-    ensures fact { result ≡ 0 → Clear stops.now from → Clear stops.now to → ⊥ }
+    ensures clear { result ≡ true → Clear stops.now from × Clear stops.now to }
+    ensures fact { result ≡ false → Clear stops.now from → Clear stops.now to → ⊥ }
 {
-    if (stops[from as usize] | stops[to as usize]) == 0 {
-        return 1;
-    }
-    0
+    (stops[from as usize] | stops[to as usize]) == 0
 }
 
-// 1 if the edge is kept and rises; if it is kept and does not.
-fn rises(keep: u8, from: u8, to: u8) -> usize
-    ensures { (keep ≡ 0 → result ≡ 0) × (to ≤ from → result ≡ 0) × ((keep ≡ 0 → ⊥) → from < to → result ≡ 1) }
-{
-    if keep == 0 {
-        return 0;
-    }
-    if from < to {
-        return 1;
-    }
-    0
-}
-
-fn falls(keep: u8, from: u8, to: u8) -> usize
-    ensures { (keep ≡ 0 → result ≡ 0) × (from < to → result ≡ 0) × ((keep ≡ 0 → ⊥) → to ≤ from → result ≡ 1) }
-{
-    if keep == 0 {
-        return 0;
-    }
-    if from < to {
-        return 0;
-    }
-    1
-}
-
-// Where it is written.
-fn pick(from: u8, to: u8, ups: usize, low: usize) -> usize
-    ensures { (from < to → result ≡ ups) × (to ≤ from → result ≡ low) }
-{
-    if from < to {
-        return ups;
-    }
-    low
-}
-
-// One edge more for the two parts.
+// One edge more for the two parts. It is written whether it is kept or not, and counts where it is, so that no branch depends on it.
 fn put(
-    keep: u8,
+    keep: bool,
     from: u8,
     to: u8,
     edges: &mut [[u8; Chart::EDGES]; Parts::ROWS],
@@ -99,28 +70,18 @@ fn put(
     requires { (parts.ups < parts.low) × (parts.low ≤ 1024) × (length edges.old ≡ 6) }
     ensures { PutIn from to keep edges.old parts edges.new result }
 {
-    let at = pick(from, to, parts.ups, parts.low - 1);
+    let rises = from < to;
+    let at = if rises { parts.ups } else { parts.low - 1 };
     edges[Parts::PLAIN_FROM][at] = from;
     edges[Parts::PLAIN_TO][at] = to;
     Parts {
-        ups: parts.ups + rises(keep, from, to),
-        low: parts.low - falls(keep, from, to),
-        ins: parts.ins,
+        ups: parts.ups + usize::from(keep & rises),
+        low: parts.low - usize::from(keep & !rises),
+        ..parts
     }
 }
 
-// One more, where a stop stands on a node.
-fn count(stop: u8, n: usize) -> usize
-    requires { n < 1024 }
-    ensures { (stop ≡ 0 → result ≡ n) × ((stop ≡ 0 → ⊥) → result ≡ n + 1) }
-{
-    if stop == 0 {
-        return n;
-    }
-    n + 1
-}
-
-// One edge more for those to stops.
+// One edge more for those to stops, where a stop stands on the node to which it leads.
 fn note(
     stops: &[u8; Chart::NODES],
     from: u8,
@@ -135,9 +96,8 @@ fn note(
     edges[Parts::STOP_FROM][at] = from;
     edges[Parts::STOP_TO][at] = to;
     Parts {
-        ups: parts.ups,
-        low: parts.low,
-        ins: count(stops[to as usize], at),
+        ins: at + usize::from(stops[to as usize] != 0),
+        ..parts
     }
 }
 

@@ -1,21 +1,13 @@
 // Levels closed along edges: a node's level is at most one more than that of a node before it.
 ghost use Rattle.std.specs.Prelude.{◌≡◌, true, false, ℕ, ◌≤◌, ◌<◌, get_or, length};
-ghost use Rattle.std.specs.Int.Bits.{bit_xor};
 ghost use Rattle.search.specs.Sweep.{Lies, Run, Carried, Closed, Lists};
 ghost use Rattle.search.specs.LevelLaws.{nearer, Follows, Risen};
 
 use crate::close::{STEPS, steps_of};
 use chart::format::Chart;
 
-// The fewest edges to a node from a source, while they are swept.
-#[derive(Clone, Copy)]
-pub struct Level {
-    pub edges: u8,
-}
-
-impl Level {
-    pub const NONE: u8 = 254;
-}
+// No level, while levels are swept. It is a number above all levels and no `None`: the loops along edges compare it as it is, with no branch.
+pub const NONE: u8 = 254;
 
 // The level of a node that had this one, when an edge leads there from a node at the other: one more, where that is fewer. The levels are compared
 // as they are, so that neither the sum nor the comparison waits for the other.
@@ -23,17 +15,7 @@ fn lowered(old: u8, before: u8) -> u8
     requires { before ≤ 254 }
     ensures { result ≡ nearer old before }
 {
-    if before < old {
-        return before + 1;
-    }
-    old
-}
-
-// What is new where a level takes the place of an old one, 0 for nothing.
-pub fn change(level: u8, old: u8) -> u8
-    ensures { result ≡ bit_xor level old }
-{
-    level ^ old
+    if before < old { before + 1 } else { old }
 }
 
 // Along an edge from x to y; the level of y.
@@ -60,11 +42,9 @@ fn sweep(
     ensures { Run nearer keys.now values.now a b false levels.old b levels.new result }
 {
     let mut new = 0;
-    let mut j = a;
-    while j < b {
+    for j in a..b {
         let old = levels[values[j] as usize];
-        new = new | change(ascend(levels, keys[j], values[j]), old);
-        j += 1;
+        new |= ascend(levels, keys[j], values[j]) ^ old;
     }
     new
 }

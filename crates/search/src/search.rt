@@ -11,30 +11,28 @@ ghost use Rattle.search.specs.Promises.{Goes, Table, Arrives, Proceeds, Recedes,
 
 use crate::close::{FEW, close};
 use crate::edges::{Extent, Parts};
-use crate::levels::Level;
+use crate::levels::NONE;
 use crate::nearest::{fewest, searched};
-use crate::sources::{Sources, clear, feed, sow, stand};
+use crate::sources::{MOST_SOURCES, clear, feed, sow, stand};
 use crate::telling::{show, tell};
 use crate::together::close_together;
-use chart::cursor::wide;
 use chart::format::Chart;
 
 // The bits of the sources, at the nodes to which their edges lead, and levels to start from.
 fn depart(
     edges: &[[u8; Chart::EDGES]; Parts::ROWS],
     places: &[usize; Chart::PLACES],
-    sources: &[u8; Sources::MOST],
-    total: usize,
+    sources: &[u8],
     masks: &mut [u64; Chart::NODES],
     levels: &mut [u8; Chart::NODES],
 )
-    requires total_bound { (total ≤ 64) × (masks.old ≡ replicate 192 0) × ((parts : Parts) × Ready edges.now places.now parts) }
+    requires total_bound { (length sources.now ≤ 64) × (masks.old ≡ replicate 192 0) × ((parts : Parts) × Ready edges.now places.now parts) }
     requires by_index { (b : ℕ) → get_or sources.now b 0 < 192 }
-    ensures sowed { Sowed (row edges.now 1) places.now sources.now total masks.new }
+    ensures sowed { Sowed (row edges.now 1) places.now sources.now (length sources.now) masks.new }
     ensures each { Each Begins masks.new levels.new }
 {
-    *levels = [Level::NONE; Chart::NODES];
-    sow(&edges[Parts::TO], places, sources, 0, total, masks, levels);
+    *levels = [NONE; Chart::NODES];
+    sow(&edges[Parts::TO], places, sources, 0, masks, levels);
 }
 
 // The bits of the sources that are no barriers. They bring no levels, and what sowing notes of them is left.
@@ -42,7 +40,7 @@ fn depart_more(
     edges: &[[u8; Chart::EDGES]; Parts::ROWS],
     places: &[usize; Chart::PLACES],
     extent: Extent,
-    sources: &[u8; Sources::MOST],
+    sources: &[u8; MOST_SOURCES],
     levels: &[u8; Chart::NODES],
     masks: &mut [u64; Chart::NODES],
 )
@@ -58,9 +56,8 @@ fn depart_more(
     sow(
         &edges[Parts::TO],
         places,
-        sources,
+        &sources[..extent.total],
         extent.barriers,
-        extent.total,
         masks,
         &mut noted,
     );
@@ -87,16 +84,15 @@ pub fn ahead(
     edges: &[[u8; Chart::EDGES]; Parts::ROWS],
     places: &[usize; Chart::PLACES],
     parts: Parts,
-    sources: &[u8; Sources::MOST],
-    total: usize,
+    sources: &[u8],
     masks: &mut [u64; Chart::NODES],
 )
-    requires total_bound { (total ≤ 64) × (masks.old ≡ replicate 192 0) × Ready edges.now places.now parts }
+    requires total_bound { (length sources.now ≤ 64) × (masks.old ≡ replicate 192 0) × Ready edges.now places.now parts }
     requires by_index { (b : ℕ) → get_or sources.now b 0 < 192 }
-    ensures { SpreadsAhead edges.now places.now parts sources.now total masks.new }
+    ensures { SpreadsAhead edges.now places.now parts sources.now (length sources.now) masks.new }
 {
     let mut levels = [0u8; Chart::NODES];
-    depart(edges, places, sources, total, masks, &mut levels);
+    depart(edges, places, sources, masks, &mut levels);
     proceed(edges, parts, masks);
 }
 
@@ -104,22 +100,19 @@ pub fn ahead(
 fn arrive(
     edges: &[[u8; Chart::EDGES]; Parts::ROWS],
     parts: Parts,
-    sources: &[u8; Sources::MOST],
-    total: usize,
+    sources: &[u8],
     masks: &mut [u64; Chart::NODES],
 )
-    requires total_bound { (total ≤ 64) × (masks.old ≡ replicate 192 0) × ((b : ℕ) → get_or sources.now b 0 < 192) }
+    requires total_bound { (length sources.now ≤ 64) × (masks.old ≡ replicate 192 0) × ((b : ℕ) → get_or sources.now b 0 < 192) }
     requires table { Table edges.now parts }
-    ensures arrives { Arrives edges.now parts sources.now total masks.new }
+    ensures arrives { Arrives edges.now parts sources.now (length sources.now) masks.new }
     ensures masks_len { (length masks.new ≡ 192) × ((y : ℕ) → get_or masks.new y 0 < 18446744073709551616) }
 {
     let mut own = [0u64; Chart::NODES];
-    stand(sources, total, &mut own);
+    stand(sources, &mut own);
     feed(
-        &edges[Parts::STOP_TO],
-        &edges[Parts::STOP_FROM],
-        0,
-        parts.ins,
+        &edges[Parts::STOP_TO][..parts.ins],
+        &edges[Parts::STOP_FROM][..parts.ins],
         &own,
         masks,
     );
@@ -142,24 +135,18 @@ fn recede(edges: &[[u8; Chart::EDGES]; Parts::ROWS], parts: Parts, masks: &mut [
 }
 
 // Whether all paths begin at the first source: there are two, both barriers, and no edge leaves the second.
-fn lone(places: &[usize; Chart::PLACES], sources: &[u8; Sources::MOST], extent: Extent) -> bool
+fn lone(places: &[usize; Chart::PLACES], sources: &[u8; MOST_SOURCES], extent: Extent) -> bool
     requires { (b : ℕ) → get_or sources.now b 0 < 192 }
     ensures { result ≡ true → (extent.barriers ≡ extent.total) × Lone places.now sources.now extent.total }
 {
-    if extent.barriers != 2 {
-        return false;
-    }
-    if extent.total != 2 {
-        return false;
-    }
-    let second = wide(sources[1]);
-    places[second] == places[second + 1]
+    let second = sources[1] as usize;
+    extent.barriers == 2 && extent.total == 2 && places[second] == places[second + 1]
 }
 
 // On from there where all paths begin at the first source: its bit is where there is a level. The two stops keep what the edges brought,
 // since their levels say nothing.
 fn settle(
-    sources: &[u8; Sources::MOST],
+    sources: &[u8; MOST_SOURCES],
     levels: &[u8; Chart::NODES],
     masks: &mut [u64; Chart::NODES],
 )
@@ -167,8 +154,8 @@ fn settle(
     requires masks_len { length masks.old ≡ 192 }
     ensures { Settled sources.now levels.now masks.old masks.new }
 {
-    let first = wide(sources[0]);
-    let second = wide(sources[1]);
+    let first = sources[0] as usize;
+    let second = sources[1] as usize;
     let at_first = masks[first];
     let at_second = masks[second];
     show(levels, masks);
@@ -181,7 +168,7 @@ fn onward(
     edges: &[[u8; Chart::EDGES]; Parts::ROWS],
     places: &[usize; Chart::PLACES],
     extent: Extent,
-    sources: &[u8; Sources::MOST],
+    sources: &[u8; MOST_SOURCES],
     levels: &[u8; Chart::NODES],
     masks: &mut [u64; Chart::NODES],
 )
@@ -192,19 +179,16 @@ fn onward(
 {
     if lone(places, sources, extent) {
         settle(sources, levels, masks);
-        return;
+    } else {
+        proceed(edges, extent.parts, masks);
     }
-    proceed(edges, extent.parts, masks);
 }
 
 // Whether both lists are short.
 fn few(parts: Parts) -> bool
     requires { parts.low ≤ 1024 }
 {
-    if parts.ups < FEW {
-        return Chart::EDGES - parts.low < FEW;
-    }
-    false
+    parts.ups < FEW && Chart::EDGES - parts.low < FEW
 }
 
 // On from there in both directions, with the levels: swept together along few edges. Along many none waits for what it has just written, and each
@@ -213,7 +197,7 @@ fn spread(
     edges: &[[u8; Chart::EDGES]; Parts::ROWS],
     places: &[usize; Chart::PLACES],
     extent: Extent,
-    nodes: &[u8; Sources::MOST],
+    nodes: &[u8; MOST_SOURCES],
     starts: &mut [u64; Chart::NODES],
     levels: &mut [u8; Chart::NODES],
     ends: &mut [u64; Chart::NODES],
@@ -228,14 +212,14 @@ fn spread(
     if few(extent.parts) {
         if close_together(edges, extent.parts, starts, levels, ends) {
             tell(levels);
-            return;
+        } else {
+            searched(edges, places, &nodes[..extent.barriers], levels);
         }
-        searched(edges, places, nodes, extent.barriers, levels);
-        return;
+    } else {
+        fewest(edges, places, extent, nodes, levels);
+        onward(edges, places, extent, nodes, levels, starts);
+        recede(edges, extent.parts, ends);
     }
-    fewest(edges, places, extent, nodes, levels);
-    onward(edges, places, extent, nodes, levels, starts);
-    recede(edges, extent.parts, ends);
 }
 
 // From the stops, forward and backward: the masks of the nodes that may be passed, and the levels. The starts of the stops are not told yet. From the
@@ -244,7 +228,7 @@ pub fn boundaries(
     edges: &[[u8; Chart::EDGES]; Parts::ROWS],
     places: &[usize; Chart::PLACES],
     extent: Extent,
-    nodes: &[u8; Sources::MOST],
+    nodes: &[u8; MOST_SOURCES],
     starts: &mut [u64; Chart::NODES],
     levels: &mut [u8; Chart::NODES],
     ends: &mut [u64; Chart::NODES],
@@ -255,19 +239,19 @@ pub fn boundaries(
         starts.new levels.new ends.new }
     ensures starts_len { length starts.new ≡ 192 }
 {
-    let barriers = extent.barriers;
-    depart(edges, places, nodes, barriers, starts, levels);
+    let barriers = &nodes[..extent.barriers];
+    depart(edges, places, barriers, starts, levels);
     depart_more(edges, places, extent, nodes, levels, starts);
-    arrive(edges, extent.parts, nodes, barriers, ends);
+    arrive(edges, extent.parts, barriers, ends);
     spread(edges, places, extent, nodes, starts, levels, ends);
-    clear(nodes, barriers, ends);
+    clear(barriers, ends);
 }
 
 // The starts of all nodes, of which the stops keep none.
 pub fn reach_stops(
     edges: &[[u8; Chart::EDGES]; Parts::ROWS],
     extent: Extent,
-    nodes: &[u8; Sources::MOST],
+    nodes: &[u8; MOST_SOURCES],
     starts: &mut [u64; Chart::NODES],
     all: &mut [u64; Chart::NODES],
 )
@@ -275,12 +259,10 @@ pub fn reach_stops(
     ensures { Gathers edges.now extent.parts nodes.now extent.barriers starts.old starts.new all.new }
 {
     *all = *starts;
-    clear(nodes, extent.barriers, starts);
+    clear(&nodes[..extent.barriers], starts);
     feed(
-        &edges[Parts::STOP_FROM],
-        &edges[Parts::STOP_TO],
-        0,
-        extent.parts.ins,
+        &edges[Parts::STOP_FROM][..extent.parts.ins],
+        &edges[Parts::STOP_TO][..extent.parts.ins],
         starts,
         all,
     );

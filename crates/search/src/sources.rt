@@ -6,62 +6,41 @@ ghost use Rattle.search.specs.Fed.{Fed, Owned, Sowed, Stored};
 ghost use Rattle.search.specs.Levels.{Each, Begins};
 ghost use Rattle.search.specs.Steps.{Bounded};
 
-use chart::cursor::wide;
 use chart::format::Chart;
 use masks::bits::bit;
 
-// The nodes that a search starts from, numbered as the bits of its masks: barriers, ends of constructs, or both, barriers first.
-#[derive(Clone, Copy)]
-pub struct Sources {
-    pub total: usize,
-}
+// A search starts from at most so many nodes, numbered as the bits of its masks: barriers, ends of constructs, or both, barriers first.
+pub const MOST_SOURCES: usize = 64;
 
-impl Sources {
-    pub const MOST: usize = 64;
-}
-
-// Along the edges from place a up to place b.
-pub fn feed(
-    keys: &[u8; Chart::EDGES],
-    values: &[u8; Chart::EDGES],
-    a: usize,
-    b: usize,
-    from: &[u64; Chart::NODES],
-    masks: &mut [u64; Chart::NODES],
-)
-    requires a_le_b { (a ≤ b) × (b ≤ 1024) × (length masks.old ≡ 192) }
+// Along edges, each from its key to its value.
+pub fn feed(keys: &[u8], values: &[u8], from: &[u64; Chart::NODES], masks: &mut [u64; Chart::NODES])
+    requires same_len { (length keys.now ≡ length values.now) × (length masks.old ≡ 192) }
     requires by_index { (j : ℕ) → get_or keys.now j 0 < 192 }
     requires by_index_2 { (j : ℕ) → get_or values.now j 0 < 192 }
-    ensures { Fed (Between keys.now values.now a b) from.now masks.old masks.new }
+    ensures { Fed (Between keys.now values.now 0 (length keys.now)) from.now masks.old masks.new }
 {
-    let mut j = a;
-    while j < b {
-        let y = wide(values[j]);
-        masks[y] = masks[y] | from[wide(keys[j])];
-        j += 1;
+    for (x, y) in keys.iter().zip(values) {
+        let bits = from[*x as usize];
+        masks[*y as usize] |= bits;
     }
 }
 
-// A source's bit along its edges, from place a up to place b. A node that one leads to has level 1.
+// A source's bit along its edges. A node that one leads to has level 1.
 fn sow_edges(
-    values: &[u8; Chart::EDGES],
-    a: usize,
-    b: usize,
+    values: &[u8],
     own: u64,
     masks: &mut [u64; Chart::NODES],
     levels: &mut [u8; Chart::NODES],
 )
-    requires a_le_b { (a ≤ b) × (b ≤ 1024) × (0 < own) × (length masks.old ≡ 192) × Each Begins masks.old levels.old }
+    requires some { (0 < own) × (length masks.old ≡ 192) × Each Begins masks.old levels.old }
     requires by_index { (j : ℕ) → get_or values.now j 0 < 192 }
-    ensures fed { Fed (Between [] values.now a b) (own ∷ []) masks.old masks.new }
+    ensures fed { Fed (Between [] values.now 0 (length values.now)) (own ∷ []) masks.old masks.new }
     ensures each { Each Begins masks.new levels.new }
 {
-    let mut j = a;
-    while j < b {
-        let y = wide(values[j]);
-        masks[y] = masks[y] | own;
-        levels[y] = 1;
-        j += 1;
+    for y in values {
+        let at = *y as usize;
+        masks[at] |= own;
+        levels[at] = 1;
     }
 }
 
@@ -70,64 +49,53 @@ fn sow_edges(
 pub fn sow(
     values: &[u8; Chart::EDGES],
     places: &[usize; Chart::PLACES],
-    sources: &[u8; Sources::MOST],
+    sources: &[u8],
     first: usize,
-    total: usize,
     masks: &mut [u64; Chart::NODES],
     levels: &mut [u8; Chart::NODES],
 )
-    requires first_le_total { (first ≤ total) × (total ≤ 64) × Bounded values.now places.now }
+    requires first_le_total { (first ≤ length sources.now) × (length sources.now ≤ 64) × Bounded values.now places.now }
     requires sowed { Sowed values.now places.now sources.now first masks.old × Each Begins masks.old levels.old }
     requires by_index { (b : ℕ) → get_or sources.now b 0 < 192 }
-    ensures sowed_2 { Sowed values.now places.now sources.now total masks.new }
+    ensures sowed_2 { Sowed values.now places.now sources.now (length sources.now) masks.new }
     ensures each { Each Begins masks.new levels.new }
 {
-    let mut b = first;
-    while b < total {
-        let x = wide(sources[b]);
-        sow_edges(values, places[x], places[x + 1], bit(b), masks, levels);
-        b += 1;
+    for b in first..sources.len() {
+        let x = sources[b] as usize;
+        sow_edges(&values[places[x]..places[x + 1]], bit(b), masks, levels);
     }
 }
 
 // Each source has its own bit at its node.
-pub fn stand(sources: &[u8; Sources::MOST], total: usize, own: &mut [u64; Chart::NODES])
-    requires total_bound { total ≤ 64 }
+pub fn stand(sources: &[u8], own: &mut [u64; Chart::NODES])
+    requires total_bound { length sources.now ≤ 64 }
     requires by_index { (b : ℕ) → get_or sources.now b 0 < 192 }
-    ensures { Owned sources.now total own.new }
+    ensures { Owned sources.now (length sources.now) own.new }
 {
     *own = [0u64; Chart::NODES];
-    let mut b = 0;
-    while b < total {
-        let x = wide(sources[b]);
-        own[x] = own[x] | bit(b);
-        b += 1;
+    for (b, x) in sources.iter().enumerate() {
+        own[*x as usize] |= bit(b);
     }
 }
 
 // The masks of the sources become 0.
-pub fn clear(nodes: &[u8; Sources::MOST], total: usize, masks: &mut [u64; Chart::NODES])
-    requires total_bound { total ≤ 64 }
-    requires by_index { (b : ℕ) → get_or nodes.now b 0 < 192 }
-    ensures { Stored 0 nodes.now total masks.old masks.new }
+pub fn clear(nodes: &[u8], masks: &mut [u64; Chart::NODES])
+    requires { (b : ℕ) → get_or nodes.now b 0 < 192 }
+    ensures { Stored 0 nodes.now (length nodes.now) masks.old masks.new }
 {
-    let mut b = 0;
-    while b < total {
-        masks[wide(nodes[b])] = 0;
-        b += 1;
+    for x in nodes {
+        masks[*x as usize] = 0;
     }
 }
 
 // The sources have a mark for a level.
-pub fn mark(nodes: &[u8; Sources::MOST], total: usize, levels: &mut [u8; Chart::NODES])
-    requires total_bound { (total ≤ 64) × (length levels.old ≡ 192) }
+pub fn mark(nodes: &[u8], levels: &mut [u8; Chart::NODES])
+    requires levels_before { length levels.old ≡ 192 }
     requires by_index { (b : ℕ) → get_or nodes.now b 0 < 192 }
-    ensures stored { Stored 1 nodes.now total levels.old levels.new }
+    ensures stored { Stored 1 nodes.now (length nodes.now) levels.old levels.new }
     ensures levels_len { length levels.new ≡ 192 }
 {
-    let mut b = 0;
-    while b < total {
-        levels[wide(nodes[b])] = 1;
-        b += 1;
+    for x in nodes {
+        levels[*x as usize] = 1;
     }
 }

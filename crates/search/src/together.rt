@@ -9,11 +9,12 @@ ghost use Rattle.search.specs.Promises.{Table};
 
 use crate::close::{STEPS, carry, place_of, steps_of};
 use crate::edges::Parts;
-use crate::levels::{ascend, change};
+use crate::levels::ascend;
 use crate::waiting::drain;
 use chart::format::Chart;
 
-// Along the edges from place a up to place b; what is new, 0 when nothing is.
+// Along the edges from place a up to place b; what is new, 0 when nothing is. The steps are those of the sweeps of `close` and `measure`, in one loop
+// since they run side by side.
 fn sweep(
     edges: &[[u8; Chart::EDGES]; Parts::ROWS],
     a: usize,
@@ -30,16 +31,14 @@ fn sweep(
     let keys = &edges[Parts::PLAIN_FROM];
     let values = &edges[Parts::PLAIN_TO];
     let mut new = 0;
-    let mut j = a;
-    while j < b {
+    for j in a..b {
         let x = keys[j];
         let y = values[j];
-        new = new | carry(starts, x, y, true);
+        new |= carry(starts, x, y, true);
         let old = levels[y as usize];
-        new = new | change(ascend(levels, x, y), old) as u64;
+        new |= (ascend(levels, x, y) ^ old) as u64;
         let at = place_of(a, b, j, true);
-        new = new | carry(ends, values[at], keys[at], true);
-        j += 1;
+        new |= carry(ends, values[at], keys[at], true);
     }
     new
 }

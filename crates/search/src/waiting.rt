@@ -8,20 +8,20 @@ ghost use Rattle.lists.specs.Store.{filled};
 ghost use Rattle.search.specs.Sweep.{Lies, Carried, Closed};
 ghost use Rattle.search.specs.Waiting.{Upto, Linked, Links, Fits, Full, Visited, Walk};
 
-use chart::cursor::wide;
 use chart::format::Chart;
 
 // The ring has room for every node.
 const RING: usize = 256;
 
-// The entries of the ring: so many, from place `head` on.
+// The entries of the ring: so many, from place `head` on. The ring is no queue of a library, as there is no heap.
 #[derive(Clone, Copy)]
 pub struct Queue {
     pub head: usize,
     pub waiting: usize,
 }
 
-// What a node passes on, and one more than the place of its last edge, 0 where it has none.
+// What a node passes on, and one more than the place of its last edge, 0 where it has none: so `Linked` in specs/ has these numbers, and a table of
+// them needs no more room than one of places.
 #[derive(Clone, Copy)]
 pub struct Sent {
     pub bits: u64,
@@ -41,12 +41,10 @@ fn link(
     requires by_index { (u : ℕ) × (u ≤ a) × Linked keys.now (Upto u a a) last.old before.old }
     ensures { Links keys.now a b last.old before.old last.new before.new }
 {
-    let mut j = a;
-    while j < b {
-        let x = wide(keys[j]);
+    for j in a..b {
+        let x = keys[j] as usize;
         before[j] = last[x];
         last[x] = (j + 1) as u16;
-        j += 1;
     }
 }
 
@@ -64,7 +62,7 @@ fn visit(
         masks.new held.new ring.new result }
     ensures upper_bound { result ≤ filled held.new }
 {
-    let at = wide(y);
+    let at = y as usize;
     let old = masks[at];
     let all = old | bits;
     if all == old {
@@ -112,11 +110,9 @@ fn enter_all(held: &mut [u8; Chart::NODES], ring: &mut [u8; RING])
     requires { (held.old ≡ replicate 192 0) × (length ring.old ≡ 256) }
     ensures { Full held.new ring.new }
 {
-    let mut x: u8 = 0;
-    while wide(x) < Chart::NODES {
-        held[wide(x)] = 1;
-        ring[wide(x)] = x;
-        x += 1;
+    for x in 0..Chart::NODES {
+        held[x] = 1;
+        ring[x] = x as u8;
     }
 }
 
@@ -143,7 +139,7 @@ pub fn drain(
     let mut head = 0;
     let mut n = Chart::NODES;
     while 0 < n {
-        let x = wide(ring[head]);
+        let x = ring[head] as usize;
         head = (head + 1) % RING;
         held[x] = 0;
         let bits = masks[x];

@@ -28,6 +28,7 @@ use Rattle.theory_answers.proofs.SizeLaws.{has_all, answer-for}
 use Rattle.theory_answers.specs.declared.Size.{Size}
 use Rattle.theory_answers.specs.declared.Size.TheVariants.{Any, Of}
 use Rattle.theory_answers.specs.MoreEdges.{MoreEdges, Widens}
+use Rattle.chart.specs.declared.format.Refusal.TheVariants.{NoRegion}
 
 module _ {R S : Region} (X : Widens R S) where
   -- paths, and with them starts, ends and returns, only become more
@@ -141,8 +142,8 @@ module _ (s t : List ℕ) (p : ℕ) (smaller : Admitted s) (larger : AdmittedIn 
   pub smaller-in : AdmittedIn s p
   unfolding region_rows
   smaller-in =
-      let rows : List Row = record { number = 23; applies = bad_region (decode s) p } ∷ [] in
-      let more : List Row = record { number = 23; applies = bad_region (decode t) p } ∷ [] in
+      let rows : List Row = record { refusal = NoRegion; applies = bad_region (decode s) p } ∷ [] in
+      let more : List Row = record { refusal = NoRegion; applies = bad_region (decode t) p } ∷ [] in
       let named : bad_region (decode t) p ≡ false = (none-applies more (both-pass (admit_rows t) more larger).1).0 in
       second-decides (admit_rows s) rows smaller ∙ applies-none rows (sym (same-region M p) ∙ named, tt)
 

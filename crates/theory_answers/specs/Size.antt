@@ -4,9 +4,10 @@ use Rattle.std.specs.Prelude.{◌||◌, List, [], ◌∷◌, ℕ, ltb}
 use Rattle.chart.specs.Refusal.{Row}
 use Rattle.theory_answers.specs.declared.Size.{Size}
 use Rattle.theory_answers.specs.declared.Size.TheVariants.{Any, Of}
+use Rattle.chart.specs.declared.format.Refusal.TheVariants.{BadSize}
 
 unfoldable pub size_row : ℕ → Row
-size_row m = record { number = 21; applies = ltb m 1 || ltb 1024 m }
+size_row m = record { refusal = BadSize; applies = ltb m 1 || ltb 1024 m }
 
 -- A call without a size has no such row.
 abbrev pub size_rows : Size → List Row

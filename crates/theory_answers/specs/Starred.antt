@@ -12,6 +12,7 @@ use Rattle.chart.specs.Nested.{is_parallel, region_at, counts_in, lies_within, k
 use Rattle.chart.specs.Nesting.{may_enclose, encloses_near, same_critical, excluded, wrongly_above, misplaced, misnested}
 use Rattle.chart.specs.Reading.{edge_in, inside_at, frame_of, region_of}
 use Rattle.chart.specs.Refusal.{bad_edition, bad_marks, bad_counts, bad_lengths, bad_node, bad_outer, bad_node_at, bad_nodes, foreign_number, bad_construct, bad_alone, stray_node, bad_constructs, frames_in, bad_frame, bad_frames, is_barrier, barrier_of, too_many_in, bad_barriers, bad_edge, rises, bad_edge_at, frames_section, joins_sections, bad_edges, first_of, trailer_rows, table_rows, chart_rows}
+use Rattle.chart.specs.declared.format.Refusal.{Refusal}
 use Rattle.theory_paths.specs.Reach.{marks?, marks, reaches}
 use Rattle.theory_paths.specs.Decide.{reaches_free, reaches_any, returns}
 use Rattle.theory_paths.specs.Admission.{cut_off, bad_paths, admit_rows, bad_region, region_rows}
@@ -169,7 +170,7 @@ further =
     ∷ []
 
 -- What the definitions give for an entry: the row that refuses its chart, and its answer.
-unfoldable pub computed : Entry → Option ℕ × ℕ
+unfoldable pub computed : Entry → Option Refusal × ℕ
 computed e = (first_of (region_rows e.bytes e.named), answer_for (region_of e.named (decode e.bytes)) e.teams e.a e.b)
 
 -- Every chart of the lists is admitted and has the region, and every answer is 01's or 02's.

@@ -1,7 +1,7 @@
 -- Judge is correct: demand 3 holds of the number that its definition gives, for all bytes. A pair is concurrent exactly when it is answered
 -- 0, which is the theorem of crate theory_exact; what is left is that the verdict is about the first such pair.
 -- Assumes nothing.
-use Rattle.std.specs.Prelude.{◌≡◌, ◌⊎◌, ◌↔◌, Bool, true, false, cond, List, ℕ, ◌+◌, ◌*◌, ◌<◌, ℤ, length, get_or}
+use Rattle.std.specs.Prelude.{◌≡◌, ◌⊎◌, ◌↔◌, Bool, true, false, cond, List, ℕ, ◌+◌, ◌*◌, ◌<◌, ℤ, length, get_or, Ok, Some, None}
 use Rattle.std.proofs.Math.Path.{refl, subst}
 use Rattle.std.proofs.Common.{sym, ◌∙◌, inl, inr, arith}
 use Rattle.std.proofs.Math.Option.{Option, none, some}
@@ -26,12 +26,12 @@ use Rattle.theory_answers.specs.declared.Size.TheVariants.{Any, Of}
 use Rattle.theory_calls.specs.Claims.{total, left, right, bad_numbers, is_false}
 use Rattle.theory_calls.specs.Judged.{claim_rows, judge_rows_for, verdict, answered, judged_for, judged, number_of}
 use Rattle.theory_calls.specs.Correct.{Right, Correct, CorrectIn}
-use Rattle.theory_calls.specs.declared.Verdict.TheVariants.{Passed, Failed}
+use Rattle.chart.specs.declared.format.Refusal.{Refusal}
 
 -- The number for the first of n that passes f, where f tests for P.
 module _ (n : ℕ) (f : ℕ → Bool) (P : ℕ → Type 0) (means : (k : ℕ) → k < n → (f k ≡ true) ↔ P k) where
   abbrev number : ℤ
-  number = number_of (cond (any n f) (Failed (first n f)) Passed)
+  number = number_of (Ok (cond (any n f) (Some (first n f)) None))
 
   not-zero : (k : ℕ) → pos (k + 1) ≡ pos 0 → ⊥
   not-zero k e = let q : k + 1 ≡ 0 = cc in omega arith
@@ -116,7 +116,7 @@ module _ (s : List ℕ) (p : ℕ) (size : Size) (claims : List ℕ) where
       J : CorrectFor s p size claims (number_of (judged_for s p size claims))
       J = judged-correct
 
-      go : (o : Option ℕ) → first_of (judge_rows_for s p size claims) ≡ o → number ≡ number_of (judged_for s p size claims)
+      go : (o : Option Refusal) → first_of (judge_rows_for s p size claims) ≡ o → number ≡ number_of (judged_for s p size claims)
       go (some row) h = C.refuses row h ∙ sym (J.refuses row h)
       go none h = elim (truth (any (total claims) false-at)) [
         | inl g ↦ (let z : number_of (judged_for s p size claims) ≡ pos (first (total claims) false-at + 1) = rw (h, g) in (C.fails h _).1 ((J.fails h _).0 z) ∙ sym z)

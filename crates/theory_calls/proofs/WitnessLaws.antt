@@ -1,7 +1,7 @@
 -- What is computed of a trace is what it is by the team rules; a witness is a concurrent pair, and every concurrent pair of a team of up to 256 threads
 -- has one.
 -- Assumes nothing.
-use Rattle.std.specs.Prelude.{◌≡◌, refl, ◌↔◌, Bool, false, ◌&&◌, cond, List, [], ℕ, ◌+◌, ◌*◌, ◌/◌, ◌%◌, ◌≤◌, ◌<◌, eqb, length, get_or}
+use Rattle.std.specs.Prelude.{◌≡◌, refl, ◌↔◌, Bool, false, ◌&&◌, cond, List, [], ℕ, ◌+◌, ◌*◌, ◌/◌, ◌%◌, ◌≤◌, ◌<◌, eqb, length, get_or, Ok}
 use Rattle.std.proofs.Common.{sym, arith, eq-eqb, ne_eqb}
 use Rattle.std.proofs.Math.Path.{subst}
 use Rattle.std.proofs.Math.Bool.{true}
@@ -23,14 +23,13 @@ use Rattle.theory_traces.proofs.LegalLaws.{FollowsTo, progress-follows, legal-co
 use Rattle.theory_traces.specs.Call.{replay_rows, answered, final, replay_answer, sheet_left}
 use Rattle.theory_traces.proofs.CallLaws.{sheet-marks}
 use Rattle.theory_traces.specs.declared.Replayed.{Replayed}
-use Rattle.theory_traces.specs.declared.Replayed.TheVariants.{Finished as Ended, Unfinished, Forbidden, Refused as NotReplayed}
+use Rattle.theory_traces.specs.declared.Replayed.TheVariants.{Finished as Ended, Unfinished, Forbidden}
 use Rattle.theory_calls.specs.Witness.{Witness, is_ended, is_witness}
 
-is-ended : (r : Replayed) → is_ended r ≡ true → r ≡ Ended
+is-ended : (r : Replayed) → is_ended (Ok r) ≡ true → r ≡ Ended
 is-ended Ended h = refl
 is-ended Unfinished h = absurd (bad (cc))
 is-ended (Forbidden index) h = absurd (bad (cc))
-is-ended (NotReplayed refusal) h = absurd (bad (cc))
 
 module _ (R : Region) (W : WellFormed R) (m : ℕ) (least : 1 ≤ m) (trace : List ℕ) where
   -- at finish nothing is chosen: a release goes on from another barrier
@@ -48,7 +47,7 @@ module _ (R : Region) (W : WellFormed R) (m : ℕ) (least : 1 ≤ m) (trace : Li
   to_end (stopped P i) S q = absurd (bad (cc))
 
   -- and one that goes on to a state with every thread at finish has ended
-  from_end : {play : Play} → replayed R m trace ≡ going play → at_finish R m play.state ≡ true → is_ended (outcome_of R m (replayed R m trace)) ≡ true
+  from_end : {play : Play} → replayed R m trace ≡ going play → at_finish R m play.state ≡ true → is_ended (Ok (outcome_of R m (replayed R m trace))) ≡ true
   unfolding outcome_of
   from_end came at = rw (came, at)
 

@@ -1,7 +1,7 @@
 -- The call that tells whether a trace is a witness is correct, and no other number is. A trace that is one shows that Pair's answer is 0, without a size
 -- and with that of the team; and where it is 0 for a team of up to eight, some trace of bytes is one.
 -- Assumes nothing.
-use Rattle.std.specs.Prelude.{◌≡◌, ◌↔◌, Bool, List, [], ◌∷◌, ℕ, ◌%◌, ◌≤◌, ◌<◌, eqb, ltb, ℤ, length, get_or}
+use Rattle.std.specs.Prelude.{Ok, ◌≡◌, ◌↔◌, Bool, List, [], ◌∷◌, ℕ, ◌%◌, ◌≤◌, ◌<◌, eqb, ltb, ℤ, length, get_or}
 use Rattle.std.proofs.Math.Path.{refl}
 use Rattle.std.proofs.Common.{sym, ◌∙◌, ap, subst, inl, inr, arith, ne_eqb, ltb-false, le-ltb}
 use Rattle.std.proofs.Math.Bool.{true, false}
@@ -11,7 +11,7 @@ use Rattle.lists.specs.Truth.{bad, truth, clash, or-neither, neither-or}
 use Rattle.chart.specs.Format.{decode}
 use Rattle.chart.specs.Region.{Region}
 use Rattle.chart.specs.Reading.{region_of}
-use Rattle.chart.specs.Refusal.{Row, first_of}
+use Rattle.chart.specs.Refusal.{Row, first_of, row_number}
 use Rattle.chart.proofs.Rows.{NoneApplies, none-applies, applies-none, second-decides, both-pass}
 use Rattle.theory_paths.specs.Path.{Open}
 use Rattle.theory_paths.specs.Admission.{region_rows, AdmittedIn}
@@ -29,12 +29,14 @@ use Rattle.theory_exact.specs.Droppable.{Fits}
 use Rattle.theory_traces.specs.Call.{bad_trace}
 use Rattle.theory_traces.proofs.CorrectLaws.{whole-trace}
 use Rattle.theory_calls.specs.Pair.{numbers_row, pair_rows_for}
-use Rattle.theory_calls.specs.Witness.{Witness, is_witness, witness_rows, told, answered_by, witnessed, number_of}
+use Rattle.theory_calls.specs.Witness.{Witness, is_witness, witness_rows, answered_by, witnessed, number_of}
 use Rattle.theory_calls.proofs.WitnessLaws.{witness-of, witness-concurrent, concurrent-witness}
 use Rattle.theory_calls.specs.AnswersCorrect.{PairCorrectFor}
 use Rattle.theory_calls.specs.CorrectnessMoreEdges.{refused-not}
 use Rattle.theory_calls.specs.DistancesCorrectLaws.{nodes-most}
 use Rattle.theory_calls.specs.WitnessedCorrect.{WitnessedCorrect}
+use Rattle.chart.specs.declared.format.Refusal.TheVariants.{BadTrace}
+use Rattle.chart.specs.declared.format.Refusal.{Refusal}
 
 -- what passes row 22
 trace-whole : (trace : List ℕ) (m : ℕ) → length trace % 2 ≡ 0 → 1 ≤ m → m ≤ 8 → bad_trace trace m ≡ false
@@ -48,14 +50,14 @@ module _ (s : List ℕ) (p m : ℕ) (trace : List ℕ) (a b : ℕ) where
   abbrev R : Region
   R = region_of p (decode s)
 
-  abbrev rows : Option ℕ
+  abbrev rows : Option Refusal
   rows = first_of (witness_rows s p m trace a b)
 
   -- what a call that is not refused knows
   passed : rows ≡ none → AdmittedIn s p × ((numbers_row R a b).applies ≡ false) × (bad_trace trace m ≡ false)
   unfolding witness_rows
   passed h =
-      let row : Row = record { number = 22; applies = bad_trace trace m } in
+      let row : Row = record { refusal = BadTrace; applies = bad_trace trace m } in
       let (admitted, rest) = both-pass (region_rows s p) (numbers_row R a b ∷ row ∷ []) h in
       let n = none-applies (numbers_row R a b ∷ row ∷ []) rest in
       (admitted, n.0, n.1.0)
@@ -65,18 +67,18 @@ module _ (s : List ℕ) (p m : ℕ) (trace : List ℕ) (a b : ℕ) where
 
   -- What is asked of the call.
   pub witnessed-correct : WitnessedCorrect s p m trace a b (number_of (witnessed s p m trace a b))
-  unfolding witnessed answered_by told number_of
+  unfolding witnessed answered_by number_of
   witnessed-correct = record {
     refuses = λ row h. rw h;
     witnesses = λ h. rw h (yes-is (is_witness R m trace a b) (means h));
     denies = λ h. rw h (no-is (is_witness R m trace a b) (means h));
   }
     where
-      yes-is : (t : Bool) {W : Type 0} → (t ≡ true) ↔ W → (number_of (told t) ≡ pos 1) ↔ W
+      yes-is : (t : Bool) {W : Type 0} → (t ≡ true) ↔ W → (number_of (Ok t) ≡ pos 1) ↔ W
       yes-is true w = ((λ e. w.0 refl), λ x. refl)
       yes-is false w = ((λ e. absurd (bad (cc))), λ x. absurd (clash (w.1 x) refl))
 
-      no-is : (t : Bool) {W : Type 0} → (t ≡ true) ↔ W → (number_of (told t) ≡ pos 0) ↔ (W → ⊥)
+      no-is : (t : Bool) {W : Type 0} → (t ≡ true) ↔ W → (number_of (Ok t) ≡ pos 0) ↔ (W → ⊥)
       no-is true w = ((λ e. absurd (bad (cc))), λ f. absurd (f (w.0 refl)))
       no-is false w = ((λ e x. clash (w.1 x) refl), λ f. refl)
 
@@ -87,7 +89,7 @@ module _ (s : List ℕ) (p m : ℕ) (trace : List ℕ) (a b : ℕ) where
       D : WitnessedCorrect s p m trace a b (number_of (witnessed s p m trace a b))
       D = witnessed-correct
 
-      go : (o : Option ℕ) → rows ≡ o → number ≡ number_of (witnessed s p m trace a b)
+      go : (o : Option Refusal) → rows ≡ o → number ≡ number_of (witnessed s p m trace a b)
       go (some row) h = C.refuses row h ∙ sym (D.refuses row h)
       go none h = elim (truth (is_witness R m trace a b)) [
         | inl t ↦ (let w = (means h).0 t in (C.witnesses h).1 w ∙ sym ((D.witnesses h).1 w))
@@ -116,8 +118,8 @@ module _ (s : List ℕ) (p m : ℕ) (trace : List ℕ) (a b : ℕ) where
       met Any f M = (m, M)
       met (Of n) f M = subst (λ (k : ℕ). ConcurrentIn R k a b) (sym f) M
 
-      go : (o : Option ℕ) → rows ≡ o → pair ≡ pos 0
-      go (some row) h = absurd (refused-not row 1 (sym (C.refuses row h) ∙ e) (λ z. omega arith))
+      go : (o : Option Refusal) → rows ≡ o → pair ≡ pos 0
+      go (some row) h = absurd (refused-not (row_number row) 1 (sym (C.refuses row h) ∙ e) (λ z. omega arith))
       go none h =
           let (admitted, n, t) = passed h in
           let W = admitted-well-formed s p admitted in
@@ -142,7 +144,7 @@ pair-witnessed s p m a b h most e =
     let (oa, ob) = both-open s p m [] a b admitted n.0 in
     let least : 1 ≤ m = ltb-false m 1 (or-neither (ltb m 1) (ltb 1024 m) n.1.0).0 in
     let (trace, (even, (bytes, w))) = concurrent-witness R W C m least (omega arith) (omega (arith, nodes-most s p admitted)) a b ((exact-for W C oa ob (Of m)).0 e) in
-    let row : Row = record { number = 22; applies = bad_trace trace m } in
+    let row : Row = record { refusal = BadTrace; applies = bad_trace trace m } in
     let none-refused = second-decides (region_rows s p) (numbers_row R a b ∷ row ∷ []) admitted
     ∙ applies-none (numbers_row R a b ∷ row ∷ []) (n.0, (trace-whole trace m even least most, tt)) in
     (trace, (bytes, ((witnessed-correct s p m trace a b).witnesses none-refused).1 w))

@@ -7,6 +7,7 @@ use Rattle.chart.specs.Region.{Region}
 use Rattle.chart.specs.Refusal.{Row}
 use Rattle.theory_answers.specs.Numbers.{bad_number}
 use Rattle.theory_calls.specs.declared.Access.{Access}
+use Rattle.chart.specs.declared.format.Refusal.TheVariants.{BadAccesses}
 
 -- How many accesses there are; and access i, from 0: bytes 4i to 4i + 3.
 unfoldable pub total : List ℕ → ℕ
@@ -24,4 +25,4 @@ unfoldable pub bad_accesses : Region → List ℕ → Bool
 bad_accesses R list = not (eqb (length list % 4) 0) || (ltb 1024 (total list) || any (total list) (λ i. bad_access R (access_at list i)))
 
 unfoldable pub accesses_row : Region → List ℕ → Row
-accesses_row R list = record { number = 20; applies = bad_accesses R list }
+accesses_row R list = record { refusal = BadAccesses; applies = bad_accesses R list }

@@ -23,6 +23,7 @@ use Rattle.theory_paths.specs.PhasesLaws.{ends-below, barrier-of, boundary-means
 use Rattle.theory_calls.specs.Admission.{region_counts, admission_by, admitted, number_of}
 use Rattle.theory_calls.specs.PhasesCorrect.{BarriersBelow, PhaseOf, PairCount, CountsIn, AdmitCorrect}
 use Rattle.theory_calls.specs.PhasesCorrectLaws.{below-count, count-below}
+use Rattle.chart.specs.declared.format.Refusal.{Refusal}
 
 -- some node has the start s and the end e, as a test
 unfoldable is_phase : Region → ℕ → ℕ → Bool
@@ -78,6 +79,6 @@ admit-only s number C = go (first_of (admit_rows s)) refl
     A : AdmitCorrect s (number_of (admitted s))
     A = admit-correct s
 
-    go : (o : Option ℕ) → first_of (admit_rows s) ≡ o → number ≡ number_of (admitted s)
+    go : (o : Option Refusal) → first_of (admit_rows s) ≡ o → number ≡ number_of (admitted s)
     go none h = one_number (C.counts h) (A.counts h)
     go (some row) h = C.refuses row h ∙ sym (A.refuses row h)

@@ -7,7 +7,7 @@ use Rattle.std.proofs.Math.Option.{none, some}
 use Rattle.chart.specs.Format.{decode}
 use Rattle.chart.specs.Region.{Region}
 use Rattle.chart.specs.Reading.{region_of}
-use Rattle.chart.specs.Refusal.{first_of}
+use Rattle.chart.specs.Refusal.{first_of, row_number}
 use Rattle.theory_paths.specs.Admission.{region_rows}
 use Rattle.theory_answers.specs.Unexcluded.{AnswersFor}
 use Rattle.theory_answers.specs.Numbers.{Asked}
@@ -17,11 +17,12 @@ use Rattle.theory_answers.specs.declared.Size.TheVariants.{Any, Of}
 use Rattle.output.specs.Output.{output_rows}
 use Rattle.output.specs.OutputCorrect.{OutputCorrect}
 use Rattle.theory_calls.specs.Pair.{pair_rows_for}
+use Rattle.chart.specs.declared.format.Refusal.{Refusal}
 
 -- Pair: the number is right for the bytes of a chart, the number of a region, a size or none, and two node numbers.
 pub record PairCorrectFor (s : List ℕ) (p : ℕ) (size : Size) (a b : ℕ) (number : ℤ) : Type 0 where
   -- refused: the number of the first of rows 1 to 10, 23, 13 and, with a size, 21 that applies, negated
-  pub refuses : (row : ℕ) → first_of (pair_rows_for s p size a b) ≡ some row → number ≡ neg_ℤ (pos row)
+  pub refuses : (refusal : Refusal) → first_of (pair_rows_for s p size a b) ≡ some refusal → number ≡ neg_ℤ (pos (row_number refusal))
   -- otherwise the answer
   pub answers : first_of (pair_rows_for s p size a b) ≡ none → (k : ℕ) × ((number ≡ pos k) × AnswersFor (region_of p (decode s)) size a b k)
 

@@ -29,6 +29,7 @@ use Rattle.output.proofs.OutputCorrectLaws.{output-correct, output-only}
 use Rattle.theory_calls.specs.Pair.{pair_rows_for, answered, pair_answered_for, number_of}
 use Rattle.theory_calls.specs.Sheet.{sheet_result, sheet_written_for, sheet_left_for}
 use Rattle.theory_calls.specs.AnswersCorrect.{PairCorrectFor, SheetBytes, SheetCorrectFor}
+use Rattle.chart.specs.declared.format.Refusal.{Refusal}
 
 module _ (s : List ℕ) (p : ℕ) (size : Size) (a b : ℕ) where
   -- a pair that is not refused is one of an admitted chart
@@ -49,7 +50,7 @@ module _ (s : List ℕ) (p : ℕ) (size : Size) (a b : ℕ) where
   unfolding pair_answered_for answered number_of
   pair-only number C = go (first_of (pair_rows_for s p size a b)) refl
     where
-      go : (o : Option ℕ) → first_of (pair_rows_for s p size a b) ≡ o → number ≡ number_of (pair_answered_for s p size a b)
+      go : (o : Option Refusal) → first_of (pair_rows_for s p size a b) ≡ o → number ≡ number_of (pair_answered_for s p size a b)
       go none h = let (k, (e, A)) = C.answers h in rw h (e ∙ ap pos (for-unique (region_of p (decode s)) a b size A (answer-for (pair-well-formed h) size a b)))
       go (some row) h = rw h (C.refuses row h)
 

@@ -5,16 +5,17 @@ use Rattle.std.specs.Prelude.{◌≡◌, ◌↔◌, List, ℕ, ◌+◌, ◌<◌,
 use Rattle.std.proofs.Math.Option.{none, some}
 use Rattle.chart.specs.Format.{decode}
 use Rattle.chart.specs.Reading.{region_of}
-use Rattle.chart.specs.Refusal.{Row, first_of}
+use Rattle.chart.specs.Refusal.{Row, first_of, row_number}
 use Rattle.theory_team.specs.Run.{ConcurrentIn, Concurrent}
 use Rattle.theory_answers.specs.declared.Size.TheVariants.{Of}
 use Rattle.theory_calls.specs.Claims.{total, left, right}
 use Rattle.theory_calls.specs.Judged.{judge_rows_for, judge_rows}
+use Rattle.chart.specs.declared.format.Refusal.{Refusal}
 
 -- The number is right for a table of refusals and a list of n claims, of which P tells those whose pair is concurrent.
 pub record Right (rows : List Row) (n : ℕ) (P : ℕ → Type 0) (number : ℤ) : Type 0 where
   -- refused: the number of the first row that applies, negated
-  pub refuses : (row : ℕ) → first_of rows ≡ some row → number ≡ neg_ℤ (pos row)
+  pub refuses : (refusal : Refusal) → first_of rows ≡ some refusal → number ≡ neg_ℤ (pos (row_number refusal))
   -- otherwise the list passes exactly when none of its pairs is concurrent
   pub passes : first_of rows ≡ none → (number ≡ pos 0) ↔ ((k : ℕ) → k < n → P k → ⊥)
   -- and fails at an index exactly when the pair there is concurrent and no pair before it is

@@ -8,7 +8,7 @@ use Rattle.lists.specs.Truth.{bad, truth, clash}
 use Rattle.chart.specs.Format.{decode}
 use Rattle.chart.specs.Region.{Region}
 use Rattle.chart.specs.Reading.{region_of}
-use Rattle.chart.specs.Refusal.{first_of}
+use Rattle.chart.specs.Refusal.{first_of, row_number}
 use Rattle.chart.proofs.Rows.{second-decides, both-pass}
 use Rattle.theory_paths.specs.Admission.{region_rows, Admitted}
 use Rattle.theory_answers.proofs.SizeLaws.{answer-number}
@@ -20,6 +20,7 @@ use Rattle.theory_answers.specs.declared.Size.{Size}
 use Rattle.output.specs.Output.{output_rows}
 use Rattle.theory_calls.specs.Pair.{numbers_row, pair_rows_for}
 use Rattle.theory_calls.specs.AnswersCorrect.{PairCorrectFor, SheetBytes, SheetCorrectFor}
+use Rattle.chart.specs.declared.format.Refusal.{Refusal}
 
 -- The number says never: it is a rule's.
 abbrev pub Never : ℤ → Type 0
@@ -47,8 +48,8 @@ module _ (s t : List ℕ) (p : ℕ) (M : MoreEdges (decode s) (decode t)) (size 
   pub pair-loosens : Admitted s → (a b : ℕ) (m n : ℤ) → PairCorrectFor t p size a b m → PairCorrectFor s p size a b n → Never m → Never n
   pair-loosens smaller a b m n C D (j, (e, some-rule)) = go (first_of (pair_rows_for t p size a b)) refl
     where
-      go : (o : Option ℕ) → first_of (pair_rows_for t p size a b) ≡ o → Never n
-      go (some row) h = absurd (refused-not row j (sym (C.refuses row h) ∙ e) some-rule)
+      go : (o : Option Refusal) → first_of (pair_rows_for t p size a b) ≡ o → Never n
+      go (some row) h = absurd (refused-not (row_number row) j (sym (C.refuses row h) ∙ e) some-rule)
       go none h =
           let (k, (q, A)) = C.answers h in
           let (l, (r, B)) = D.answers (smaller-asked smaller a b h) in

@@ -26,3 +26,4 @@ pub mod RacesCorrect
 pub mod Needed
 pub mod LocksCorrect
 pub mod WitnessedCorrect
+pub mod Verdict

@@ -1,7 +1,7 @@
 -- Locks that can be dropped, by computation, and the call that writes a byte for each construct: 0 the lock of this critical is needed, 1 it can be
 -- dropped as far as finished runs go, 2 it can be dropped in every run, 255 no critical of the region.
 -- Assumes nothing.
-use Rattle.std.specs.Prelude.{Bool, false, ◌&&◌, not, cond, List, ℕ, eqb, length}
+use Rattle.std.specs.Prelude.{Bool, false, ◌&&◌, not, cond, List, ℕ, eqb, length, Result}
 use Rattle.lists.specs.Truth.{is}
 use Rattle.lists.specs.Range.{any}
 use Rattle.lists.specs.Tab.{tab}
@@ -15,7 +15,7 @@ use Rattle.theory_answers.specs.Size.{size_rows}
 use Rattle.theory_answers.specs.declared.Size.{Size}
 use Rattle.theory_exact.specs.Barred.{is_barred_for}
 use Rattle.output.specs.Output.{output_rows, written_by, left_by}
-use Rattle.output.specs.declared.Written.{Written}
+use Rattle.chart.specs.declared.format.Refusal.{Refusal}
 
 -- A node of this role opens c.
 abbrev pub opening : Role → ℕ → Bool
@@ -55,7 +55,7 @@ abbrev pub locks_rows_for : List ℕ → ℕ → Size → List ℕ → List Row
 locks_rows_for s p size out = output_rows (region_rows s p) (length out) (length (locks_result (region_of p (decode s)) size)) (size_rows size)
 
 -- What the call returns, and what the buffer holds then.
-abbrev pub locks_written_for : List ℕ → ℕ → Size → List ℕ → Written
+abbrev pub locks_written_for : List ℕ → ℕ → Size → List ℕ → Result ℕ Refusal
 locks_written_for s p size out = written_by (locks_rows_for s p size out) (length (locks_result (region_of p (decode s)) size))
 
 abbrev pub locks_left_for : List ℕ → ℕ → Size → List ℕ → List ℕ

@@ -10,7 +10,7 @@ use Rattle.lists.specs.Truth.{truth, clash, or-neither}
 use Rattle.chart.specs.Format.{decode}
 use Rattle.chart.specs.Region.{Region}
 use Rattle.chart.specs.Reading.{region_of}
-use Rattle.chart.specs.Refusal.{first_of}
+use Rattle.chart.specs.Refusal.{first_of, row_number}
 use Rattle.chart.proofs.Rows.{none-applies, both-pass}
 use Rattle.theory_paths.specs.Path.{Open}
 use Rattle.theory_paths.specs.Admission.{region_rows, AdmittedIn}
@@ -31,6 +31,7 @@ use Rattle.theory_calls.specs.PhasesCorrect.{Numbered, place, BitSet, PhaseBits,
 use Rattle.theory_calls.specs.PhasesCorrectLaws.{at-numbered}
 use Rattle.theory_calls.specs.AnswersCorrect.{PairCorrectFor, SheetBytes, SheetCorrectFor}
 use Rattle.theory_calls.specs.CorrectnessMoreEdges.{refused-not}
+use Rattle.chart.specs.declared.format.Refusal.{Refusal}
 
 -- Pair's number is an answer from 2 on: 2 to 5, and with a size also 6 or 7.
 abbrev pub ByRule : ℤ → Type 0
@@ -59,9 +60,9 @@ module _ (s : List ℕ) (p : ℕ) (size : Size) (a b : ℕ) where
   not-refused : (pair : ℤ) → PairCorrectFor s p size a b pair → (k : ℕ) → pair ≡ pos k → k ≢ 0 → first_of (pair_rows_for s p size a b) ≡ none
   not-refused pair C k e n = go (first_of (pair_rows_for s p size a b)) refl
     where
-      go : (o : Option ℕ) → first_of (pair_rows_for s p size a b) ≡ o → first_of (pair_rows_for s p size a b) ≡ none
+      go : (o : Option Refusal) → first_of (pair_rows_for s p size a b) ≡ o → first_of (pair_rows_for s p size a b) ≡ none
       go none h = h
-      go (some row) h = absurd (refused-not row k (sym (C.refuses row h) ∙ e) n)
+      go (some row) h = absurd (refused-not (row_number row) k (sym (C.refuses row h) ∙ e) n)
 
   -- From Pair alone: an answer from 2 on. No run, finished or not, of a team of the size, or of any team, meets the nodes.
   pub rule-unmet : (pair : ℤ) → PairCorrectFor s p size a b pair → ByRule pair → MeetsFor R size a b → ⊥
@@ -80,15 +81,15 @@ module _ (s : List ℕ) (p : ℕ) (size : Size) (a b : ℕ) where
       let (admitted, x, y) = pair-asked h in
       chart-unmet s p admitted size a b x.1 y.1 (start-barred R a b size (no_start admitted x.0 y.0))
     where
-      rows : Option ℕ
+      rows : Option Refusal
       rows = first_of (output_rows (region_rows s p) (length old) (16 * R.nodes) [])
 
       bits : PhaseBits R bytes
       bits = go rows refl
         where
-          go : (o : Option ℕ) → rows ≡ o → PhaseBits R bytes
+          go : (o : Option Refusal) → rows ≡ o → PhaseBits R bytes
           go none h = (P.writes h).1
-          go (some row) h = let (n, (e, some_bytes)) = B.written in absurd (refused-not row n (sym (P.refuses row h).0 ∙ e) some_bytes)
+          go (some row) h = let (n, (e, some_bytes)) = B.written in absurd (refused-not (row_number row) n (sym (P.refuses row h).0 ∙ e) some_bytes)
 
       no_start : AdmittedIn s p → a < R.nodes → b < R.nodes → Common (Boundary forward R) a b → ⊥
       no_start admitted la lb (z, (u, v)) =
@@ -108,7 +109,7 @@ sheet-unmet s p size old number new C n e some_bytes a b la lb low high = go row
     R : Region
     R = region_of p (decode s)
 
-    rows : Option ℕ
+    rows : Option Refusal
     rows = first_of (output_rows (region_rows s p) (length old) (R.nodes * R.nodes) (size_rows size))
 
     barred : SheetBytes R size new → (Asked R a × Asked R b → ⊥) → ⊥
@@ -122,6 +123,6 @@ sheet-unmet s p size old number new C n e some_bytes a b la lb low high = go row
         let y = asked-node R b g in
         chart-unmet s p admitted size a b x.1 y.1 (answered-barred R a b size (B.answers a b x y) low)
 
-    go : (o : Option ℕ) → rows ≡ o → MeetsFor R size a b → ⊥
+    go : (o : Option Refusal) → rows ≡ o → MeetsFor R size a b → ⊥
     go none h = at (C.writes h).1 (both-pass (region_rows s p) _ h).0 (truth (asked R a)) (truth (asked R b))
-    go (some row) h = absurd (refused-not row n (sym (C.refuses row h).0 ∙ e) some_bytes)
+    go (some row) h = absurd (refused-not (row_number row) n (sym (C.refuses row h).0 ∙ e) some_bytes)

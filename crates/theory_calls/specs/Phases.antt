@@ -1,7 +1,7 @@
 -- Phases (01: Phases) of a region of a chart (02, Note 12): for each node 16 bytes, starts and ends, 8 bytes each, bit b for barrier b of the region;
 -- all 0 for a barrier and for a node outside the region.
 -- Assumes nothing.
-use Rattle.std.specs.Prelude.{cond, List, [], ℕ, ◌*◌, ◌/◌, ◌%◌, ltb, length}
+use Rattle.std.specs.Prelude.{cond, List, [], ℕ, ◌*◌, ◌/◌, ◌%◌, ltb, length, Result}
 use Rattle.lists.specs.Tab.{tab}
 use Rattle.chart.specs.Format.{decode}
 use Rattle.chart.specs.Region.{Region}
@@ -10,8 +10,8 @@ use Rattle.chart.specs.Refusal.{Row}
 use Rattle.theory_paths.specs.Admission.{region_rows}
 use Rattle.theory_paths.specs.Phases.{starts, ends}
 use Rattle.output.specs.Output.{output_rows, written_by, left_by}
-use Rattle.output.specs.declared.Written.{Written}
 use Rattle.theory_calls.specs.Bytes.{byte_of}
+use Rattle.chart.specs.declared.format.Refusal.{Refusal}
 
 -- byte j of the result
 unfoldable pub phase_byte : Region → ℕ → ℕ
@@ -25,7 +25,7 @@ abbrev pub phases_rows : List ℕ → ℕ → List ℕ → List Row
 phases_rows s p out = output_rows (region_rows s p) (length out) (length (phases_result (region_of p (decode s)))) []
 
 -- What Phases returns, and what the buffer holds then.
-abbrev pub phases_written : List ℕ → ℕ → List ℕ → Written
+abbrev pub phases_written : List ℕ → ℕ → List ℕ → Result ℕ Refusal
 phases_written s p out = written_by (phases_rows s p out) (length (phases_result (region_of p (decode s))))
 
 abbrev pub phases_left : List ℕ → ℕ → List ℕ → List ℕ

@@ -8,12 +8,13 @@ use Rattle.lists.specs.Range.{count_pairs}
 use Rattle.chart.specs.Format.{decode}
 use Rattle.chart.specs.Region.{barrier, Region}
 use Rattle.chart.specs.Reading.{region, region_of}
-use Rattle.chart.specs.Refusal.{first_of}
+use Rattle.chart.specs.Refusal.{first_of, row_number}
 use Rattle.theory_paths.specs.Path.{Open}
 use Rattle.theory_paths.specs.Admission.{admit_rows, region_rows}
 use Rattle.theory_paths.specs.Phases.{Direction, forward, backward, Boundary}
 use Rattle.output.specs.Output.{output_rows}
 use Rattle.output.specs.OutputCorrect.{OutputCorrect}
+use Rattle.chart.specs.declared.format.Refusal.{Refusal}
 
 -- So many barriers stand below node x.
 pub data BarriersBelow (R : Region) : ℕ → ℕ → Type 0 where
@@ -66,6 +67,6 @@ pub record CountsIn (R : Region) (number : ℤ) : Type 0 where
 -- The number is right for the bytes of a chart: Admit's counts are the outermost region's (02, Note 12).
 pub record AdmitCorrect (s : List ℕ) (number : ℤ) : Type 0 where
   -- refused: the number of the first of rows 1 to 10 that applies, negated
-  pub refuses : (row : ℕ) → first_of (admit_rows s) ≡ some row → number ≡ neg_ℤ (pos row)
+  pub refuses : (refusal : Refusal) → first_of (admit_rows s) ≡ some refusal → number ≡ neg_ℤ (pos (row_number refusal))
   -- otherwise the counts of nodes, barriers and phases
   pub counts : first_of (admit_rows s) ≡ none → CountsIn (region (decode s)) number

@@ -1,6 +1,6 @@
 -- Races (02, Note 9): what two accesses are to each other, by computation, and the call that writes it for all pairs of a list.
 -- Assumes nothing.
-use Rattle.std.specs.Prelude.{Bool, ◌&&◌, ◌||◌, not, cond, List, [], ◌∷◌, ◌++◌, ℕ, ◌+◌, eqb, length}
+use Rattle.std.specs.Prelude.{Bool, ◌&&◌, ◌||◌, not, cond, List, [], ◌∷◌, ◌++◌, ℕ, ◌+◌, eqb, length, Result}
 use Rattle.lists.specs.Range.{any}
 use Rattle.lists.specs.Rows.{rows_by}
 use Rattle.lists.specs.Triangle.{pairs_from}
@@ -11,9 +11,9 @@ use Rattle.chart.specs.Refusal.{Row}
 use Rattle.theory_paths.specs.Admission.{region_rows}
 use Rattle.theory_answers.specs.Answer.{is_in, answer}
 use Rattle.output.specs.Output.{output_rows, written_by, left_by}
-use Rattle.output.specs.declared.Written.{Written}
 use Rattle.theory_calls.specs.declared.Access.{Access}
 use Rattle.theory_calls.specs.Access.{total, access_at, accesses_row}
+use Rattle.chart.specs.declared.format.Refusal.{Refusal}
 
 -- Each is inside some critical, at any depth, the two of one name. 0 (01: unnamed) is a name too.
 unfoldable pub share_name : Region → ℕ → ℕ → Bool
@@ -43,7 +43,7 @@ abbrev pub races_rows : List ℕ → ℕ → List ℕ → List ℕ → List Row
 races_rows s p list out = output_rows (list_rows s p list) (length out) (length (races (region_of p (decode s)) list)) []
 
 -- What Races returns, and what the buffer holds then.
-abbrev pub races_written : List ℕ → ℕ → List ℕ → List ℕ → Written
+abbrev pub races_written : List ℕ → ℕ → List ℕ → List ℕ → Result ℕ Refusal
 races_written s p list out = written_by (races_rows s p list out) (length (races (region_of p (decode s)) list))
 
 abbrev pub races_left : List ℕ → ℕ → List ℕ → List ℕ → List ℕ

@@ -4,37 +4,12 @@
 // number and no other bytes do.
 #![tactic(auto)]
 
-use chart::format::Refusal;
-use theory_answers::Answer;
-
-// What Judge answers.
-#[derive(Clone, Copy)]
-pub enum Verdict {
-    Passed,
-    // the index of the first false claim
-    Failed(usize),
-    Refused(Refusal),
-}
-
+// What Admit answers of a chart that it does not refuse.
 #[derive(Clone, Copy)]
 pub struct Counts {
     pub nodes: usize,
     pub barriers: usize,
     pub phases: usize,
-}
-
-// What Admit answers.
-#[derive(Clone, Copy)]
-pub enum Admission {
-    Admitted(Counts),
-    Refused(Refusal),
-}
-
-// What Pair answers.
-#[derive(Clone, Copy)]
-pub enum Answered {
-    Answer(Answer),
-    Refused(Refusal),
 }
 
 // A byte of Distances: the fewest edges to a node from a barrier.
@@ -95,12 +70,4 @@ impl LockByte {
     pub const DROPPABLE_ALWAYS: u8 = 2;
     // the construct is no critical of the region
     pub const NO_CRITICAL: u8 = 255;
-}
-
-// What Witnessed answers.
-#[derive(Clone, Copy)]
-pub enum Witnessed {
-    Yes,
-    No,
-    Refused(Refusal),
 }

@@ -1,7 +1,7 @@
 -- What commit and removal leave where they are not refused: an admitted chart, which is the old one with the edge, or without it; and commit and
 -- then removal of the same edge bring back every byte of the old chart.
 -- Assumes nothing.
-use Rattle.std.specs.Prelude.{◌≡◌, ◌≢◌, true, ℕ, ◌+◌, ◌-◌, ◌≤◌, take, drop}
+use Rattle.std.specs.Prelude.{◌≡◌, ◌≢◌, true, ℕ, ◌+◌, ◌-◌, ◌≤◌, take, drop, Ok}
 use Rattle.std.proofs.Math.Path.{ap, sym}
 use Rattle.std.proofs.Common.{◌∙◌, take_at, length-take-le, get_or-take}
 use mathlib.Core.List.{List, [], ◌∷◌, ◌++◌, append_assoc}
@@ -22,7 +22,6 @@ use Rattle.theory_answers.specs.Answer.{answer_for}
 use Rattle.theory_answers.proofs.MoreEdgesLaws.{more-edges-loosen}
 use Rattle.theory_answers.specs.declared.Size.{Size}
 use Rattle.output.specs.Output.{written, content, written_by, left_by}
-use Rattle.output.specs.declared.Written.TheVariants.{Bytes}
 use Rattle.output.proofs.Outputs.{bytes-none}
 use Rattle.chart_writing.specs.Bytes.{AllBytes}
 use Rattle.theory_edits.specs.Splice.{WithEdge, inserted, removed}
@@ -50,7 +49,7 @@ take-bytes len buffer room bytes j = elim (dec_lt j len) [
 ]
 
 -- Commit.
-module _ (buffer : List ℕ) (len : ℕ) (receipt : Receipt) (x y : ℕ) {count : ℕ} (h : insert_written buffer len receipt x y ≡ Bytes count) where
+module _ (buffer : List ℕ) (len : ℕ) (receipt : Receipt) (x y : ℕ) {count : ℕ} (h : insert_written buffer len receipt x y ≡ Ok count) where
   abbrev old : List ℕ
   old = take len buffer
 
@@ -125,7 +124,7 @@ module _ (buffer : List ℕ) (len : ℕ) (receipt : Receipt) (x y : ℕ) {count 
         (second-decides (admit_rows new) (no_edge_row new x y ∷ admit_rows (removed new x y)) both.1 ∙ rw (there, back) both.0)
 
     -- The length is what it was, and so is every byte of the chart; the two bytes behind it are 0, and those past them never changed.
-    pub restored-length : remove_written (insert_left buffer len receipt x y) (len + 2) x y ≡ Bytes len
+    pub restored-length : remove_written (insert_left buffer len receipt x y) (len + 2) x y ≡ Ok len
     unfolding remove_written written_by written
     restored-length = let q : len + 2 - 2 ≡ len = omega arith in rw (remove-rows, q)
 
@@ -137,7 +136,7 @@ module _ (buffer : List ℕ) (len : ℕ) (receipt : Receipt) (x y : ℕ) {count 
         ∙ ap (λ (l : List ℕ). old ++ (0 ∷ 0 ∷ l)) (ap (drop (len + 2)) insert-leaves ∙ drop_at new (drop (len + 2) buffer) (len + 2) new-length))
 
 -- Removal.
-module _ (buffer : List ℕ) (len : ℕ) (x y : ℕ) {count : ℕ} (h : remove_written buffer len x y ≡ Bytes count) where
+module _ (buffer : List ℕ) (len : ℕ) (x y : ℕ) {count : ℕ} (h : remove_written buffer len x y ≡ Ok count) where
   abbrev present : List ℕ
   present = take len buffer
 

@@ -1,18 +1,18 @@
 -- Commit is correct: what 02 asks holds of the number and the bytes that its definition gives, for all bytes.
 -- Assumes nothing.
-use Rattle.std.specs.Prelude.{◌≡◌, refl, List, ◌++◌, ℕ, ◌+◌, ◌≤◌, get_or, take, drop}
+use Rattle.std.specs.Prelude.{◌≡◌, refl, List, ◌++◌, ℕ, ◌+◌, ◌≤◌, get_or, take, drop, Ok}
 use Rattle.std.proofs.Common.{ap, sym, ◌∙◌, arith}
 use Rattle.std.proofs.Math.Option.{Option, none, some}
 use Rattle.std.proofs.Math.ListN.{length}
 use Rattle.lists.specs.Front.{front_length, front-past}
 use Rattle.chart.specs.Refusal.{first_of}
 use Rattle.output.specs.Output.{written, content, written_by, left_by, number_of}
-use Rattle.output.specs.declared.Written.TheVariants.{Bytes}
 use Rattle.theory_edits.specs.Splice.{inserted}
 use Rattle.theory_edits.specs.Edits.{commit_rows, insert_written, insert_left}
 use Rattle.theory_edits.proofs.EditLaws.{room, new-length, insert-leaves, inserted-admitted, inserted-edge}
 use Rattle.theory_edits.specs.declared.Receipt.{Receipt}
 use Rattle.theory_edits.specs.InsertCorrect.{InsertCorrect}
+use Rattle.chart.specs.declared.format.Refusal.{Refusal}
 
 module _ (buffer : List ℕ) (len : ℕ) (receipt : Receipt) (x y : ℕ) where
   abbrev left : List ℕ
@@ -20,7 +20,7 @@ module _ (buffer : List ℕ) (len : ℕ) (receipt : Receipt) (x y : ℕ) where
 
   -- where no row applies
   module _ (h : first_of (commit_rows buffer len receipt x y) ≡ none) where
-    goes : insert_written buffer len receipt x y ≡ Bytes (len + 2)
+    goes : insert_written buffer len receipt x y ≡ Ok (len + 2)
     unfolding insert_written written_by written
     goes = rw h
 
@@ -55,6 +55,6 @@ module _ (buffer : List ℕ) (len : ℕ) (receipt : Receipt) (x y : ℕ) where
     long = go (first_of (commit_rows buffer len receipt x y)) refl;
   }
     where
-      go : (o : Option ℕ) → first_of (commit_rows buffer len receipt x y) ≡ o → length left ≡ length buffer
+      go : (o : Option Refusal) → first_of (commit_rows buffer len receipt x y) ≡ o → length left ≡ length buffer
       go none h = left-length h
       go (some row) h = rw h

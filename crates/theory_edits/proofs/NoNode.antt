@@ -2,7 +2,7 @@
 -- row 9, or by row 3 before it where there are 1,024 edges already; and there is none such to take out. All such edges are refused alike, so a
 -- number that fits no byte may be read as the largest byte, which is no node's either.
 -- Assumes nothing.
-use Rattle.std.specs.Prelude.{◌≡◌, ◌⊎◌, true, false, ◌||◌, not, cond, List, ◌∷◌, ◌++◌, ℕ, ◌+◌, ◌*◌, ◌≤◌, ◌<◌, min, eqb, take}
+use Rattle.std.specs.Prelude.{◌≡◌, ◌⊎◌, true, false, ◌||◌, not, cond, List, ◌∷◌, ◌++◌, ℕ, ◌+◌, ◌*◌, ◌≤◌, ◌<◌, min, eqb, take, Err}
 use Rattle.std.proofs.Math.Path.{ap}
 use Rattle.std.proofs.Common.{◌∙◌, arith}
 use Rattle.std.proofs.Math.Logic.{inl, inr}
@@ -22,7 +22,6 @@ use Rattle.chart.proofs.Records.{nodes-length}
 use Rattle.chart.proofs.Facts.{EdgesFit, edges_fit}
 use Rattle.chart.proofs.Accepted.{fits}
 use Rattle.theory_paths.specs.Admission.{admit_rows, Admitted}
-use Rattle.output.specs.declared.Written.TheVariants.{Refused}
 use Rattle.output.proofs.Outputs.{refused}
 use Rattle.theory_edits.specs.Splice.{WithEdge, longer, inserted, removed}
 use Rattle.theory_edits.specs.Edits.{length_row, ask_rows, commit_rows, insert_written, insert_left, no_edge_row, remove_rows, remove_written, remove_left}
@@ -30,14 +29,16 @@ use Rattle.theory_edits.proofs.SpliceLaws.{inserted-length, inserted-trailer, in
 use Rattle.theory_edits.specs.Loosening.{edge_in_lem}
 use Rattle.theory_edits.proofs.EditLaws.{admitted-laid}
 use Rattle.theory_edits.specs.declared.Receipt.{Receipt}
+use Rattle.chart.specs.declared.format.Refusal.{Refusal}
+use Rattle.chart.specs.declared.format.Refusal.TheVariants.{BadCounts, BadEdges, NoEdge}
 
 -- x or y is over every node's number.
 abbrev pub NoNode : ℕ → ℕ → ℕ → Type 0
 NoNode n x y = (n ≤ x) ⊎ (n ≤ y)
 
 -- The row of the longer chart that then applies.
-abbrev pub no_node_row : List ℕ → ℕ
-no_node_row s = cond (ltb (decode s).trailer.edges 1024) 9 3
+abbrev pub no_node_row : List ℕ → Refusal
+no_node_row s = cond (ltb (decode s).trailer.edges 1024) BadEdges BadCounts
 
 -- an edge that is there names two nodes
 names-nodes : (D : Decoded) → EdgesFit D → (x y : ℕ) → edge_in D.edges x y ≡ true → (x < length D.nodes) × (y < length D.nodes)
@@ -120,7 +121,7 @@ module _ (s : List ℕ) (admits : Admitted s) (x y : ℕ) where
   counted = rw (inserted-trailer s L x y)
 
   -- Where the table of edges is full, row 3 refuses any edge.
-  pub full-table : t.edges ≡ 1024 → first_of (admit_rows new) ≡ some 3
+  pub full-table : t.edges ≡ 1024 → first_of (admit_rows new) ≡ some BadCounts
   unfolding admit_rows chart_rows trailer_rows first_of bad_counts
   full-table e =
       let over = or_right (ltb t.nodes 2 || ltb 192 t.nodes) _ (or_left (ltb (t.edges + 1) 1 || ltb 1024 (t.edges + 1)) (ltb 48 t.constructs)
@@ -151,7 +152,7 @@ module _ (s : List ℕ) (admits : Admitted s) (x y : ℕ) where
     ]
 
     -- Elsewhere an edge that names no node gives row 9.
-    pub no-node : NoNode t.nodes x y → first_of (admit_rows new) ≡ some 9
+    pub no-node : NoNode t.nodes x y → first_of (admit_rows new) ≡ some BadEdges
     unfolding admit_rows chart_rows trailer_rows table_rows first_of
     no-node over =
         let same = same_rows (decode s) (decode new) W.nodes W.constructs in
@@ -163,7 +164,7 @@ module _ (s : List ℕ) (admits : Admitted s) (x y : ℕ) where
   unfolding counts_of
   no-node-refused over = go (dec_lt t.edges 1024)
     where
-      go : Dec (t.edges < 1024) → first_of (admit_rows new) ≡ some (cond (ltb t.edges 1024) 9 3)
+      go : Dec (t.edges < 1024) → first_of (admit_rows new) ≡ some (cond (ltb t.edges 1024) BadEdges BadCounts)
       go (yes few) = rw (lt-ltb t.edges 1024 few) (no-node few over)
       go (no all) = let e : t.edges ≡ 1024 = omega (arith, L.edges_most) in rw (le-ltb t.edges 1024 (omega arith)) (full-table e)
 
@@ -177,13 +178,13 @@ module _ (buffer : List ℕ) (len : ℕ) (room : len ≤ length buffer) (admits 
   after_front rows = rw (le-ltb (length buffer) len room) (second-decides (admit_rows s) rows admits)
 
   pub no-node-inserting : (receipt : Receipt)
-      → (Refused (record { number = no_node_row s }) ≡ insert_written buffer len receipt x y) × (buffer ≡ insert_left buffer len receipt x y)
+      → (Err (no_node_row s) ≡ insert_written buffer len receipt x y) × (buffer ≡ insert_left buffer len receipt x y)
   unfolding insert_written insert_left commit_rows ask_rows
   no-node-inserting receipt =
       refused (commit_rows buffer len receipt x y) _ _ buffer
       (first-decides (ask_rows buffer len x y) _ _ (after_front (admit_rows (inserted s x y)) ∙ no-node-refused s admits x y over))
 
-  pub no-node-removing : (Refused (record { number = 19 }) ≡ remove_written buffer len x y) × (buffer ≡ remove_left buffer len x y)
+  pub no-node-removing : (Err NoEdge ≡ remove_written buffer len x y) × (buffer ≡ remove_left buffer len x y)
   unfolding remove_written remove_left remove_rows no_edge_row first_of
   no-node-removing = refused (remove_rows buffer len x y) _ _ buffer (after_front (no_edge_row s x y ∷ admit_rows (removed s x y)) ∙ rw (no-node-lacking s admits x y over))
 

@@ -1,6 +1,6 @@
 -- Removal is correct: what 02 asks holds of the number and the bytes that its definition gives, for all bytes.
 -- Assumes nothing.
-use Rattle.std.specs.Prelude.{◌≡◌, refl, List, [], ◌∷◌, ◌++◌, ℕ, ◌+◌, ◌-◌, ◌≤◌, get_or, take, drop}
+use Rattle.std.specs.Prelude.{◌≡◌, refl, List, [], ◌∷◌, ◌++◌, ℕ, ◌+◌, ◌-◌, ◌≤◌, get_or, take, drop, Ok}
 use Rattle.std.proofs.Common.{ap, sym, ◌∙◌, append_assoc, arith, length-append, get_or-append-add}
 use Rattle.std.proofs.Math.Option.{Option, none, some}
 use Rattle.std.proofs.Math.ListN.{length}
@@ -8,11 +8,11 @@ use Rattle.std.proofs.lemmas.List.{get_or_at}
 use Rattle.lists.specs.Front.{front_length, front-past}
 use Rattle.chart.specs.Refusal.{first_of}
 use Rattle.output.specs.Output.{written, content, written_by, left_by, number_of}
-use Rattle.output.specs.declared.Written.TheVariants.{Bytes}
 use Rattle.theory_edits.specs.Splice.{removed}
 use Rattle.theory_edits.specs.Edits.{remove_rows, remove_written, remove_left}
 use Rattle.theory_edits.proofs.EditLaws.{fits_in, short-length, remove-leaves, removed-admitted, removed-edge}
 use Rattle.theory_edits.specs.RemoveCorrect.{RemoveCorrect}
+use Rattle.chart.specs.declared.format.Refusal.{Refusal}
 
 module _ (buffer : List ℕ) (len x y : ℕ) where
   abbrev left : List ℕ
@@ -23,7 +23,7 @@ module _ (buffer : List ℕ) (len x y : ℕ) where
 
   -- where no row applies
   module _ (h : first_of (remove_rows buffer len x y) ≡ none) where
-    goes : remove_written buffer len x y ≡ Bytes (len - 2)
+    goes : remove_written buffer len x y ≡ Ok (len - 2)
     unfolding remove_written written_by written
     goes = rw h
 
@@ -71,6 +71,6 @@ module _ (buffer : List ℕ) (len x y : ℕ) where
     long = go (first_of (remove_rows buffer len x y)) refl;
   }
     where
-      go : (o : Option ℕ) → first_of (remove_rows buffer len x y) ≡ o → length left ≡ length buffer
+      go : (o : Option Refusal) → first_of (remove_rows buffer len x y) ≡ o → length left ≡ length buffer
       go none h = left-length h
       go (some row) h = rw h

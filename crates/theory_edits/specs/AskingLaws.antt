@@ -1,6 +1,6 @@
 -- Asking is correct, and so is commit by its receipt: it goes through exactly with the receipt that asking gives now, where there is room.
 -- Assumes nothing.
-use Rattle.std.specs.Prelude.{◌≡◌, List, [], ◌∷◌, ℕ, ◌+◌, ◌≤◌, eqb, length}
+use Rattle.std.specs.Prelude.{◌≡◌, List, [], ◌∷◌, ℕ, ◌+◌, ◌≤◌, eqb, length, Ok}
 use Rattle.std.proofs.Math.Path.{refl}
 use Rattle.std.proofs.Common.{ap, sym}
 use Rattle.std.proofs.Math.Option.{Option, none, some}
@@ -9,18 +9,17 @@ use Rattle.lists.specs.Truth.{bad, and_both}
 use Rattle.chart.specs.Refusal.{Row, first_of}
 use Rattle.chart.proofs.Rows.{none-applies, both-pass, second-decides}
 use Rattle.output.specs.Output.{written, written_by}
-use Rattle.output.specs.declared.Written.TheVariants.{Bytes}
 use Rattle.output.proofs.Outputs.{bytes-none}
 use Rattle.theory_edits.specs.Edits.{ask_rows, receipt_for, asked_by, asked, number_of, receipt_of, receipt_row, space_row, commit_rows, insert_written}
 use Rattle.theory_edits.specs.AskCorrect.{AskCorrect}
 use Rattle.theory_edits.specs.declared.Receipt.{Receipt}
-use Rattle.theory_edits.specs.declared.Asked.TheVariants.{Admitted}
+use Rattle.chart.specs.declared.format.Refusal.{Refusal}
 
 -- an answer read backwards
-pub granted : (o : Option ℕ) {r q : Receipt} → asked_by o r ≡ Admitted q → (o ≡ none) × (r ≡ q)
+pub granted : (o : Option Refusal) {r q : Receipt} → asked_by o r ≡ Ok q → (o ≡ none) × (r ≡ q)
 unfolding asked_by
 granted none h = (refl, cc)
-granted (some number) h = absurd (bad (cc))
+granted (some refusal) h = absurd (bad (cc))
 
 -- What 02 asks of asking.
 pub ask-correct : (buffer : List ℕ) (len x y : ℕ) → AskCorrect buffer len x y (number_of (asked buffer len x y)) (receipt_of (asked buffer len x y))
@@ -37,8 +36,8 @@ module _ (buffer : List ℕ) (len : ℕ) (receipt : Receipt) (from to : ℕ) whe
   abbrev later : List Row
   later = receipt_row receipt now ∷ space_row (length buffer) len ∷ []
 
-  pub asked-committed : asked buffer len from to ≡ Admitted receipt → len + 2 ≤ length buffer
-      → insert_written buffer len receipt from to ≡ Bytes (len + 2)
+  pub asked-committed : asked buffer len from to ≡ Ok receipt → len + 2 ≤ length buffer
+      → insert_written buffer len receipt from to ≡ Ok (len + 2)
   unfolding asked insert_written commit_rows receipt_row space_row written_by written first_of
   asked-committed h room =
       let (passes, same) = granted (first_of (ask_rows buffer len from to)) h in
@@ -50,9 +49,9 @@ module _ (buffer : List ℕ) (len : ℕ) (receipt : Receipt) (from to : ℕ) whe
         le-ltb (length buffer) (len + 2) room,
       )
 
-  pub committed-asked : {count : ℕ} → insert_written buffer len receipt from to ≡ Bytes count → asked buffer len from to ≡ Admitted receipt
+  pub committed-asked : {count : ℕ} → insert_written buffer len receipt from to ≡ Ok count → asked buffer len from to ≡ Ok receipt
   unfolding asked insert_written commit_rows receipt_row written_by asked_by
   committed-asked h =
       let (passes, rest) = both-pass (ask_rows buffer len from to) later (bytes-none _ h).0 in
       let (p, q) = and_both (eqb receipt.length now.length) (eqb receipt.place now.place) (not-false _ (none-applies later rest).0) in
-      rw passes (ap Admitted (same-receipt (sym (eqb-true _ _ p)) (sym (eqb-true _ _ q))))
+      rw passes (ap Ok (same-receipt (sym (eqb-true _ _ p)) (sym (eqb-true _ _ q))))

@@ -1,6 +1,6 @@
 -- Edges tried, put in and taken out on charts of 01 and 02, from bytes to bytes: lists, and one proof over the definitions for each.
 -- Assumes nothing.
-use Rattle.std.specs.Prelude.{◌≡◌, refl, List, [], ◌∷◌, ◌++◌, map, ℕ, take}
+use Rattle.std.specs.Prelude.{◌≡◌, refl, List, [], ◌∷◌, ◌++◌, map, ℕ, take, Result, Ok, Err}
 use Rattle.lists.specs.Truth.{is}
 use Rattle.lists.specs.Range.{any, count, first}
 use Rattle.lists.specs.Tab.{tab}
@@ -15,13 +15,11 @@ use Rattle.theory_paths.specs.Decide.{reaches_any}
 use Rattle.theory_paths.specs.Admission.{cut_off, bad_paths, admit_rows}
 use Rattle.theory_answers.specs.Starred.{barrier, edge, chart, chart_s, in_row, and_back, chart_z}
 use Rattle.output.specs.Output.{written, content, written_by, left_by}
-use Rattle.output.specs.declared.Written.{Written}
-use Rattle.output.specs.declared.Written.TheVariants.{Bytes, Refused as Written-as-Refused}
 use Rattle.theory_edits.specs.Splice.{place, longer, shorter, record_at, records_from, inserted, removed}
 use Rattle.theory_edits.specs.Edits.{length_row, ask_rows, receipt_for, asked_by, asked, receipt_row, space_row, commit_rows, insert_written, insert_left, no_edge_row, remove_rows, remove_written, remove_left}
 use Rattle.theory_edits.specs.declared.Receipt.{Receipt}
-use Rattle.theory_edits.specs.declared.Asked.{Asked}
-use Rattle.theory_edits.specs.declared.Asked.TheVariants.{Admitted, Refused}
+use Rattle.chart.specs.declared.format.Refusal.{Refusal}
+use Rattle.chart.specs.declared.format.Refusal.TheVariants.{TooShort, BadMarks, BadCounts, BadLengths, BadEdges, BadPaths, OldReceipt, NoSpace, NoEdge}
 
 -- The chart in the first `len` bytes of a buffer, an edge, and what asking answers.
 pub record Asking : Type 0 where
@@ -29,7 +27,7 @@ pub record Asking : Type 0 where
   pub len : ℕ
   pub from : ℕ
   pub to : ℕ
-  pub gives : Asked
+  pub gives : Result Receipt Refusal
 
 -- The same with what a call that writes answers, and the bytes that it leaves; commit has a receipt besides.
 pub record Removal : Type 0 where
@@ -37,7 +35,7 @@ pub record Removal : Type 0 where
   pub len : ℕ
   pub from : ℕ
   pub to : ℕ
-  pub gives : Written
+  pub gives : Result ℕ Refusal
   pub leaves : List ℕ
 
 pub record Commit : Type 0 where
@@ -70,14 +68,14 @@ bytes-long = refl
 abbrev receipt_at : ℕ → ℕ → Receipt
 receipt_at len at = record { length = len; place = at }
 
-abbrev ask : List ℕ → ℕ → ℕ → ℕ → Asked → Asking
+abbrev ask : List ℕ → ℕ → ℕ → ℕ → Result Receipt Refusal → Asking
 ask buffer len from to gives = record { buffer = buffer; len = len; from = from; to = to; gives = gives }
 
-abbrev accepted : ℕ → ℕ → Asked
-accepted len at = Admitted (receipt_at len at)
+abbrev accepted : ℕ → ℕ → Result Receipt Refusal
+accepted len at = Ok (receipt_at len at)
 
-abbrev refused : ℕ → Asked
-refused number = Refused (record { number = number })
+abbrev refused : Refusal → Result Receipt Refusal
+refused refusal = Err refusal
 
 unfoldable pub asks : List Asking
 asks =
@@ -85,68 +83,68 @@ asks =
     ∷ ask S 48 1 3 (accepted 48 2)
     ∷ ask S 48 0 4 (accepted 48 1)
     ∷ ask S 48 2 2 (accepted 48 2)
-    ∷ ask S 48 3 3 (refused 9)
-    ∷ ask S 48 0 0 (refused 9)
-    ∷ ask S 48 4 1 (refused 9)
-    ∷ ask S 48 2 1 (refused 9)
-    ∷ ask S 48 1 4 (refused 9)
-    ∷ ask S 48 5 1 (refused 9)
-    ∷ ask S 48 259 1 (refused 9)
-    ∷ ask S 48 3 257 (refused 9)
-    ∷ ask S 48 1 2 (refused 9)
-    ∷ ask S 49 3 1 (refused 4)
-    ∷ ask S 15 3 1 (refused 1)
-    ∷ ask S 47 3 1 (refused 2)
-    ∷ ask S 47 259 1 (refused 2)
+    ∷ ask S 48 3 3 (refused BadEdges)
+    ∷ ask S 48 0 0 (refused BadEdges)
+    ∷ ask S 48 4 1 (refused BadEdges)
+    ∷ ask S 48 2 1 (refused BadEdges)
+    ∷ ask S 48 1 4 (refused BadEdges)
+    ∷ ask S 48 5 1 (refused BadEdges)
+    ∷ ask S 48 259 1 (refused BadEdges)
+    ∷ ask S 48 3 257 (refused BadEdges)
+    ∷ ask S 48 1 2 (refused BadEdges)
+    ∷ ask S 49 3 1 (refused BadLengths)
+    ∷ ask S 15 3 1 (refused TooShort)
+    ∷ ask S 47 3 1 (refused BadMarks)
+    ∷ ask S 47 259 1 (refused BadMarks)
     ∷ ask Y 50 3 1 (accepted 50 3)
     ∷ ask chart_z 70 6 1 (accepted 70 6)
     ∷ []
 
-abbrev call : List ℕ → ℕ → ℕ → ℕ → Written → List ℕ → Removal
+abbrev call : List ℕ → ℕ → ℕ → ℕ → Result ℕ Refusal → List ℕ → Removal
 call buffer len from to gives leaves = record { buffer = buffer; len = len; from = from; to = to; gives = gives; leaves = leaves }
 
-abbrev stopped : List ℕ → ℕ → ℕ → ℕ → ℕ → Removal
-stopped buffer len from to number = call buffer len from to (Written-as-Refused (record { number = number })) buffer
+abbrev stopped : List ℕ → ℕ → ℕ → ℕ → Refusal → Removal
+stopped buffer len from to refusal = call buffer len from to (Err refusal) buffer
 
 abbrev commit : ℕ → ℕ → Removal → Commit
 commit len at rest = record { receipt = receipt_at len at; call = rest }
 
 unfoldable pub commits : List Commit
 commits =
-    commit 48 3 (call (S ++ (7 ∷ 8 ∷ 9 ∷ [])) 48 3 1 (Bytes 50) (long_s ++ (9 ∷ [])))
-    ∷ commit 50 3 (call (Y ++ (7 ∷ 8 ∷ [])) 50 3 1 (Bytes 52) long_y)
-    ∷ commit 48 3 (stopped (S ++ (7 ∷ [])) 48 3 1 18)
-    ∷ commit 48 2 (stopped (S ++ (7 ∷ [])) 48 3 1 17)
-    ∷ commit 47 3 (stopped (S ++ (7 ∷ [])) 48 3 1 17)
-    ∷ commit 48 2 (stopped S 48 2 1 9)
-    ∷ commit 48 3 (stopped (S ++ (7 ∷ 8 ∷ [])) 48 259 1 9)
-    ∷ commit 48 3 (stopped S 49 3 1 4)
+    commit 48 3 (call (S ++ (7 ∷ 8 ∷ 9 ∷ [])) 48 3 1 (Ok 50) (long_s ++ (9 ∷ [])))
+    ∷ commit 50 3 (call (Y ++ (7 ∷ 8 ∷ [])) 50 3 1 (Ok 52) long_y)
+    ∷ commit 48 3 (stopped (S ++ (7 ∷ [])) 48 3 1 NoSpace)
+    ∷ commit 48 2 (stopped (S ++ (7 ∷ [])) 48 3 1 OldReceipt)
+    ∷ commit 47 3 (stopped (S ++ (7 ∷ [])) 48 3 1 OldReceipt)
+    ∷ commit 48 2 (stopped S 48 2 1 BadEdges)
+    ∷ commit 48 3 (stopped (S ++ (7 ∷ 8 ∷ [])) 48 259 1 BadEdges)
+    ∷ commit 48 3 (stopped S 49 3 1 BadLengths)
     ∷ []
 
 unfoldable pub removals : List Removal
 removals =
-    call (long_s ++ (9 ∷ [])) 50 3 1 (Bytes 48) (S ++ (0 ∷ 0 ∷ 9 ∷ []))
-    ∷ call long_y 52 3 1 (Bytes 50) (Y ++ (0 ∷ 0 ∷ []))
-    ∷ stopped S 48 4 0 19
-    ∷ stopped S 48 255 255 19
-    ∷ stopped long_s 50 259 1 19
-    ∷ stopped long_s 50 3 257 19
-    ∷ stopped S 48 1 2 10
-    ∷ stopped pair 26 0 1 3
-    ∷ stopped S 49 1 2 4
-    ∷ stopped S 47 4 0 2
+    call (long_s ++ (9 ∷ [])) 50 3 1 (Ok 48) (S ++ (0 ∷ 0 ∷ 9 ∷ []))
+    ∷ call long_y 52 3 1 (Ok 50) (Y ++ (0 ∷ 0 ∷ []))
+    ∷ stopped S 48 4 0 NoEdge
+    ∷ stopped S 48 255 255 NoEdge
+    ∷ stopped long_s 50 259 1 NoEdge
+    ∷ stopped long_s 50 3 257 NoEdge
+    ∷ stopped S 48 1 2 BadPaths
+    ∷ stopped pair 26 0 1 BadCounts
+    ∷ stopped S 49 1 2 BadLengths
+    ∷ stopped S 47 4 0 BadMarks
     ∷ []
 
 -- What the definitions give for an entry.
-unfoldable pub asking : Asking → Asked
+unfoldable pub asking : Asking → Result Receipt Refusal
 asking e = asked e.buffer e.len e.from e.to
 
-unfoldable pub committing : Commit → Written × List ℕ
+unfoldable pub committing : Commit → Result ℕ Refusal × List ℕ
 committing c =
     let e = c.call in
     (insert_written e.buffer e.len c.receipt e.from e.to, insert_left e.buffer e.len c.receipt e.from e.to)
 
-unfoldable pub removing : Removal → Written × List ℕ
+unfoldable pub removing : Removal → Result ℕ Refusal × List ℕ
 removing e = (remove_written e.buffer e.len e.from e.to, remove_left e.buffer e.len e.from e.to)
 
 -- Every entry has what it says.

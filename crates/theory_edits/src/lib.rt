@@ -2,18 +2,9 @@
 // edge in and taking it out again brings back every byte.
 #![tactic(auto)]
 
-use chart::format::Refusal;
-
 // What asking gives: the present chart's length, and the new record's place among the edges.
 #[derive(Clone, Copy)]
 pub struct Receipt {
     pub length: usize,
     pub place: usize,
-}
-
-// What asking answers.
-#[derive(Clone, Copy)]
-pub enum Asked {
-    Admitted(Receipt),
-    Refused(Refusal),
 }

@@ -1,6 +1,6 @@
 -- What the call writes: the chart that the whole text means, which is admitted (02, Note 2: "every chart written is admitted").
 -- Assumes nothing.
-use Rattle.std.specs.Prelude.{◌≡◌, false, List, ℕ, length, take, drop}
+use Rattle.std.specs.Prelude.{◌≡◌, false, List, ℕ, length, take, drop, Ok}
 use Rattle.std.proofs.Common.{ap, ◌∙◌, inl, inr, arith, take_at, eq-eqb}
 use Rattle.std.proofs.Math.Option.{none}
 use Rattle.lists.specs.Truth.{clash}
@@ -9,7 +9,6 @@ use Rattle.chart.specs.Refusal.{first_of}
 use Rattle.chart.proofs.Rows.{none-applies, both-pass}
 use Rattle.theory_paths.specs.Admission.{Admitted}
 use Rattle.output.specs.Output.{output_rows, written_by, left_by, content}
-use Rattle.output.specs.declared.Written.TheVariants.{Bytes}
 use Rattle.output.proofs.Outputs.{bytes-none}
 use Rattle.theory_listing.specs.Tree.{Block}
 use Rattle.theory_listing.specs.Grammar.{Read, up_to, stopped, listed}
@@ -26,7 +25,7 @@ read_whole n (up_to b next) h f g = (ap (up_to b) (omega (arith, h.1.0, h.1.1)),
 read_whole n (stopped number) (inl e) f g = absurd (clash (eq-eqb number 14 e) f)
 read_whole n (stopped number) (inr e) f g = absurd (clash (eq-eqb number 15 e) g)
 
-module _ (text out : List ℕ) (size : ℕ) (h : listing_written text out ≡ Bytes size) where
+module _ (text out : List ℕ) (size : ℕ) (h : listing_written text out ≡ Ok size) where
   abbrev b : Block
   b = block_read (listed text)
 

@@ -1,23 +1,23 @@
 -- A listing's chart is written correctly, for all texts.
 -- Assumes nothing.
-use Rattle.std.specs.Prelude.{◌≡◌, refl, List, ℕ, drop}
+use Rattle.std.specs.Prelude.{◌≡◌, refl, List, ℕ, drop, Ok}
 use Rattle.std.proofs.Math.Option.{none, some}
 use Rattle.std.proofs.Math.ListN.{length}
 use Rattle.std.proofs.Common.{drop_at}
 use Rattle.chart.specs.Refusal.{first_of}
 use Rattle.output.specs.Output.{written, content, written_by, left_by, number_of}
-use Rattle.output.specs.declared.Written.TheVariants.{Bytes}
 use Rattle.theory_listing.specs.Grammar.{listed}
 use Rattle.theory_listing.specs.Call.{block_read, listing_bytes, listing_rows, listing_written, listing_left}
 use Rattle.theory_listing.proofs.CallLaws.{listing-read, listing-decoded, listing-admitted}
 use Rattle.theory_listing.specs.ListingCorrect.{ListingCorrect}
+use Rattle.chart.specs.declared.format.Refusal.{Refusal}
 
 module _ (text old : List ℕ) where
-  refused : (row : ℕ) → first_of (listing_rows text (length old)) ≡ some row → (number_of (listing_written text old) ≡ number_of (written (some row) 0)) × (listing_left text old ≡ old)
+  refused : (refusal : Refusal) → first_of (listing_rows text (length old)) ≡ some refusal → (number_of (listing_written text old) ≡ number_of (written (some refusal) 0)) × (listing_left text old ≡ old)
   unfolding listing_written listing_left written_by left_by content written
   refused row h = rw h (refl, refl)
 
-  wrote : first_of (listing_rows text (length old)) ≡ none → listing_written text old ≡ Bytes (length (listing_bytes text))
+  wrote : first_of (listing_rows text (length old)) ≡ none → listing_written text old ≡ Ok (length (listing_bytes text))
   unfolding listing_written written_by written
   wrote h = rw h
 

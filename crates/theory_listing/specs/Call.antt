@@ -1,12 +1,13 @@
 -- The call (02, Note 2): its rows in order, what it returns and what it leaves in the lent buffer.
 -- Assumes nothing.
-use Rattle.std.specs.Prelude.{Bool, false, List, [], ◌∷◌, ℕ, eqb, length}
+use Rattle.std.specs.Prelude.{Bool, false, List, [], ◌∷◌, ℕ, eqb, length, Result}
 use Rattle.chart.specs.Refusal.{Row, bad_counts, bad_nodes, bad_constructs, bad_barriers}
 use Rattle.output.specs.Output.{output_rows, written_by, left_by}
-use Rattle.output.specs.declared.Written.{Written}
 use Rattle.theory_listing.specs.Tree.{Block, end}
 use Rattle.theory_listing.specs.Grammar.{Read, up_to, stopped, listed}
 use Rattle.theory_listing.specs.Meaning.{block_nodes, block_edges, block_constructs, block_chart, block_bytes}
+use Rattle.chart.specs.declared.format.Refusal.TheVariants.{BadNodes, BadConstructs, BadBarriers, BadGrammar, TooDeep, TooLarge}
+use Rattle.chart.specs.declared.format.Refusal.{Refusal}
 
 -- The block that was read; none where reading stopped.
 unfoldable pub block_read : Read Block → Block
@@ -27,12 +28,12 @@ too_many b = bad_counts (length (block_nodes b)) (length (block_edges b)) (lengt
 unfoldable pub block_rows : Read Block → List Row
 block_rows read =
     let b = block_read read in
-    record { number = 14; applies = stopped_by 14 read }
-    ∷ record { number = 15; applies = stopped_by 15 read }
-    ∷ record { number = 16; applies = too_many b }
-    ∷ record { number = 5; applies = bad_nodes (block_chart b) }
-    ∷ record { number = 6; applies = bad_constructs (block_chart b) }
-    ∷ record { number = 8; applies = bad_barriers (block_chart b) }
+    record { refusal = BadGrammar; applies = stopped_by 14 read }
+    ∷ record { refusal = TooDeep; applies = stopped_by 15 read }
+    ∷ record { refusal = TooLarge; applies = too_many b }
+    ∷ record { refusal = BadNodes; applies = bad_nodes (block_chart b) }
+    ∷ record { refusal = BadConstructs; applies = bad_constructs (block_chart b) }
+    ∷ record { refusal = BadBarriers; applies = bad_barriers (block_chart b) }
     ∷ []
 
 -- The bytes that a listing gives.
@@ -43,7 +44,7 @@ listing_bytes text = block_bytes (block_read (listed text))
 unfoldable pub listing_rows : List ℕ → ℕ → List Row
 listing_rows text room = output_rows (block_rows (listed text)) room (length (listing_bytes text)) []
 
-unfoldable pub listing_written : List ℕ → List ℕ → Written
+unfoldable pub listing_written : List ℕ → List ℕ → Result ℕ Refusal
 listing_written text out = written_by (listing_rows text (length out)) (length (listing_bytes text))
 
 unfoldable pub listing_left : List ℕ → List ℕ → List ℕ

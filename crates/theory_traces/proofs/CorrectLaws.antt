@@ -1,6 +1,6 @@
 -- The replay is correct, for all bytes.
 -- Assumes nothing.
-use Rattle.std.specs.Prelude.{◌≡◌, ◌⊎◌, true, false, List, [], ◌∷◌, ◌++◌, eqb, ltb, pos, length, get_or}
+use Rattle.std.specs.Prelude.{◌≡◌, ◌⊎◌, true, false, List, [], ◌∷◌, ◌++◌, eqb, ltb, pos, length, get_or, Result, Ok, Err}
 use Rattle.std.proofs.Math.Path.{refl}
 use Rattle.std.proofs.Common.{◌∙◌, subst, inl, inr, arith}
 use Rattle.std.proofs.Math.Bool.{cond}
@@ -27,8 +27,10 @@ use Rattle.theory_traces.specs.Call.{bad_trace, replay_rows, met_sheet, answered
 use Rattle.theory_traces.proofs.CallLaws.{passed-admitted, sheet-marks, replayed-answered}
 use Rattle.theory_traces.specs.Correct.{Says, Told, ReplayCorrect}
 use Rattle.theory_traces.specs.declared.Replayed.{Replayed}
-use Rattle.theory_traces.specs.declared.Replayed.TheVariants.{Finished as Ended, Unfinished, Forbidden, Refused}
+use Rattle.theory_traces.specs.declared.Replayed.TheVariants.{Finished as Ended, Unfinished, Forbidden}
 use Rattle.theory_traces.specs.declared.Thread.{Thread}
+use Rattle.chart.specs.declared.format.Refusal.{Refusal}
+use Rattle.chart.specs.declared.format.Refusal.TheVariants.{BadTrace}
 
 module _ (R : Region) (W : WellFormed R) (m : ℕ) (least : 1 ≤ m) (trace : List ℕ) where
   -- how far the replay came
@@ -38,7 +40,7 @@ module _ (R : Region) (W : WellFormed R) (m : ℕ) (least : 1 ≤ m) (trace : Li
 
   -- what it says, by what it has come to
   abbrev Right : ℕ → State → Replayed → Type 0
-  Right k σ answer = ((values_of answer).number ≡ pos 0) × Says R m trace k σ (values_of answer).finished (values_of answer).forbidden
+  Right k σ answer = ((values_of (Ok answer)).number ≡ pos 0) × Says R m trace k σ (values_of (Ok answer)).finished (values_of (Ok answer)).forbidden
 
   outcome-says : (p : Progress) → FollowsTo R W m least trace (length trace / 2) p → Right (entries_of (length trace / 2) p) (play_of p).state (outcome_of R m p)
   unfolding entries_of play_of outcome_of values_of
@@ -84,12 +86,12 @@ module _ (s : List ℕ) (p : ℕ) (trace : List ℕ) (m : ℕ) (out : List ℕ) 
   pub passed-team : first_of rows ≡ none → (1 ≤ m) × ((m ≤ 8) × (n * n ≤ length out))
   unfolding replay_rows output_rows room_row
   passed-team h =
-      let row : Row = record { number = 22; applies = bad_trace trace m } in
+      let row : Row = record { refusal = BadTrace; applies = bad_trace trace m } in
       let (before, room) = both-pass (region_rows s p ++ (row ∷ [])) (room_row (length out) (n * n) ∷ []) h in
       let (least, most) = whole-trace trace m (none-applies (row ∷ []) (both-pass (region_rows s p) (row ∷ []) before).1).0 in
       (least, (most, ltb-false (length out) (n * n) (none-applies (room_row (length out) (n * n) ∷ []) room).0))
 
-  pub replay-told : first_of rows ≡ none → Told R m trace (values_of (outcome_of R m (replayed R m trace))) (final s p trace m).state (sheet_left s p trace m out)
+  pub replay-told : first_of rows ≡ none → Told R m trace (values_of (Ok (outcome_of R m (replayed R m trace)))) (final s p trace m).state (sheet_left s p trace m out)
   replay-told h =
       let W = admitted-well-formed s p (passed-admitted s p trace m out h) in
       let least = (passed-team h).0 in
@@ -125,16 +127,16 @@ module _ (s : List ℕ) (p : ℕ) (trace : List ℕ) (m : ℕ) (out : List ℕ) 
       f : ℕ → ℕ → ℕ
       f a b = cond ((final s p trace m).met a b) 1 0
 
-      go : (o : Option ℕ) → first_of rows ≡ o → length (sheet_left s p trace m out) ≡ length out
+      go : (o : Option Refusal) → first_of rows ≡ o → length (sheet_left s p trace m out) ≡ length out
       go none h = rw h (front_length (rows_of (λ a b. cond ((final s p trace m).met a b) 1 0) n n) out (omega (arith, rows-length (λ a b. cond ((final s p trace m).met a b) 1 0) n n, (passed-team h).1.1)))
       go (some row) h = rw h
 
-ended : (answer : Replayed) → (values_of answer).finished ≡ some true → answer ≡ Ended
+ended : (answer : Result Replayed Refusal) → (values_of answer).finished ≡ some true → answer ≡ Ok Ended
 unfolding values_of
-ended Ended h = refl
-ended Unfinished h = absurd (bad (cc))
-ended (Forbidden index) h = absurd (bad (cc))
-ended (Refused refusal) h = absurd (bad (cc))
+ended (Ok Ended) h = refl
+ended (Ok Unfinished) h = absurd (bad (cc))
+ended (Ok (Forbidden index)) h = absurd (bad (cc))
+ended (Err refusal) h = absurd (bad (cc))
 
 -- What the definitions give is correct.
 pub replay-correct : (s : List ℕ) (p : ℕ) (trace : List ℕ) (records : List Thread) (out : List ℕ)
@@ -146,8 +148,8 @@ replay-correct s p trace records out =
       refuses = λ row h. rw h (refl, (refl, refl));
       replays = λ h.
           let R = region_of p (decode s) in
-          let same : outcome_of R m (replayed R m trace) ≡ replay_answer s p trace m out = rw h in
-          let told = subst (λ (r : Replayed). Told R m trace (values_of r) (final s p trace m).state (sheet_left s p trace m out)) same (replay-told s p trace m out h) in
+          let same : Ok (outcome_of R m (replayed R m trace)) ≡ replay_answer s p trace m out = rw h in
+          let told = subst (λ (r : Result Replayed Refusal). Told R m trace (values_of r) (final s p trace m).state (sheet_left s p trace m out)) same (replay-told s p trace m out h) in
           ((final s p trace m).state, ((rw h), told));
       may-meet = λ h. replayed-answered s p trace m out (ended (replay_answer s p trace m out) h);
       rest = left-past s p trace m out;

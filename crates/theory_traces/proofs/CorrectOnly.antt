@@ -1,6 +1,6 @@
 -- Nothing else is correct: the promise leaves one number with its values, and so one answer (`values-apart`), one content of the records and one of the bytes.
 -- Assumes nothing.
-use Rattle.std.specs.Prelude.{◌≡◌, refl, ◌⊎◌, Bool, false, List, ℕ, suc, ◌+◌, ◌*◌, ◌/◌, ◌%◌, ◌≤◌, ◌<◌, ℤ, pos, length}
+use Rattle.std.specs.Prelude.{◌≡◌, refl, ◌⊎◌, Bool, false, List, ℕ, suc, ◌+◌, ◌*◌, ◌/◌, ◌%◌, ◌≤◌, ◌<◌, ℤ, pos, length, Ok}
 use Rattle.std.proofs.Common.{sym, ◌∙◌, inl, inr, arith, mod-lt, div-lt_iff_lt-mul, div-add-mod', ext_get_or}
 use Rattle.std.proofs.Math.Path.{ap, subst}
 use Rattle.std.proofs.Math.Bool.{true, cond}
@@ -13,6 +13,7 @@ use Rattle.chart.specs.Format.{decode}
 use Rattle.chart.specs.Region.{Region}
 use Rattle.chart.specs.Reading.{region_of}
 use Rattle.chart.specs.Refusal.{first_of}
+use Rattle.chart.specs.declared.format.Refusal.{Refusal}
 use Rattle.chart.specs.WellFormed.{WellFormed}
 use Rattle.theory_paths.specs.AdmissionLaws.{admitted-well-formed}
 use Rattle.theory_team.specs.State.{State}
@@ -33,7 +34,7 @@ module _ (R : Region) (W : WellFormed R) (m : ℕ) (least : 1 ≤ m) (trace : Li
     play : Play
     came : progress R m trace k ≡ going play
     last : play_of (replayed R m trace) ≡ play
-    gives : said ≡ values_of (outcome_of R m (replayed R m trace))
+    gives : said ≡ values_of (Ok (outcome_of R m (replayed R m trace)))
     same : play.state ≡ σ
 
   arrived : {k : ℕ} {σ : State} {nodes : List ℕ} → Legal R m trace k σ nodes → (z : ℤ) → z ≡ pos 0 → (f : Option Bool) (b : Option ℕ) → Says R m trace k σ f b
@@ -91,7 +92,7 @@ module _ (s : List ℕ) (p : ℕ) (trace : List ℕ) (records : List Thread) (ol
   abbrev m : ℕ
   m = length records
 
-  abbrev refused : Option ℕ
+  abbrev refused : Option Refusal
   refused = first_of (replay_rows s p trace m (length old))
 
   -- What is correct is what the definitions give.
@@ -119,6 +120,6 @@ module _ (s : List ℕ) (p : ℕ) (trace : List ℕ) (records : List Thread) (ol
           entry h at j (yes l) = at j l
           entry h at j (no l) = C.rest h j (omega arith) ∙ sym (D.rest h j (omega arith))
 
-      go : (o : Option ℕ) → refused ≡ o → (said ≡ values_of (replay_answer s p trace m old)) × ((left ≡ records_left s p trace records old) × (new ≡ sheet_left s p trace m old))
+      go : (o : Option Refusal) → refused ≡ o → (said ≡ values_of (replay_answer s p trace m old)) × ((left ≡ records_left s p trace records old) × (new ≡ sheet_left s p trace m old))
       go none h = passed h
       go (some row) h = let (x, (y, z)) = C.refuses row h in let (u, (v, w)) = D.refuses row h in (x ∙ sym u, (y ∙ sym v, z ∙ sym w))

@@ -1,6 +1,6 @@
 -- Every finished run of up to eight threads is recorded by some trace; so each pair that may meet in such a team is marked by a finished trace.
 -- Assumes nothing.
-use Rattle.std.specs.Prelude.{◌≡◌, List, [], ◌∷◌, ◌++◌, ℕ, ◌+◌, ◌*◌, ◌%◌, ◌≤◌, ◌<◌, get_or}
+use Rattle.std.specs.Prelude.{Ok, ◌≡◌, List, [], ◌∷◌, ◌++◌, ℕ, ◌+◌, ◌*◌, ◌%◌, ◌≤◌, ◌<◌, get_or}
 use Rattle.std.proofs.Common.{sym, ◌∙◌, subst}
 use Rattle.std.proofs.Math.Bool.{true, false}
 use Rattle.std.proofs.Math.Option.{none}
@@ -31,6 +31,7 @@ use Rattle.theory_traces.proofs.EveryRun.{every-run-replays}
 use Rattle.theory_traces.specs.Call.{bad_trace, replay_rows, answered, final, replay_answer, sheet_left}
 use Rattle.theory_traces.proofs.CallLaws.{sheet-marks}
 use Rattle.theory_traces.specs.declared.Replayed.TheVariants.{Finished}
+use Rattle.chart.specs.declared.format.Refusal.TheVariants.{BadTrace}
 
 module _ (s : List ℕ) (p m : ℕ) (out : List ℕ) (admitted : AdmittedIn s p) (least : 1 ≤ m) (most : m ≤ 8)
     (room : (region_of p (decode s)).nodes * (region_of p (decode s)).nodes ≤ length out) where
@@ -44,7 +45,7 @@ module _ (s : List ℕ) (p m : ℕ) (out : List ℕ) (admitted : AdmittedIn s p)
   passes : (trace : List ℕ) → length trace % 2 ≡ 0 → first_of (replay_rows s p trace m (length out)) ≡ none
   unfolding replay_rows output_rows room_row bad_trace
   passes trace even =
-      let row : Row = record { number = 22; applies = bad_trace trace m } in
+      let row : Row = record { refusal = BadTrace; applies = bad_trace trace m } in
       let whole : eqb (length trace % 2) 1 ≡ false = ne_eqb (length trace % 2) 1 (λ e. odd e) in
       let team : eqb m 0 ≡ false = ne_eqb m 0 (λ e. empty e) in
       let fits : bad_trace trace m ≡ false = rw (whole, team, le-ltb 8 m most) in
@@ -67,7 +68,7 @@ module _ (s : List ℕ) (p m : ℕ) (out : List ℕ) (admitted : AdmittedIn s p)
   pub record Recorded {τ : State} (r : Run R m (initial R) τ) : Type 0 where
     pub trace : List ℕ
     pub bytes : (i : ℕ) → get_or trace i 0 < 256
-    pub finished : replay_answer s p trace m out ≡ Finished
+    pub finished : replay_answer s p trace m out ≡ Ok Finished
     pub marks : (μ : State) → StateOf R m (initial R) τ r μ → (a b : ℕ) → a < n → b < n → Together m μ a b
         → get_or (sheet_left s p trace m out) (a * n + b) 0 ≡ 1
 
@@ -90,7 +91,7 @@ module _ (s : List ℕ) (p m : ℕ) (out : List ℕ) (admitted : AdmittedIn s p)
 
   -- and each pair of nodes that are no barriers and are answered 0 for the size of the team is marked by some finished trace.
   pub answered-marked : (a b : ℕ) → a < n → b < n → Open R a → Open R b → answer_in R m a b ≡ 0
-      → (trace : List ℕ) × ((replay_answer s p trace m out ≡ Finished) × (get_or (sheet_left s p trace m out) (a * n + b) 0 ≡ 1))
+      → (trace : List ℕ) × ((replay_answer s p trace m out ≡ Ok Finished) × (get_or (sheet_left s p trace m out) (a * n + b) 0 ≡ 1))
   answered-marked a b la lb oa ob h =
       let M = (size_exact (admitted-well-formed s p admitted) (admitted-connected s p admitted) oa ob m).0 h in
       let T = finished-recorded M.run M.finished in

@@ -7,7 +7,7 @@ use Rattle.lists.specs.Tab.{tab}
 use Rattle.chart.specs.Format.{decode}
 use Rattle.chart.specs.Region.{Region}
 use Rattle.chart.specs.Reading.{region_of}
-use Rattle.chart.specs.Refusal.{first_of}
+use Rattle.chart.specs.Refusal.{first_of, row_number}
 use Rattle.theory_paths.specs.Path.{Open}
 use Rattle.theory_team.specs.State.{State}
 use Rattle.theory_team.specs.Run.{Finished}
@@ -15,6 +15,7 @@ use Rattle.theory_answers.specs.Answer.{answer, answer_in}
 use Rattle.theory_traces.specs.Legal.{Legal, MetBy}
 use Rattle.theory_traces.specs.Call.{replay_rows, record_of, Values}
 use Rattle.theory_traces.specs.declared.Thread.{Thread}
+use Rattle.chart.specs.declared.format.Refusal.{Refusal}
 
 -- What the values say of a trace whose first k entries are legal and lead to the state: all entries are legal, and every thread is at finish, or not
 -- every one is; or the rules forbid entry k.
@@ -47,13 +48,13 @@ module _ (s : List ℕ) (p : ℕ) (trace : List ℕ) (records : List Thread) (ol
   abbrev m : ℕ
   m = length records
 
-  abbrev refused : Option ℕ
+  abbrev refused : Option Refusal
   refused = first_of (replay_rows s p trace m (length old))
 
   -- The number and the values of the answer, and the lent records and bytes afterwards, are right.
   pub record ReplayCorrect (said : Values) (left : List Thread) (new : List ℕ) : Type 0 where
     -- refused: the number of the first of rows 1 to 10, 23, 22 and 11 that applies, negated, and all that was lent is left as found
-    pub refuses : (row : ℕ) → refused ≡ some row → (said ≡ record { number = neg_ℤ (pos row); finished = none; forbidden = none }) × ((left ≡ records) × (new ≡ old))
+    pub refuses : (refusal : Refusal) → refused ≡ some refusal → (said ≡ record { number = neg_ℤ (pos (row_number refusal)); finished = none; forbidden = none }) × ((left ≡ records) × (new ≡ old))
     -- otherwise the trace is replayed
     pub replays : refused ≡ none → (σ : State) × ((left ≡ tab m (record_of σ)) × Told R m trace said σ new)
     -- in a finished trace every marked pair of nodes that are no barriers is answered 0 (02: is one that may meet), for teams of any size and

@@ -3,7 +3,7 @@
 // The laws: the decision is the rules, both ways; a trace is a run, and every run has a trace; the call is correct, and nothing else is.
 #![tactic(auto)]
 
-use chart::format::{Chart, Refusal};
+use chart::format::Chart;
 
 // What an entry does to the state, its thread and its node being known.
 #[derive(Clone, Copy)]
@@ -20,14 +20,13 @@ pub enum Effect {
     TakesNext(usize, usize),
 }
 
-// What a replay answers.
+// What a replay answers where no row refuses it.
 #[derive(Clone, Copy)]
 pub enum Replayed {
     Finished,
     Unfinished,
     // the index of the first entry that the team rules forbid
     Forbidden(usize),
-    Refused(Refusal),
 }
 
 // The record of a thread.

@@ -3,43 +3,34 @@
 #![tactic(auto)]
 
 use call_edges::ask::ask;
-use chart::cursor::{Cursor, wide};
-use program_io::input::{Part, read_full, too_long, too_short};
-use program_io::lines::{end_line, number};
+use program_io::input;
+use program_io::input::read_shorter;
 use program_io::printing::print_refusal;
 use std::io;
-use theory_edits::{Asked, Receipt};
+use theory_edits::Receipt;
 
-// Bytes of the edge, and in front of the buffer; the longest input.
-const EDGE: usize = 2;
-
-const FRONT: usize = EDGE + Part::LENGTH;
-
-const MOST: usize = FRONT + Part::MOST;
+// The longest input: two bytes for the edge, the length and the longest buffer.
+const MOST: usize = 2 + input::LENGTH + input::MOST;
 
 fn print_receipt(rt: &impl Print, receipt: Receipt) -> io::Result<()> {
-    number(rt, b"length ", receipt.length as u64)?;
-    number(rt, b" place ", receipt.place as u64)?;
-    end_line(rt)
+    println!(rt; "length {} place {}", receipt.length, receipt.place)
 }
 
 fn print(rt: &impl Print, input: &[u8]) -> io::Result<()> {
-    if input.len() < FRONT {
-        return too_short(rt);
-    }
-    let cursor = Cursor { at: EDGE };
-    let len = cursor.field(input, 0);
-    match ask(&input[FRONT..], len, wide(input[0]), wide(input[1])) {
-        Asked::Admitted(receipt) => print_receipt(rt, receipt),
-        Asked::Refused(refusal) => print_refusal(rt, refusal),
+    let [from, to, low, high, buffer @ ..] = input else {
+        return println!(rt; "input too short");
+    };
+    let len = usize::from(u16::from_le_bytes([*low, *high]));
+    match ask(buffer, len, usize::from(*from), usize::from(*to)) {
+        Ok(receipt) => print_receipt(rt, receipt),
+        Err(refusal) => print_refusal(rt, refusal),
     }
 }
 
 fn main(rt: HostRuntime) -> io::Result<()> {
     let mut buffer = [0u8; MOST + 1];
-    let n = read_full(&rt, &mut buffer)?;
-    if MOST < n {
-        return too_long(&rt);
+    match read_shorter(&rt, &mut buffer)? {
+        Some(input) => print(&rt, input),
+        None => println!(rt; "input too long"),
     }
-    print(&rt, &buffer[..n])
 }

@@ -1,5 +1,7 @@
 -- `answer_masks::survey_inner` meets its contract: row 10 from the outermost region's marking, row 23, and the region's own masks.
 -- Assumes nothing.
+use Rattle.std.proofs.Common.{Err, rules}
+use Rattle.std.specs.Prelude.{Ok}
 use mathlib.Core.Path.{◌≡◌, refl, ap, sym, ◌∙◌, subst}
 use mathlib.Core.Logic.{◌≢◌}
 use mathlib.Core.Option.{none}
@@ -9,7 +11,6 @@ use Rattle.chart.specs.Format.{outside}
 use Rattle.chart.specs.Refusal.{first_of}
 use Rattle.chart.specs.Checked.{counts_of, read_for, checked_by, reading}
 use Rattle.chart.specs.declared.format.Chart.{Chart}
-use Rattle.chart.specs.declared.format.Checked.TheVariants.{Passed}
 use Rattle.check_chart.proofs.Outcome.{passed_none, refused-some}
 use Rattle.theory_paths.specs.Admission.{admit_rows}
 use Rattle.theory_paths.specs.Phases.{barriers}
@@ -27,7 +28,7 @@ survey_region-requires c =
 
 pub bad_region-requires : goal.bad_region-requires
 bad_region-requires c =
-    ((c.survey_region.ensures.survey _ c.in-Passed.is).accepted.laid, c.requires.s_value.1)
+    ((c.survey_region.ensures.survey _ c.in_ok-whole.was).accepted.laid, c.requires.s_value.1)
 
 -- row 23
 pub returns-then-bad_region : goal.returns-then-bad_region
@@ -35,26 +36,27 @@ unfolding checked_by
 returns-then-bad_region c =
     let outer : (let s = c.args.s.now in c.survey_region.result ≡ checked_by (first_of (admit_rows s)) (counts_of s)) =
     c.survey_region.ensures.value.0 (read_whole _ _ c.requires.s_value.0) in
-    let admits : (whole : Chart) → c.survey_region.result ≡ Passed whole
+    let admits : (whole : Chart) → c.survey_region.result ≡ Ok whole
     → (let s = c.args.s.now in (first_of (admit_rows s) ≡ none) × (counts_of s ≡ whole)) =
     λ whole q. passed_none _ _ _ (sym outer ∙ q) in
-    let n = entered-refused _ _ _ (sym (refused-region c.args.s.now c.args.region (admits _ c.in-Passed.is).0 (sym c.bad_region.ensures ∙ c.if-bad_region.true))) in
+    let n = entered-refused _ _ _ (sym (refused-region c.args.s.now c.args.region (admits _ c.in_ok-whole.was).0 (sym c.bad_region.ensures ∙ c.if-bad_region.true))) in
     record { value = rw n; survey = λ chart q. absurd (bad (cc)) }
 
 -- row 10
-pub returns-in-Refused : goal.returns-in-Refused
+pub returns-in_err-whole : goal.returns-in_err-whole
 unfolding checked_by
-returns-in-Refused c =
+returns-in_err-whole c =
     let outer : (let s = c.args.s.now in c.survey_region.result ≡ checked_by (first_of (admit_rows s)) (counts_of s)) =
     c.survey_region.ensures.value.0 (read_whole _ _ c.requires.s_value.0) in
-    let n = refused-some _ _ _ (sym outer ∙ c.in-Refused.is) in
-    record { value = rw (entered-refused _ _ _ (sym (refused-first c.args.s.now c.args.region _ n))); survey = λ chart q. absurd (bad (cc)) }
+    let n = refused-some _ _ _ (sym outer ∙ c.in_err-whole.was) in
+    let same : c.from_residual.result ≡ Err c.in_err-whole.field-0.0 = search rules in
+    record { value = same ∙ sym (rw (entered-refused _ _ _ (sym (refused-first c.args.s.now c.args.region _ n)))); survey = λ chart q. absurd (bad (cc)) }
 
-pub survey_region-requires-in-Passed : goal.survey_region-requires-in-Passed
-survey_region-requires-in-Passed c =
+pub survey_region-requires-2 : goal.survey_region-requires-2
+survey_region-requires-2 c =
     let inner : c.read_for-inner.result.region ≢ outside =
     λ q. c.requires.s_value.1 (sym (ap (λ (k : Chart). k.region) c.read_for-inner.ensures) ∙ q) in
-    let A = (c.survey_region.ensures.survey _ c.in-Passed.is).accepted in
+    let A = (c.survey_region.ensures.survey _ c.in_ok-whole.was).accepted in
     let N = named c.args.s.now c.args.region (sym c.bad_region.ensures ∙ c.if-bad_region.false) in record {
       accepted = (
         subst (Accepted c.args.s.now) (sym c.read_for-inner.ensures) (accepted-for _ _ A c.args.region N),
@@ -64,19 +66,19 @@ survey_region-requires-in-Passed c =
       both_framed = c.requires.both_framed;
     }
 
-pub returns-else-bad_region : goal.returns-else-bad_region
+pub returns : goal.returns
 unfolding checked_by
-returns-else-bad_region c =
+returns c =
     let outer : (let s = c.args.s.now in c.survey_region.result ≡ checked_by (first_of (admit_rows s)) (counts_of s)) =
     c.survey_region.ensures.value.0 (read_whole _ _ c.requires.s_value.0) in
-    let admits : (whole : Chart) → c.survey_region.result ≡ Passed whole
+    let admits : (whole : Chart) → c.survey_region.result ≡ Ok whole
     → (let s = c.args.s.now in (first_of (admit_rows s) ≡ none) × (counts_of s ≡ whole)) =
     λ whole q. passed_none _ _ _ (sym outer ∙ q) in
     let inner : c.read_for-inner.result.region ≢ outside =
     λ q. c.requires.s_value.1 (sym (ap (λ (k : Chart). k.region) c.read_for-inner.ensures) ∙ q) in
     let s = c.args.s.now in
     let p = c.args.region in
-    let (admitted, counts) = admits _ c.in-Passed.is in
+    let (admitted, counts) = admits _ c.in_ok-whole.was in
     let same = c.read_for-inner.ensures ∙ ap (λ (c : Chart). read_for c p) (sym counts) in
     let marked = marked-region s p admitted same (ap (λ (c : Chart). length (barriers (reading s c))) same) (sym c.bad_region.ensures ∙ c.if-bad_region.false) in
-    record { value = c.survey_region-in-Passed.ensures.value.1 inner ∙ rw (entered-marked _ _ _ (sym marked), same) refl; survey = c.survey_region-in-Passed.ensures.survey }
+    record { value = c.survey_region-2.ensures.value.1 inner ∙ rw (entered-marked _ _ _ (sym marked), same) refl; survey = c.survey_region-2.ensures.survey }

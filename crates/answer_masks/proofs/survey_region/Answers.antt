@@ -19,15 +19,6 @@ use Rattle.answer_masks.proofs.survey_region.Goals as goal
 pub load_tables-loaded-requires : goal.load_tables-loaded-requires
 load_tables-loaded-requires c = (c.requires.accepted.0, blank_none, refl)
 
-pub asked-n-requires : goal.asked-n-requires
-asked-n-requires c =
-    let is-accepted : Accepted c.args.s.now c.args.chart =
-    c.requires.accepted.0 in
-    let T = c.load_tables-loaded.ensures.arranged in
-    let H = c.load_tables-loaded.ensures.handed in
-    let (S, N, Q, none) = c.load_tables-loaded.ensures.stops in
-    record { accepted = (is-accepted, c.requires.both_framed.0, c.requires.both_framed.1); by_index = (_, _, (_, (T, S))) }
-
 pub add_ends-total-requires : goal.add_ends-total-requires
 add_ends-total-requires c =
     let is-accepted : Accepted c.args.s.now c.args.chart =
@@ -37,24 +28,6 @@ add_ends-total-requires c =
     let H = c.load_tables-loaded.ensures.handed in
     let (S, N, Q, none) = c.load_tables-loaded.ensures.stops in
     (few A N, asked-few c.asked-n.ensures (omega (arith, A.laid.constructs-most)), N.long)
-
-pub boundaries-requires : goal.boundaries-requires
-boundaries-requires c =
-    let T = c.load_tables-loaded.ensures.arranged in
-    let H = c.load_tables-loaded.ensures.handed in
-    let (S, N, Q, none) = c.load_tables-loaded.ensures.stops in
-    let D = c.add_ends-total.ensures in
-    record { barriers_le_total = (D.least, D.most, rw c.requires.accepted.2 refl, refl, ready H); by_index = D.node c.requires.both_framed.1.node N.node }
-
-pub returns-returning-requires : goal.returns-returning-requires
-returns-returning-requires c =
-    let is-accepted : Accepted c.args.s.now c.args.chart =
-    c.requires.accepted.0 in
-    let A = is-accepted in
-    let T = c.load_tables-loaded.ensures.arranged in
-    let H = c.load_tables-loaded.ensures.handed in
-    let (S, N, Q, none) = c.load_tables-loaded.ensures.stops in
-    let D = c.add_ends-total.ensures in record { n_bound = (asked-few c.asked-n.ensures (omega (arith, A.laid.constructs-most)), D.least, D.most, added-nothing D, c.boundaries.ensures.starts_len, ready H); by_index = (c.requires.both_framed.0.node, c.requires.both_framed.1.node) }
 
 pub conclude-lost-requires : goal.conclude-lost-requires
 conclude-lost-requires c =
@@ -89,8 +62,8 @@ returns-then-refuses c =
       survey = λ chart q. absurd (bad (cc));
     }
 
-pub fill_held-requires : goal.fill_held-requires
-fill_held-requires c =
+pub fill_held-marks-requires : goal.fill_held-marks-requires
+fill_held-marks-requires c =
     let is-accepted : Accepted c.args.s.now c.args.chart =
     c.requires.accepted.0 in
     let A = is-accepted in
@@ -134,6 +107,6 @@ returns c =
           let same : c.args.chart ≡ chart = cc in
           rw (← same) (record {
             accepted = A;
-            marked = all-marks _ _ A c.args.marks.now _ _ _ (rw c.requires.accepted.2 refl) starts ends c.fill_held.ensures.held_below c.fill_held.ensures.kinds;
+            marked = all-marks _ _ A _ _ _ starts ends c.fill_held-marks.ensures.held_below c.fill_held-marks.ensures.kinds;
           });
     }

@@ -1,11 +1,7 @@
 -- `answer_names::fill_around` meets its contract.
 -- Assumes nothing.
-use mathlib.Core.Path.{refl}
 use Rattle.answer_names.proofs.Peers.{own-small, all-criticals, spread-around}
 use Rattle.answer_names.proofs.fill_around.Goals as goal
-
-pub own_bits-all-requires : goal.own_bits-all-requires
-own_bits-all-requires c = (c.requires.0.laid.constructs-most, refl)
 
 pub spread-requires : goal.spread-requires
 spread-requires c =

@@ -1,7 +1,7 @@
 -- `answer_names::fill_chains` meets its contract. The loop's invariant: the masks of the constructs passed are there.
 -- Assumes nothing.
-use mathlib.Core.Path.{◌≡◌, sym, subst}
-use Prim.Native.Nat.{◌-◌, ◌<◌}
+use mathlib.Core.Path.{sym, subst}
+use Prim.Native.Nat.{◌<◌}
 use native.Mathlib.Omega.{arith}
 use lib.ListN.{length}
 use Rattle.chart.specs.Format.{decode}
@@ -12,12 +12,6 @@ use Rattle.answer_constructs.proofs.Constructs.{index_below, parent-lower}
 use Rattle.answer_names.proofs.Peers.{chains-next}
 use Rattle.answer_names.proofs.fill_chains.Goals as goal
 
-pub loop-c-init : goal.loop-c-init
-loop-c-init c = (omega arith, record { long = c.requires.2; at = λ d l. absurd (omega arith) })
-
-pub read-construct-requires : goal.read-construct-requires
-read-construct-requires c = (c.requires.0.laid, omega arith)
-
 pub mask_at-requires : goal.mask_at-requires
 unfolding parent_of
 mask_at-requires c =
@@ -26,32 +20,9 @@ mask_at-requires c =
     index_below (omega (arith, c.requires.0.laid.constructs-most))
     (subst (Below c.loop-c.c) (sym c.read-construct.ensures.1) (parent-lower _ c.args.chart c.requires.0 c.loop-c.c below))
 
-pub offset_bounds-given-c : goal.offset_bounds-given-c
-offset_bounds-given-c c = omega arith
-
-pub bounds-given-c : goal.bounds-given-c
-bounds-given-c c = omega (arith, c.requires.0.laid.constructs-most)
-
-pub offset_bounds-chains-c : goal.offset_bounds-chains-c
-offset_bounds-chains-c c = omega arith
-
-pub bounds-chains-c : goal.bounds-chains-c
-bounds-chains-c c = omega (arith, c.requires.0.laid.constructs-most)
-
-pub overflow_add-c : goal.overflow_add-c
-overflow_add-c c = omega arith
-
-pub loop-c-smaller : goal.loop-c-smaller
-loop-c-smaller c = omega arith
-
 pub loop-c-preserved : goal.loop-c-preserved
 unfolding parent_of
 loop-c-preserved c =
     let below : c.loop-c.c < length (decode c.args.s.now).constructs =
     omega (arith, constructs-length _ c.args.chart c.requires.0.laid) in
     (omega arith, rw (c.mask_at.ensures, c.read-construct.ensures.1) (chains-next _ c.args.chart c.requires.0 c.loop-c.c below c.requires.1 c.loop-c.invariant.1))
-
-pub returns : goal.returns
-returns c =
-    let q : c.loop-c.c ≡ c.args.chart.constructs = omega arith in
-    rw q at c.loop-c.invariant.1

@@ -1,7 +1,6 @@
 -- `answer_names::fill_given` meets its contract. The loop's invariant: the constructs passed have their masks.
 -- Assumes nothing.
 use mathlib.Core.Path.{◌∙◌}
-use Prim.Native.Nat.{◌-◌}
 use native.Mathlib.Omega.{arith}
 use lib.ListN.{length-set}
 use Rattle.lists.specs.Mask.{Mask}
@@ -14,26 +13,8 @@ use Rattle.answer_constructs.proofs.Noted.{known-none}
 use Rattle.answer_names.specs.Names.{GivesName}
 use Rattle.answer_names.proofs.fill_given.Goals as goal
 
-pub members_of-members-requires : goal.members_of-members-requires
-members_of-members-requires c = c.requires.0
-
 pub loop-c-init : goal.loop-c-init
 loop-c-init c = (omega arith, c.requires.1, λ d l. absurd (omega arith), known-none _)
-
-pub gives-requires : goal.gives-requires
-gives-requires c = (c.requires.0, omega arith, c.members_of-members.ensures, c.loop-c.invariant.3)
-
-pub offset_bounds-given-c : goal.offset_bounds-given-c
-offset_bounds-given-c c = omega arith
-
-pub bounds-given-c : goal.bounds-given-c
-bounds-given-c c = omega (arith, c.requires.0.laid.constructs-most)
-
-pub overflow_add-c : goal.overflow_add-c
-overflow_add-c c = omega arith
-
-pub loop-c-smaller : goal.loop-c-smaller
-loop-c-smaller c = omega arith
 
 pub loop-c-preserved : goal.loop-c-preserved
 loop-c-preserved c =

@@ -1,6 +1,6 @@
 -- The invariants and measures of `answer_names::fill_given`.
 use mathlib.Core.Path.{◌≡◌}
-use Prim.Native.Nat.{ℕ, ◌-◌, ◌≤◌, ◌<◌}
+use Prim.Native.Nat.{ℕ, ◌≤◌, ◌<◌}
 use lib.ListN.{length, get_or}
 use Rattle.lists.specs.Mask.{Mask}
 use Rattle.chart.specs.Format.{decode}
@@ -15,6 +15,3 @@ invariant-loop-c l =
     let R = reading l.s l.chart in
     (l.c ≤ l.chart.constructs) × (length l.given ≡ 48) × ((d : ℕ) → d < l.c → Mask (GivesName R (Counts (decode l.s) l.chart.region) d) R.constructs (get_or l.given d 0))
     × Known (decode l.s).constructs l.known
-
-abbrev pub decreases-loop-c : goal.decreases-loop-c
-decreases-loop-c l = l.chart.constructs - l.c

@@ -1,6 +1,6 @@
 -- `call_distances::write_distances` meets its contract.
 -- Assumes nothing.
-use mathlib.Core.Path.{◌≡◌, sym, ◌∙◌}
+use Rattle.std.proofs.Common.{◌≡◌, Err, rules, sym, ◌∙◌}
 use mathlib.Core.List.{[]}
 use lib.ListN.{length}
 use Rattle.lists.specs.Tab.{tab-length}
@@ -14,11 +14,11 @@ use Rattle.call_distances.proofs.write_distances.Goals as goal
 
 pub fill_distances-requires : goal.fill_distances-requires
 fill_distances-requires c =
-    (c.requires.0.laid.nodes-most, (had-room [] [] (length c.args.out.now) c.args.chart.nodes (sym c.room_for.ensures ∙ c.in-Bytes.is)).1)
+    (c.requires.0.laid.nodes-most, (had-room [] [] (length c.args.out.now) c.args.chart.nodes (sym c.room_for.ensures ∙ c.in_ok-size.was)).1)
 
-pub returns-in-Refused : goal.returns-in-Refused
+pub returns-in_err-size : goal.returns-in_err-size
 unfolding distances_result
-returns-in-Refused c =
+returns-in_err-size c =
     let R : Region =
     reading c.args.s.now c.args.chart in
     let nodes : R.nodes ≡ c.args.chart.nodes =
@@ -28,12 +28,13 @@ returns-in-Refused c =
     let answers : let n = length (distances_result R) in
     c.room_for.result ≡ written_by (output_rows [] (length c.args.out.now) n []) n =
     rw size c.room_for.ensures in
-    let h = c.in-Refused.is in
-    record { result_value = sym h ∙ answers; out_after = kept _ _ (distances_result R) _ (sym answers ∙ h) }
+    let h = c.in_err-size.was in
+    let same : c.from_residual.result ≡ Err c.in_err-size.field-0.0 = search rules in
+    record { result_value = same ∙ sym h ∙ answers; out_after = kept _ _ (distances_result R) _ (sym answers ∙ h) }
 
-pub returns-in-Bytes : goal.returns-in-Bytes
+pub returns : goal.returns
 unfolding distances_result
-returns-in-Bytes c =
+returns c =
     let R : Region =
     reading c.args.s.now c.args.chart in
     let nodes : R.nodes ≡ c.args.chart.nodes =
@@ -43,5 +44,5 @@ returns-in-Bytes c =
     let answers : let n = length (distances_result R) in
     c.room_for.result ≡ written_by (output_rows [] (length c.args.out.now) n []) n =
     rw size c.room_for.ensures in
-    let h = c.in-Bytes.is in
+    let h = c.in_ok-size.was in
     record { result_value = sym h ∙ answers; out_after = c.fill_distances.ensures R nodes c.load_closed.ensures c.requires.1 ∙ put _ _ (distances_result R) _ (sym answers ∙ h) }

@@ -1,5 +1,6 @@
 -- `call_races::write_races` meets its contract.
 -- Assumes nothing.
+use Rattle.std.proofs.Common.{Err, rules}
 use mathlib.Core.Path.{◌≡◌, sym, ◌∙◌}
 use mathlib.Core.Bool.{false}
 use mathlib.Core.List.{[]}
@@ -49,12 +50,12 @@ put_races-requires c =
       c.requires.0,
       c.requires.1,
       good,
-      omega (arith, races-length read c.args.accesses.now, (had-room [] [] (length c.args.out.now) _ (sym answers ∙ c.in-Bytes.is)).1),
+      omega (arith, races-length read c.args.accesses.now, (had-room [] [] (length c.args.out.now) _ (sym answers ∙ c.in_ok-size.was)).1),
     )
 
-pub returns-in-Refused : goal.returns-in-Refused
+pub returns-in_err-size : goal.returns-in_err-size
 unfolding pair_count total
-returns-in-Refused c =
+returns-in_err-size c =
     let read : Region =
     reading c.args.s.now c.args.chart in
     let good : bad_accesses read c.args.accesses.now ≡ false =
@@ -63,13 +64,14 @@ returns-in-Refused c =
     c.room_for.result ≡ written_by (output_rows [] (length c.args.out.now) size []) size =
     rw (races-length read c.args.accesses.now) c.room_for.ensures in
     let list = c.args.accesses.now in
-    let h = c.in-Refused.is in
+    let h = c.in_err-size.was in
     let p = list-passed read list c.args.out.now good in
-    record { result_value = sym h ∙ answers ∙ sym p.0; out_after = kept _ _ (races read list) _ (sym answers ∙ h) ∙ sym p.1 }
+    let same : c.from_residual.result ≡ Err c.in_err-size.field-0.0 = search rules in
+    record { result_value = same ∙ sym h ∙ answers ∙ sym p.0; out_after = kept _ _ (races read list) _ (sym answers ∙ h) ∙ sym p.1 }
 
-pub returns-in-Bytes : goal.returns-in-Bytes
+pub returns : goal.returns
 unfolding pair_count total
-returns-in-Bytes c =
+returns c =
     let read : Region =
     reading c.args.s.now c.args.chart in
     let good : bad_accesses read c.args.accesses.now ≡ false =
@@ -78,6 +80,6 @@ returns-in-Bytes c =
     c.room_for.result ≡ written_by (output_rows [] (length c.args.out.now) size []) size =
     rw (races-length read c.args.accesses.now) c.room_for.ensures in
     let list = c.args.accesses.now in
-    let h = c.in-Bytes.is in
+    let h = c.in_ok-size.was in
     let p = list-passed read list c.args.out.now good in
     record { result_value = sym h ∙ answers ∙ sym p.0; out_after = c.put_races.ensures ∙ put _ _ (races read list) _ (sym answers ∙ h) ∙ sym p.1 }

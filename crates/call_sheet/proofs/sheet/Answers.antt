@@ -1,5 +1,6 @@
 -- `call_sheet::sheet` meets its contract: rows 1 to 10 and 23, and where none of them applies rows 11 and 21 and the bytes.
 -- Assumes nothing.
+use Rattle.std.proofs.Common.{Err, rules, ◌≡◌}
 use mathlib.Core.Path.{refl, ap, sym, ◌∙◌}
 use Prim.Native.Nat.{ℕ}
 use Rattle.chart.specs.Format.{decode}
@@ -20,22 +21,23 @@ survey-requires c = refl
 
 pub write_sheet-requires : goal.write_sheet-requires
 write_sheet-requires c =
-    let S = c.survey.ensures.survey _ c.in-Passed.is in
+    let S = c.survey.ensures.survey _ c.in_ok-chart.was in
     (S.accepted, S.marked)
 
-pub returns-in-Refused : goal.returns-in-Refused
-returns-in-Refused c =
+pub returns-in_err-chart : goal.returns-in_err-chart
+returns-in_err-chart c =
     let s = c.args.s.now in
     let p = c.args.region in
-    let n = refused-some _ (read_for (counts_of s) p) _ (sym c.survey.ensures.value ∙ c.in-Refused.is) in
+    let n = refused-some _ (read_for (counts_of s) p) _ (sym c.survey.ensures.value ∙ c.in_err-chart.was) in
     let both = refused-before (region_rows s p) (size_rows c.args.size) _ (sheet_result s p c.args.size) c.args.out.now _ n in
-    record { value = both.0; out_after = both.1 }
+    let same : c.from_residual.result ≡ Err c.in_err-chart.field-0.0 = search rules in
+    record { value = same ∙ both.0; out_after = both.1 }
 
-pub returns-in-Passed : goal.returns-in-Passed
-returns-in-Passed c =
+pub returns : goal.returns
+returns c =
     let s = c.args.s.now in
     let p = c.args.region in
-    let n = passed_none _ (read_for (counts_of s) p) _ (sym c.survey.ensures.value ∙ c.in-Passed.is) in
+    let n = passed_none _ (read_for (counts_of s) p) _ (sym c.survey.ensures.value ∙ c.in_ok-chart.was) in
     let named = sym (ap (λ (chart : Chart). chart.region) n.1) in
     let both = passed-named (region_rows s p) (size_rows c.args.size) (λ (q : ℕ). let R = region_of q (decode s) in sheet R (answer_for R c.args.size)) c.args.out.now named n.0
     c.write_sheet.ensures.result_value c.write_sheet.ensures.out_after in

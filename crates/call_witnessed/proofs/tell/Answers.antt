@@ -1,6 +1,7 @@
 -- `call_witnessed::tell` meets its contract: row 13, then row 22, then the answer.
 -- Assumes nothing.
-use mathlib.Core.Path.{◌≡◌, sym, ◌∙◌}
+use Rattle.std.specs.Prelude.{Ok}
+use mathlib.Core.Path.{◌≡◌, sym, ap, ◌∙◌}
 use mathlib.Core.Bool.{false, ◌||◌}
 use Prim.Native.Nat.{◌<◌}
 use native.Mathlib.Omega.{arith}
@@ -12,7 +13,7 @@ use Rattle.chart.proofs.Records.{nodes-length}
 use Rattle.theory_answers.specs.Numbers.{bad_number, good-number}
 use Rattle.mark_tables.proofs.Accepted.{well-formed}
 use Rattle.theory_calls.specs.Pair.{numbers_row}
-use Rattle.theory_calls.specs.Witness.{told, answered_by}
+use Rattle.theory_calls.specs.Witness.{answered_by}
 use Rattle.theory_traces.proofs.CorrectLaws.{whole-trace}
 use Rattle.call_witnessed.proofs.tell.Goals as goal
 
@@ -59,19 +60,8 @@ is_witness-requires c =
     let (least, most) = whole-trace _ _ (sym c.bad_trace.ensures ∙ c.if-bad_trace.false) in
     (c.requires, least, most, below-b)
 
-pub returns-then-is_witness : goal.returns-then-is_witness
-unfolding answered_by numbers_row first_of told
-returns-then-is_witness c =
-    let R : Region =
-    reading c.args.s.now c.args.chart in
-    let good-b : bad_number R c.args.b ≡ false =
-    sym c.bad_node-2.ensures ∙ c.if-bad_node-2.false in
-    let numbers : (bad_number R c.args.a || bad_number R c.args.b) ≡ false =
-    neither-or (bad_number R c.args.a) (bad_number R c.args.b) (sym c.bad_node.ensures ∙ c.if-bad_node.false) good-b in
-    rw (numbers, ← c.bad_trace.ensures, c.if-bad_trace.false, ← c.is_witness.ensures, c.if-is_witness.true)
-
 pub returns : goal.returns
-unfolding answered_by numbers_row first_of told
+unfolding answered_by numbers_row first_of
 returns c =
     let R : Region =
     reading c.args.s.now c.args.chart in
@@ -79,4 +69,4 @@ returns c =
     sym c.bad_node-2.ensures ∙ c.if-bad_node-2.false in
     let numbers : (bad_number R c.args.a || bad_number R c.args.b) ≡ false =
     neither-or (bad_number R c.args.a) (bad_number R c.args.b) (sym c.bad_node.ensures ∙ c.if-bad_node.false) good-b in
-    rw (numbers, ← c.bad_trace.ensures, c.if-bad_trace.false, ← c.is_witness.ensures, c.if-is_witness.false)
+    rw (numbers, ← c.bad_trace.ensures, c.if-bad_trace.false) (ap Ok c.is_witness.ensures)

@@ -18,7 +18,7 @@ returns c =
     let chart = c.args.chart in
     let laid = c.requires in
     let n = nodes-length s chart laid in
-    ap (leb chart.nodes) c.wide.ensures.0
+    ap (leb chart.nodes) c.from.ensures
     ∙ c.highest_edge.ensures.reaches chart.nodes (omega (arith, laid.two-nodes))
     ∙ edge_places chart.nodes (omega (arith, laid.two-nodes)) (omega (arith, laid.nodes-most)) s chart laid
     ∙ any_same (chart.edges - 1) _ (bad_next (decode s)) (λ i l. rw n at (told-next (decode s) i (omega (arith, laid.two-nodes)) (omega (arith, laid.nodes-most))))

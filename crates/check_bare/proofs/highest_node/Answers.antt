@@ -1,9 +1,6 @@
 -- `check_bare::highest_node` meets its contract.
 -- Assumes nothing.
-use mathlib.Core.Path.{◌≡◌, subst}
-use Prim.Native.Nat.{ℕ, ◌*◌}
 use native.Mathlib.Omega.{arith}
-use Rattle.check_bare.specs.Told.{node_place, Highest}
 use Rattle.check_bare.proofs.Places.{highest-none, highest-more}
 use Rattle.check_bare.proofs.highest_node.Goals as goal
 
@@ -12,10 +9,4 @@ loop-k-init c = (omega arith, highest-none _)
 
 pub loop-k-preserved : goal.loop-k-preserved
 loop-k-preserved c =
-    (omega arith, rw (c.larger-high.ensures, c.at_even-in-loop-k.ensures, c.at_even.ensures, c.tell_node.ensures) (highest-more c.loop-k.invariant.1))
-
-pub returns : goal.returns
-returns c =
-    let a = c.args in
-    let q : c.loop-k.k ≡ 4 * a.chart.nodes = omega arith in
-    subst (λ (k : ℕ). Highest (node_place a.s.now) k c.loop-k.high) q c.loop-k.invariant.1
+    (omega arith, rw (c.max-high.ensures, c.at_even-in-loop-k.ensures, c.at_even.ensures, c.tell_node.ensures) (highest-more c.loop-k.invariant.1))

@@ -1,7 +1,7 @@
 -- `check_edges::joins_sections` meets its contract: after i turns the first i edges are asked.
 -- Assumes nothing.
 use mathlib.Core.Path.{◌≡◌, refl, ap, ◌∙◌}
-use Prim.Native.Nat.{ℕ, ◌-◌}
+use Prim.Native.Nat.{ℕ}
 use native.Mathlib.Omega.{arith}
 use lib.ListN.{length}
 use Rattle.lists.specs.Flags.{flag-asks}
@@ -16,21 +16,15 @@ pub loop-i-init : goal.loop-i-init
 unfolding any
 loop-i-init c = (omega arith, refl)
 
-pub overflow_add-i : goal.overflow_add-i
-overflow_add-i c = omega arith
-
-pub loop-i-smaller : goal.loop-i-smaller
-loop-i-smaller c = omega arith
-
 pub loop-i-preserved : goal.loop-i-preserved
 loop-i-preserved c =
     let all = constructs-length _ c.args.chart c.requires.0 in
-    let from = c.wide.ensures in
-    let to = c.wide-in-loop-i.ensures in
+    let from = c.from.ensures in
+    let to = c.from-in-loop-i.ensures in
     let t = c.mark_sections.ensures in (
       omega arith,
-      joins-more c.loop-i.i c.requires.1 (omega arith) t.0 t.1 (omega (arith, from.0, from.1)) (omega (arith, to.0, to.1))
-          (from.0 ∙ c.read-edge.ensures.0) (to.0 ∙ c.read-edge.ensures.1) c.loop-i.invariant.1,
+      joins-more c.loop-i.i c.requires.1 (omega arith) t.0 t.1 (omega arith) (omega arith)
+          (from ∙ c.read-edge.ensures.0) (to ∙ c.read-edge.ensures.1) c.loop-i.invariant.1,
     )
 
 pub returns : goal.returns

@@ -1,5 +1,5 @@
 -- The invariants and measures of `check_edges::mark_sections`.
-use Prim.Native.Nat.{◌≤◌, ◌-◌}
+use Prim.Native.Nat.{◌≤◌}
 use Rattle.chart.specs.Format.{decode}
 use Rattle.chart.specs.Scope.{begin_node, end_node}
 use Rattle.check_edges.specs.Tables.{SectionsTo}
@@ -7,7 +7,4 @@ use Rattle.check_edges.proofs.mark_sections.Given as goal
 
 abbrev pub invariant-loop-c : goal.invariant-loop-c
 invariant-loop-c l =
-    (l.c ≤ l.chart.constructs) × SectionsTo (decode l.s) end_node l.c l.from × SectionsTo (decode l.s) begin_node l.c l.to
-
-abbrev pub decreases-loop-c : goal.decreases-loop-c
-decreases-loop-c l = l.chart.constructs - l.c
+    (l.c ≤ l.chart.constructs) × SectionsTo (decode l.s) end_node l.c l.marks.from × SectionsTo (decode l.s) begin_node l.c l.marks.to

@@ -2,11 +2,12 @@
 -- Assumes nothing.
 use mathlib.Core.List.{List}
 use mathlib.Core.Bool.{not, ◌||◌}
-use mathlib.Core.Path.{◌≡◌, ap, ◌∙◌}
+use mathlib.Core.Path.{◌≡◌, ap}
 use Prim.Native.Nat.{ℕ, ◌+◌, ◌*◌, ◌-◌}
 use lib.ListN.{length, drop}
 use lib.Dec.{eqb}
-use borrow.Author.Tests.{eq-eqb, ne_eqb}
+use Rattle.std.proofs.Common.{arith}
+use Rattle.std.proofs.lemmas.Bool.Decides.{nat_tests}
 use Rattle.chart.specs.Format.{field, construct_bytes, decode, last_trailer, trailer_of}
 use Rattle.chart.specs.declared.format.Chart.{Chart}
 use Rattle.chart.specs.Checked.{counts_of}
@@ -30,41 +31,14 @@ lengths-by s chart constructs q e = rw (
   ap (λ (k : Chart). k.constructs) q,
 )
 
-pub returns-then-all-n : goal.returns-then-all-n
-returns-then-all-n c =
-    rw (lengths-by _ c.args.chart _ c.requires.1 c.construct_bytes-constructs.ensures.0, ne_eqb _ _ c.if-all-n.true)
-
-pub returns-then-field-all : goal.returns-then-field-all
-returns-then-field-all c =
-    let f = trailer-field c.args.s.now c.trailer-cursor.result.at in
-    rw (
-      lengths-by _ c.args.chart _ c.requires.1 c.construct_bytes-constructs.ensures.0,
-      eq-eqb _ _ c.if-all-n.false,
-      ← c.field.ensures.0 ∙ f 8 c.trailer-cursor.ensures,
-      ne_eqb _ _ c.if-field-all.true,
-    )
-
 pub returns-then-field-e : goal.returns-then-field-e
 returns-then-field-e c =
     let f = trailer-field c.args.s.now c.trailer-cursor.result.at in
-    rw (
-      lengths-by _ c.args.chart _ c.requires.1 c.construct_bytes-constructs.ensures.0,
-      eq-eqb _ _ c.if-all-n.false,
-      ← c.field.ensures.0 ∙ f 8 c.trailer-cursor.ensures,
-      eq-eqb _ _ c.if-field-all.false,
-      ← c.field-2.ensures.0 ∙ f 10 c.trailer-cursor.ensures,
-      ne_eqb _ _ c.if-field-e.true,
-    )
+    let e = c.trailer-cursor.ensures in
+    grind (arith, nat_tests, lengths-by _ c.args.chart _ c.requires.1 c.construct_bytes-constructs.ensures.0, f 8 e, f 10 e, f 12 e)
 
-pub returns : goal.returns
-returns c =
+pub returns-else-field-e : goal.returns-else-field-e
+returns-else-field-e c =
     let f = trailer-field c.args.s.now c.trailer-cursor.result.at in
-    rw (
-      lengths-by _ c.args.chart _ c.requires.1 c.construct_bytes-constructs.ensures.0,
-      eq-eqb _ _ c.if-all-n.false,
-      ← c.field.ensures.0 ∙ f 8 c.trailer-cursor.ensures,
-      eq-eqb _ _ c.if-field-all.false,
-      ← c.field-2.ensures.0 ∙ f 10 c.trailer-cursor.ensures,
-      eq-eqb _ _ c.if-field-e.false,
-      ← c.field-3.ensures.0 ∙ f 12 c.trailer-cursor.ensures,
-    )
+    let e = c.trailer-cursor.ensures in
+    grind (arith, nat_tests, lengths-by _ c.args.chart _ c.requires.1 c.construct_bytes-constructs.ensures.0, f 8 e, f 10 e, f 12 e)

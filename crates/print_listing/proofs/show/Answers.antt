@@ -14,9 +14,9 @@ use Rattle.print_listing.proofs.show.Goals as goal
 pub slice_bounds-chart-end : goal.slice_bounds-chart-end
 unfolding listing_written listing_rows
 slice_bounds-chart-end g c =
-    let room : c.in-Bytes.size ≤ 3120 =
+    let room : c.in-Ok.size ≤ 3120 =
     let text = c.args.text.now in
-    let r = had-room (block_rows (listed text)) [] 3120 (length (listing_bytes text)) (sym c.listing.ensures.value ∙ c.in-Bytes.is) in
+    let r = had-room (block_rows (listed text)) [] 3120 (length (listing_bytes text)) (sym c.listing.ensures.value ∙ c.in-Ok.is) in
     omega (arith, r.0, r.1) in
     let long : length c.listing.new.out ≡ 3120 = search rules in
     omega (arith, room, long)
@@ -24,9 +24,9 @@ slice_bounds-chart-end g c =
 pub slice_bounds-print-end : goal.slice_bounds-print-end
 unfolding listing_written listing_rows
 slice_bounds-print-end g c =
-    let room : c.in-Bytes.size ≤ 3120 =
+    let room : c.in-Ok.size ≤ 3120 =
     let text = c.args.text.now in
-    let r = had-room (block_rows (listed text)) [] 3120 (length (listing_bytes text)) (sym c.listing.ensures.value ∙ c.in-Bytes.is) in
+    let r = had-room (block_rows (listed text)) [] 3120 (length (listing_bytes text)) (sym c.listing.ensures.value ∙ c.in-Ok.is) in
     omega (arith, r.0, r.1) in
     let long : length c.listing.new.out ≡ 3120 = search rules in
-    omega (arith, room, long, length-take c.in-Bytes.size c.listing.new.out)
+    omega (arith, room, long, length-take c.in-Ok.size c.listing.new.out)

@@ -1,8 +1,7 @@
 -- `answer_claims::list::first_false` meets its contract. The loop's invariant: none of the claims passed is false.
 -- Assumes nothing.
 use mathlib.Core.Path.{◌≡◌, refl, ap, sym, ◌∙◌}
-use mathlib.Core.Bool.{false}
-use Prim.Native.Nat.{ℕ, ◌-◌, ◌/◌}
+use Prim.Native.Nat.{ℕ, ◌/◌}
 use native.Mathlib.Omega.{arith}
 use lib.ListN.{length}
 use Rattle.lists.specs.Range.{any, at-any, any-more, first-is}
@@ -15,21 +14,12 @@ pub loop-k-init : goal.loop-k-init
 unfolding any
 loop-k-init c = (omega arith, λ R size M Z h. refl)
 
-pub is_false-requires : goal.is_false-requires
-is_false-requires c = (omega arith, c.requires)
-
 pub returns-then-is_false : goal.returns-then-is_false
 unfolding verdict total
 returns-then-is_false c R size M Z h =
     let claims = c.args.claims.now in
     let p = sym (c.is_false.ensures R size M Z h) ∙ c.if-is_false.true in
     rw (at-any (length claims / 2) (is_false (answer_for R size) claims) c.loop-k.k (omega arith) p, first-is (length claims / 2) (is_false (answer_for R size) claims) c.loop-k.k (omega arith) p (c.loop-k.invariant.1 R size M Z h))
-
-pub overflow_add-k : goal.overflow_add-k
-overflow_add-k c = omega arith
-
-pub loop-k-smaller : goal.loop-k-smaller
-loop-k-smaller c = omega arith
 
 pub loop-k-preserved : goal.loop-k-preserved
 loop-k-preserved c =

@@ -1,7 +1,7 @@
 -- The invariants and measures of `answer_claims::list::first_false`.
 use mathlib.Core.Path.{◌≡◌}
 use mathlib.Core.Bool.{false}
-use Prim.Native.Nat.{◌-◌, ◌/◌, ◌≤◌}
+use Prim.Native.Nat.{◌/◌, ◌≤◌}
 use lib.ListN.{length}
 use Rattle.lists.specs.Range.{any}
 use Rattle.theory_answers.specs.Answer.{answer_for}
@@ -12,6 +12,3 @@ use Rattle.answer_claims.proofs.list.first_false.Given as goal
 abbrev pub invariant-loop-k : goal.invariant-loop-k
 invariant-loop-k l =
     (l.k ≤ length l.claims / 2) × OfMarks l.marks l.sets l.claims (λ R size. any l.k (is_false (answer_for R size) l.claims) ≡ false)
-
-abbrev pub decreases-loop-k : goal.decreases-loop-k
-decreases-loop-k l = length l.claims / 2 - l.k

@@ -6,18 +6,11 @@ use Rattle.theory_calls.specs.Claims.{left, right, is_false}
 use Rattle.theory_calls.proofs.CorrectLaws.{good-numbers}
 use Rattle.answer_claims.proofs.list.is_false.Goals as goal
 
-pub pair-requires : goal.pair-requires
-pair-requires c =
-    let k = c.args.k in
-    (omega (arith, c.wide-a.ensures.0, c.requires.1 (2 * k)), omega (arith, c.wide-b.ensures.0, c.requires.1 (2 * k + 1)))
-
 pub returns : goal.returns
 unfolding is_false left right
 returns c R size M Z h =
     let k = c.args.k in
-    let a = c.wide-a.ensures.0 in
-    let b = c.wide-b.ensures.0 in
     let below-a = (good-numbers R _ h (2 * k) (omega arith) M.well-formed).0 in
     let below-b = (good-numbers R _ h (2 * k + 1) (omega arith) M.well-formed).0 in
-    let r = c.pair.ensures R size M Z (omega (arith, a, below-a)) (omega (arith, b, below-b)) in
-    cc (r, a, b)
+    let r = c.pair.ensures R size M Z (omega (arith, below-a)) (omega (arith, below-b)) in
+    cc r

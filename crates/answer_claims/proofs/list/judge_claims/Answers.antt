@@ -1,6 +1,7 @@
 -- `answer_claims::list::judge_claims` meets its contract: row 12, then row 13, then row 21, then the verdict.
 -- Assumes nothing.
-use mathlib.Core.Path.{◌≡◌, sym, ◌∙◌}
+use mathlib.Core.Path.{◌≡◌, sym, ap, ◌∙◌}
+use Rattle.std.specs.Prelude.{Ok}
 use mathlib.Core.Bool.{false}
 use Prim.Native.Nat.{◌%◌}
 use native.Mathlib.Omega.{arith}
@@ -19,9 +20,6 @@ pub returns-then-claims-eq1 : goal.returns-then-claims-eq1
 unfolding answered first_of claim_rows odd_bytes
 returns-then-claims-eq1 c = rw (eq-eqb (length c.args.claims.now % 2) 1 (omega arith))
 
-pub bad_numbers-requires : goal.bad_numbers-requires
-bad_numbers-requires c = (c.requires.0, c.requires.1.well-formed)
-
 pub returns-then-bad_numbers : goal.returns-then-bad_numbers
 unfolding answered first_of claim_rows odd_bytes
 returns-then-bad_numbers c =
@@ -39,9 +37,6 @@ returns-then-bad_size c =
     let rest : first_of (claim_rows R c.args.size c.args.claims.now) ≡ first_of (size_rows c.args.size) =
     rw (ne_eqb (length c.args.claims.now % 2) 1 (omega arith), good) in
     rw (rest, c.bad_size.ensures, c.if-bad_size.true)
-
-pub sets_for-requires : goal.sets_for-requires
-sets_for-requires c = c.requires.0
 
 pub first_false-requires : goal.first_false-requires
 first_false-requires c =
@@ -63,4 +58,4 @@ returns c =
     rw (ne_eqb (length c.args.claims.now % 2) 1 (omega arith), good) in
     let Z = c.sets_for.ensures.sized in
     let same = c.sets_for.ensures.kinds_value in
-    rw (rest, c.bad_size.ensures, c.if-bad_size.false) (c.first_false.ensures R c.args.size (rw same c.requires.1) Z good)
+    rw (rest, c.bad_size.ensures, c.if-bad_size.false) (ap Ok (c.first_false.ensures R c.args.size (rw same c.requires.1) Z good))

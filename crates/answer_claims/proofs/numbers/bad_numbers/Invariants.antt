@@ -2,8 +2,8 @@
 use mathlib.Core.Path.{◌≡◌}
 use mathlib.Core.Bool.{Bool, false}
 use mathlib.Core.List.{List}
-use Prim.Native.Nat.{ℕ, ◌-◌, ◌≤◌, ◌<◌}
-use lib.ListN.{length, get_or}
+use Prim.Native.Nat.{ℕ, ◌<◌}
+use lib.ListN.{get_or}
 use Rattle.lists.specs.Range.{any}
 use Rattle.chart.specs.Region.{Region}
 use Rattle.theory_answers.specs.Numbers.{bad_number}
@@ -12,9 +12,6 @@ use Rattle.answer_claims.proofs.numbers.bad_numbers.Given as goal
 abbrev pub is_bad : Region → List ℕ → ℕ → Bool
 is_bad R claims j = bad_number R (get_or claims j 0)
 
-abbrev pub invariant-loop-j : goal.invariant-loop-j
-invariant-loop-j l =
-    (l.j ≤ length l.claims) × ((R : Region) → ((x : ℕ) → x < 256 → get_or l.bad x false ≡ bad_number R x) → l.found ≡ any l.j (is_bad R l.claims))
-
-abbrev pub decreases-loop-j : goal.decreases-loop-j
-decreases-loop-j l = length l.claims - l.j
+abbrev pub invariant-loop-x : goal.invariant-loop-x
+invariant-loop-x l =
+    (R : Region) → ((x : ℕ) → x < 256 → get_or l.bad x false ≡ bad_number R x) → l.found ≡ any l.x-index (is_bad R l.claims)

@@ -7,22 +7,9 @@ use Rattle.answer_constructs.proofs.Nodes.{none-held}
 use Rattle.answer_constructs.proofs.Laying.{laid-held}
 use Rattle.answer_constructs.proofs.held.fill_held.Goals as goal
 
-pub returns-then-n-eq0 : goal.returns-then-n-eq0
-returns-then-n-eq0 c =
-    record { kinds = c.kinds_of-kinds.ensures; held_below = rw c.requires.2 (record { long = refl; has-held = λ x l. none-held _ c.args.chart c.requires.0 c.if-n-eq0.true x; rest = λ x l. zeros 192 x }) }
-
-pub bounds-kinds-0 : goal.bounds-kinds-0
-bounds-kinds-0 c = omega arith
-
-pub fill_chains-requires : goal.fill_chains-requires
-fill_chains-requires c =
-    (c.requires.0, c.requires.1, c.kinds_of-kinds.ensures 0 (omega arith), refl)
-
-pub bounds-kinds-3 : goal.bounds-kinds-3
-bounds-kinds-3 c = omega arith
-
-pub lay_out-requires : goal.lay_out-requires
-lay_out-requires c = (c.requires.0, rw c.requires.2 refl)
+pub returns-then-chart-eq0 : goal.returns-then-chart-eq0
+returns-then-chart-eq0 c =
+    record { kinds = c.kinds_of-kinds.ensures; held_below = rw c.requires.2 (record { long = refl; has-held = λ x l. none-held _ c.args.chart c.requires.0 c.if-chart-eq0.true x; rest = λ x l. zeros 192 x }) }
 
 pub returns : goal.returns
 returns c =

@@ -1,47 +1,35 @@
--- `answer_constructs::members::members_of` meets its contract. The loop's invariant: the mask has the members passed.
+-- `answer_constructs::members::members_of` meets its contract.
 -- Assumes nothing.
-use mathlib.Core.Path.{◌≡◌, refl, sym, subst, ◌∙◌}
-use Prim.Native.Nat.{◌-◌}
-use native.Mathlib.Omega.{arith}
+use Rattle.std.proofs.Common.{◌≡◌, Bool, List, ℕ, ◌<◌, ◌∙◌, sym, subst, rules, arith, length}
 use Rattle.lists.specs.Mask.{mask_of}
+use Rattle.chart.specs.Format.{outside, decode, construct_at}
 use Rattle.chart.specs.Scope.{parent_of}
+use Rattle.chart.specs.Nested.{counts_in}
+use Rattle.chart.specs.declared.format.Chart.{Chart}
 use Rattle.chart.proofs.Records.{constructs-length}
 use Rattle.chart.proofs.Tree.{Below}
+use Rattle.mark_tables.specs.Tables.{Accepted}
 use Rattle.mark_tables.proofs.Accepted.{tables}
-use Rattle.answer_constructs.proofs.Constructs.{index_below, parent-lower, test-next}
+use Rattle.answer_constructs.specs.Chains.{is_member}
+use Rattle.answer_constructs.proofs.Constructs.{index_below, parent-lower}
 use Rattle.answer_constructs.proofs.Membership.{member-next}
 use Rattle.answer_constructs.proofs.members.members_of.Goals as goal
 
-pub loop-c-init : goal.loop-c-init
-unfolding mask_of
-loop-c-init c = (omega arith, refl)
+module _ {s : List ℕ} {chart : Chart} (A : Accepted s chart) (c : ℕ) (l : c < chart.constructs) where
+  counted : c < length (decode s).constructs
+  counted = omega (arith, constructs-length s chart A.laid)
 
-pub read-construct-requires : goal.read-construct-requires
-read-construct-requires c = (c.requires.laid, omega arith)
+  parent-fits : {p : ℕ} → p ≡ (construct_at (decode s).constructs c).parent → (p ≡ outside → ⊥) → p < 48
+  unfolding parent_of
+  parent-fits q = index_below (omega (arith, A.laid.constructs-most)) (subst (Below c) (sym q) (parent-lower s chart A c counted))
 
-pub is_member-requires : goal.is_member-requires
-unfolding parent_of
-is_member-requires c =
-    index_below (omega (arith, c.requires.laid.constructs-most))
-    (subst (Below c.loop-c.c) (sym c.read-construct.ensures.1) (parent-lower _ c.args.chart c.requires c.loop-c.c (omega (arith, constructs-length _ c.args.chart c.requires.laid))))
+  member-told : {kind p : ℕ} {b : Bool} → kind ≡ (construct_at (decode s).constructs c).kind → p ≡ (construct_at (decode s).constructs c).parent
+      → b ≡ is_member kind p chart.region (mask_of (counts_in (decode s).constructs chart.region) c) → b ≡ counts_in (decode s).constructs chart.region c
+  unfolding parent_of
+  member-told k q e = e ∙ rw (k, q) (member-next _ (tables s chart A) chart.region A.named c counted)
 
-pub add_if-members-requires : goal.add_if-members-requires
-add_if-members-requires c = omega (arith, c.requires.laid.constructs-most)
-
-pub overflow_add-c : goal.overflow_add-c
-overflow_add-c c = omega arith
-
-pub loop-c-smaller : goal.loop-c-smaller
-loop-c-smaller c = omega arith
-
-pub loop-c-preserved : goal.loop-c-preserved
-unfolding parent_of
-loop-c-preserved c =
-    let f = c.read-construct.ensures in
-    let next = member-next _ (tables _ c.args.chart c.requires) c.args.chart.region c.requires.named c.loop-c.c (omega (arith, constructs-length _ c.args.chart c.requires.laid)) in
-    (omega arith, test-next _ c.loop-c.c (c.is_member.ensures ∙ rw (f.0, f.1, c.loop-c.invariant.1) next) c.loop-c.invariant.1 c.add_if-members.ensures)
+pub passing-requires-clause-callable : goal.passing-requires-clause-callable
+passing-requires-clause-callable c = λ k m l w. search (rules, c.requires.laid, parent-fits c.requires k l)
 
 pub returns : goal.returns
-returns c =
-    let q : c.loop-c.c ≡ c.args.chart.constructs = omega arith in
-    rw q at c.loop-c.invariant.1
+returns c = c.passing.ensures (counts_in (decode c.args.s.now).constructs c.args.chart.region) (λ d b l p. search (rules, member-told c.requires d l))

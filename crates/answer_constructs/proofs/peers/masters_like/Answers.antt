@@ -1,6 +1,5 @@
 -- `answer_constructs::peers::masters_like` meets its contract.
 -- Assumes nothing.
-use mathlib.Core.Path.{◌∙◌}
 use native.Mathlib.Omega.{arith}
 use Rattle.chart.proofs.Records.{constructs-length}
 use Rattle.answer_constructs.proofs.Masters.{all-peers, like-peers}
@@ -9,10 +8,6 @@ use Rattle.answer_constructs.proofs.peers.masters_like.Goals as goal
 pub returns-then-chart-ne-EDITION_2 : goal.returns-then-chart-ne-EDITION_2
 returns-then-chart-ne-EDITION_2 c =
     record { fact = (λ k. all-peers _ c.args.chart c.requires.0 c.args.c c.if-chart-ne-EDITION_2.true c.requires.2); known = c.requires.3 }
-
-pub returns-then-construct-ne-MASTER : goal.returns-then-construct-ne-MASTER
-returns-then-construct-ne-MASTER c =
-    record { fact = (λ k. absurd (c.if-construct-ne-MASTER.true (c.read-construct.ensures.0 ∙ k))); known = c.requires.3 }
 
 pub returns : goal.returns
 returns c =

@@ -10,12 +10,6 @@ use Rattle.answer_constructs.specs.Chains.{like_mask}
 use Rattle.answer_constructs.proofs.Noted.{known-there, known-added}
 use Rattle.answer_constructs.proofs.peers.noted_peers.Goals as goal
 
-pub offset_bounds-known-c : goal.offset_bounds-known-c
-offset_bounds-known-c c = omega (arith, c.requires.0.constructs-most, c.requires.1)
-
-pub bounds-known-c : goal.bounds-known-c
-bounds-known-c c = omega (arith, c.requires.0.constructs-most, c.requires.1)
-
 pub returns-then-noted-ne0 : goal.returns-then-noted-ne0
 returns-then-noted-ne0 c =
     let below : c.args.c < length (decode c.args.s.now).constructs =

@@ -4,12 +4,6 @@ use mathlib.Core.Path.{refl}
 use Rattle.answer_constructs.proofs.Lacked.{over-lacked}
 use Rattle.answer_constructs.proofs.sizes.sets_for.Goals as goal
 
-pub missing_of-requires : goal.missing_of-requires
-missing_of-requires c = c.requires.laid
-
-pub returns-in-Any : goal.returns-in-Any
-returns-in-Any c = record { sized = rw c.in-Any.is (refl, refl); kinds_value = refl }
-
 pub returns-in-Of : goal.returns-in-Of
 returns-in-Of c =
     record { sized = rw c.in-Of.is (refl, rw c.missing_of.ensures (over-lacked _ c.args.chart c.requires _)); kinds_value = refl }

@@ -1,5 +1,4 @@
 -- The invariants and measures of `answer_locks::needed::needing`.
-use Prim.Native.Nat.{◌-◌}
 use Rattle.answer_locks.specs.Search.{has_named}
 use Rattle.answer_locks.proofs.Picking.{Picking}
 use Rattle.answer_locks.proofs.needed.needing.Given as goal

@@ -1,10 +1,7 @@
 -- `answer_locks::needed::try_node` meets its contract: the node is skipped, or tried.
 -- Assumes nothing.
-use Rattle.answer_locks.proofs.Turns.{skip-tries, new-tries}
+use Rattle.answer_locks.proofs.Turns.{new-tries}
 use Rattle.answer_locks.proofs.needed.try_node.Goals as goal
-
-pub returns-then-skips : goal.returns-then-skips
-returns-then-skips c = λ shut marks names I N K. skip-tries (c.skips.ensures.0 c.if-skips.true) K
 
 pub returns : goal.returns
 returns c = λ shut marks names I N K.

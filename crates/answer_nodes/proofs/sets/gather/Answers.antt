@@ -1,7 +1,6 @@
 -- `answer_nodes::sets::gather` meets its contract. The loop's invariant: once the run is added, the sets have the nodes passed.
 -- Assumes nothing.
 use mathlib.Core.Path.{refl, sym, ◌∙◌}
-use Prim.Native.Nat.{◌-◌}
 use native.Mathlib.Omega.{arith}
 use Rattle.lists.specs.Mask.{mask_of}
 use Rattle.lists.specs.Bits.{mask_next}
@@ -9,36 +8,9 @@ use Rattle.answer_nodes.specs.Gathered.{having}
 use Rattle.answer_nodes.proofs.Runs.{none-pending, mask-short, none-having}
 use Rattle.answer_nodes.proofs.sets.gather.Goals as goal
 
-pub count_from-end-requires : goal.count_from-end-requires
-count_from-end-requires c = tt
-
 pub loop-j-init : goal.loop-j-init
 unfolding mask_of
 loop-j-init c = (omega arith, rw c.requires.2 refl, λ b l. rw c.requires.2 (none-pending b))
-
-pub overflow_add-first : goal.overflow_add-first
-overflow_add-first c = omega arith
-
-pub bounds-closed-first : goal.bounds-closed-first
-bounds-closed-first c = omega arith
-
-pub overflow_add-first-in-loop-j : goal.overflow_add-first-in-loop-j
-overflow_add-first-in-loop-j c = omega arith
-
-pub offset_bounds-masks-first : goal.offset_bounds-masks-first
-offset_bounds-masks-first c = omega arith
-
-pub bounds-masks-first : goal.bounds-masks-first
-bounds-masks-first c = omega arith
-
-pub take-run-requires : goal.take-run-requires
-take-run-requires c = (c.loop-j.invariant.1, omega (arith, c.count_from-end.ensures.0, c.loop-j-test.true))
-
-pub overflow_add-j : goal.overflow_add-j
-overflow_add-j c = omega arith
-
-pub loop-j-smaller : goal.loop-j-smaller
-loop-j-smaller c = omega arith
 
 pub loop-j-preserved : goal.loop-j-preserved
 loop-j-preserved c =
@@ -47,9 +19,6 @@ loop-j-preserved c =
       c.take-run.ensures.0,
       λ b m. c.take-run.ensures.1 b m ∙ rw (c.loop-j.invariant.2 b m) (sym (mask_next (having e.closed.now e.masks.now e.first b) c.loop-j.j)),
     )
-
-pub add-requires : goal.add-requires
-add-requires c = c.loop-j.invariant.1
 
 pub returns : goal.returns
 returns c =

@@ -1,12 +1,9 @@
 -- `answer_nodes::sets::take` meets its contract.
 -- Assumes nothing.
 use Prim.Native.Nat.{◌^◌}
-use borrow.Author.Tests.{eq-eqb, ne_eqb}
+use borrow.Author.Tests.{eq-eqb}
 use Rattle.answer_nodes.proofs.Runs.{joins, starts}
 use Rattle.answer_nodes.proofs.sets.take.Goals as goal
-
-pub returns-then-closed-ne0 : goal.returns-then-closed-ne0
-returns-then-closed-ne0 c = (c.requires.0, λ b l. rw (ne_eqb _ 0 c.if-closed-ne0.true))
 
 pub returns-then-mask-run : goal.returns-then-mask-run
 returns-then-mask-run c = (

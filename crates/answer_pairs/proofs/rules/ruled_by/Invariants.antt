@@ -1,14 +1,11 @@
 -- The invariants and measures of `answer_pairs::rules::ruled_by`.
 use mathlib.Core.Path.{◌≡◌}
 use mathlib.Core.Bool.{false}
-use Prim.Native.Nat.{◌-◌, ◌≤◌}
+use Prim.Native.Nat.{◌≤◌}
 use lib.ListN.{get_or}
 use Rattle.lists.specs.Range.{any}
 use Rattle.lists.specs.Common.{common}
 use Rattle.answer_pairs.proofs.rules.ruled_by.Given as goal
 
 abbrev pub invariant-loop-k : goal.invariant-loop-k
-invariant-loop-k l = (l.k ≤ 4) × (any l.k (λ j. common l.both (get_or l.kinds j 0)) ≡ false)
-
-abbrev pub decreases-loop-k : goal.decreases-loop-k
-decreases-loop-k l = 4 - l.k
+invariant-loop-k l = (l.k ≤ 4) × (any l.k (λ j. common l.both (get_or l.sets.kinds j 0)) ≡ false)

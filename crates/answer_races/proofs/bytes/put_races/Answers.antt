@@ -11,16 +11,16 @@ use Rattle.chart.specs.Checked.{reading}
 use Rattle.chart.proofs.Records.{nodes-length}
 use Rattle.theory_calls.specs.Access.{access_at}
 use Rattle.theory_calls.proofs.RaceLaws.{whole-accesses, few-accesses}
-use Rattle.answer_constructs.proofs.Past.{rows-past}
+use Rattle.answer_nodes.proofs.Joining.{rows-past}
 use Rattle.answer_races.proofs.BytesLaws.{fields_fit, all-pairs}
 use Rattle.answer_races.proofs.bytes.put_races.Goals as goal
 
 pub gather_all-requires : goal.gather_all-requires
 gather_all-requires c =
-    (λ r l x. rows-past c.requires.1.1 (nodes-length _ c.args.chart c.requires.0.laid) r x l, refl)
+    (rows-past c.requires.1.1 (nodes-length _ c.args.chart c.requires.0.laid), refl)
 
-pub gather_names-requires : goal.gather_names-requires
-gather_names-requires c =
+pub gather_sets-requires : goal.gather_sets-requires
+gather_sets-requires c =
     (λ x l m. c.fill_names.ensures.by_index x l ∙ zeros 192 x, refl)
 
 pub fill_races-requires : goal.fill_races-requires

@@ -1,82 +1,25 @@
 -- `answer_races::lines::fill_lines` meets its contract. The loop's invariant: the lines passed are there, and what is kept is of some node's masks.
 -- Assumes nothing.
-use mathlib.Core.Path.{subst, sym, ◌∙◌}
-use Prim.Native.Nat.{◌-◌, ◌<◌}
+use mathlib.Core.Path.{subst, ◌∙◌}
+use mathlib.Core.List.{List}
+use Prim.Native.Nat.{ℕ, ◌+◌, ◌<◌}
 use native.Mathlib.Omega.{arith}
-use lib.ListN.{get_or, length-set}
+use lib.ListN.{length, get_or, set, length-set}
+use lib.Seq.{get_or-set_same, get_or-set_other}
+use borrow.Author.Count.{below_more}
 use Rattle.answer_pairs.specs.declared.rules.Profile.{Profile}
-use Rattle.answer_nodes.proofs.Joining.{stored_row}
-use Rattle.answer_met.specs.Meets.{meets, NodeSet}
+use Rattle.answer_races.specs.declared.rows.Line.{Line}
+use Rattle.answer_races.specs.Bytes.{no_line, line_at}
 use Rattle.answer_races.specs.Lines.{LineOf}
 use Rattle.answer_races.proofs.lines.fill_lines.Invariants.{Lined}
 use Rattle.answer_races.proofs.lines.fill_lines.Goals as goal
 
--- the line of node a, unless it is closed
-pub profile_of-requires : goal.profile_of-requires
-profile_of-requires c = omega arith
-
-pub kept_of-kept-requires : goal.kept_of-kept-requires
-kept_of-kept-requires c = tt
-
-pub loop-a-init : goal.loop-a-init
-loop-a-init c =
-    let (own, met) = c.kept_of-kept.ensures in (
-      omega arith,
-      c.requires.3,
-      subst (λ (x : Profile). NodeSet c.args.closed.now (meets x c.args.marks.now) c.kept_of-kept.result.met) (sym own) (met _ _ c.requires.1),
-      λ b l. absurd (omega arith),
-    )
-
-pub profile_of-requires-in-loop-a : goal.profile_of-requires-in-loop-a
-profile_of-requires-in-loop-a c =
-    let low : c.loop-a.a < 192 =
-    omega (arith, c.requires.0) in
-    low
-
-pub bounds-closed-a : goal.bounds-closed-a
-bounds-closed-a c =
-    let low : c.loop-a.a < 192 =
-    omega (arith, c.requires.0) in
-    low
-
-pub keep-kept-requires : goal.keep-kept-requires
-keep-kept-requires c = tt
-
-pub offset_bounds-names-a : goal.offset_bounds-names-a
-offset_bounds-names-a c =
-    let low : c.loop-a.a < 192 =
-    omega (arith, c.requires.0) in
-    omega (arith, low)
-
-pub bounds-names-a : goal.bounds-names-a
-bounds-names-a c =
-    let low : c.loop-a.a < 192 =
-    omega (arith, c.requires.0) in
-    low
-
-pub line_of-requires : goal.line_of-requires
-line_of-requires c = tt
-
-pub offset_bounds-lines-a : goal.offset_bounds-lines-a
-offset_bounds-lines-a c =
-    let low : c.loop-a.a < 192 =
-    omega (arith, c.requires.0) in
-    omega (arith, low)
-
-pub bounds-lines-a : goal.bounds-lines-a
-bounds-lines-a c =
-    let low : c.loop-a.a < 192 =
-    omega (arith, c.requires.0) in
-    low
-
-pub overflow_add-a : goal.overflow_add-a
-overflow_add-a c =
-    let low : c.loop-a.a < 192 =
-    omega (arith, c.requires.0) in
-    omega (arith, low)
-
-pub loop-a-smaller : goal.loop-a-smaller
-loop-a-smaller c = omega arith
+-- one line more is stored
+stored_line : (P : ℕ → Line → Type 0) (l : List Line) (i : ℕ) (v : Line) → i < length l → P i v → ((j : ℕ) → j < i → P j (line_at l j))
+    → (j : ℕ) → j < i + 1 → P j (line_at (set l i v) j)
+stored_line P l i v b p old = below_more _ _
+    (λ j h. rw (get_or-set_other l i j v no_line (λ e. omega arith)) (old j h))
+    (rw (get_or-set_same l i v no_line b) p)
 
 pub loop-a-preserved : goal.loop-a-preserved
 loop-a-preserved c =
@@ -91,10 +34,7 @@ loop-a-preserved c =
       omega arith,
       length-set c.loop-a.lines a _ ∙ long,
       M,
-      stored_row (Lined closed marks names) c.loop-a.lines a _ (omega (arith, low))
+      stored_line (Lined closed marks names) c.loop-a.lines a _ (omega (arith, low))
           (λ z. subst (λ (x : Profile). LineOf closed marks names x (get_or names a 0) c.line_of.result) (c.keep-kept.ensures.0 z ∙ c.profile_of-in-loop-a.ensures)
           (c.line_of.ensures closed marks names c.keep-kept.result.own M c.requires.2)) done,
     )
-
-pub returns : goal.returns
-returns c a l z = c.loop-a.invariant.3 a (omega arith) z

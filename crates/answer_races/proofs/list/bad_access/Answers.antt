@@ -1,18 +1,14 @@
 -- `answer_races::list::bad_access` meets its contract.
 -- Assumes nothing.
-use Prim.Native.Nat.{◌+◌, ◌*◌, ◌≤◌}
-use native.Mathlib.Omega.{arith}
-use lib.ListN.{get_or}
+use mathlib.Core.Path.{refl}
 use borrow.Author.Tests.{lt-ltb, le-ltb}
 use Rattle.theory_calls.specs.Access.{access_at, bad_access}
 use Rattle.answer_races.proofs.list.bad_access.Goals as goal
 
-pub returns-then-accesses-i-gt-WRITE : goal.returns-then-accesses-i-gt-WRITE
+pub returns-then-accesses-at-gt-WRITE : goal.returns-then-accesses-at-gt-WRITE
 unfolding bad_access access_at
-returns-then-accesses-i-gt-WRITE c R W q C = rw (lt-ltb 1 _ c.if-accesses-i-gt-WRITE.true)
+returns-then-accesses-at-gt-WRITE c R W q C = rw (lt-ltb 1 _ c.if-accesses-at-gt-WRITE.true) refl
 
-pub returns : goal.returns
+pub returns-else-accesses-at-gt-WRITE : goal.returns-else-accesses-at-gt-WRITE
 unfolding bad_access access_at
-returns c R W q C =
-    let small : get_or c.args.accesses.now (4 * c.args.i + 1) 0 ≤ 1 = omega (arith, c.if-accesses-i-gt-WRITE.false) in
-    rw (le-ltb 1 _ small, ← c.wide.ensures.0) (c.bad_number.ensures R W q C)
+returns-else-accesses-at-gt-WRITE c R W q C = rw (le-ltb 1 _ c.if-accesses-at-gt-WRITE.false, ← c.from.ensures) (c.bad_number.ensures R W q C)

@@ -9,8 +9,8 @@ use Rattle.answer_races.proofs.rows.race_of.Goals as goal
 
 pub race_at-requires : goal.race_at-requires
 unfolding access_at
-race_at-requires c = omega (arith, c.wide.ensures.0, c.requires.1)
+race_at-requires c = omega (arith, c.from.ensures, c.requires.1)
 
 pub returns : goal.returns
 unfolding access_at
-returns c = c.race_at.ensures ∙ ap (λ (b : ℕ). line_race c.args.line.now b) c.wide.ensures.0
+returns c = c.race_at.ensures ∙ ap (λ (b : ℕ). line_race c.args.line.now b) c.from.ensures

@@ -13,46 +13,7 @@ pub loop-i-init : goal.loop-i-init
 loop-i-init c =
     let n = length c.args.accesses.now / 4 in
     let few : n ≤ 1024 = omega (arith, c.requires.0) in
-    (omega arith, c.requires.1, length-replicate {A = ℕ} 1021 1024, heads-none (bucket c.args.accesses.now) n few, λ j l m. absurd (omega arith))
-
-pub overflow_sub-i : goal.overflow_sub-i
-overflow_sub-i c = omega arith
-
-pub variable_at-bucket-requires : goal.variable_at-bucket-requires
-variable_at-bucket-requires c = omega arith
-
-pub offset_bounds-heads-bucket : goal.offset_bounds-heads-bucket
-offset_bounds-heads-bucket c = omega arith
-
-pub bounds-heads-bucket : goal.bounds-heads-bucket
-bounds-heads-bucket c = omega arith
-
-pub offset_bounds-under-i : goal.offset_bounds-under-i
-offset_bounds-under-i c =
-    let few : c.loop-i.i - 1 < 1024 =
-    omega (arith, c.requires.0) in
-    omega (arith, few)
-
-pub bounds-under-i : goal.bounds-under-i
-bounds-under-i c =
-    let few : c.loop-i.i - 1 < 1024 =
-    omega (arith, c.requires.0) in
-    omega (arith, few)
-
-pub overflow_cast-heads : goal.overflow_cast-heads
-overflow_cast-heads c =
-    let few : c.loop-i.i - 1 < 1024 =
-    omega (arith, c.requires.0) in
-    omega (arith, few)
-
-pub offset_bounds-heads-bucket-in-loop-i : goal.offset_bounds-heads-bucket-in-loop-i
-offset_bounds-heads-bucket-in-loop-i c = omega arith
-
-pub bounds-heads-bucket-in-loop-i : goal.bounds-heads-bucket-in-loop-i
-bounds-heads-bucket-in-loop-i c = omega arith
-
-pub loop-i-smaller : goal.loop-i-smaller
-loop-i-smaller c = omega arith
+    (c.requires.1, length-replicate {A = ℕ} 1021 1024, heads-none (bucket c.args.accesses.now) n few, λ j l m. absurd (omega arith))
 
 pub loop-i-preserved : goal.loop-i-preserved
 unfolding bucket
@@ -62,11 +23,10 @@ loop-i-preserved c =
     let list = c.args.accesses.now in
     let n = length list / 4 in
     let i = c.loop-i.i - 1 in
-    let (below, long, wide, heads, chains) = c.loop-i.invariant in
+    let (long, wide, heads, chains) = c.loop-i.invariant in
     let e : c.loop-i.i ≡ i + 1 = omega arith in
     let b : bucket list i < 1021 = omega arith in
     rw c.variable_at-bucket.ensures (
-      omega arith,
       length-set c.loop-i.under i _ ∙ long,
       length-set c.loop-i.heads (bucket list i) i ∙ wide,
       heads-more (bucket list) n c.loop-i.heads wide e b heads,
@@ -75,4 +35,4 @@ loop-i-preserved c =
 
 pub returns : goal.returns
 unfolding total
-returns c = record { after = λ j h. c.loop-i.invariant.4 j (omega arith) h }
+returns c = record { after = λ j h. c.loop-i.invariant.3 j (omega arith) h }

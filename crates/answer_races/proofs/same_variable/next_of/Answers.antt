@@ -1,74 +1,21 @@
 -- `answer_races::same_variable::next_of` meets its contract. The loop's invariant: no access passed is of the variable.
 -- Assumes nothing.
 use mathlib.Core.Path.{◌≡◌, sym, ◌∙◌}
-use Prim.Native.Nat.{◌+◌, ◌*◌, ◌-◌, ◌≤◌, ◌<◌}
+use Prim.Native.Nat.{◌+◌, ◌≤◌, ◌<◌}
 use native.Mathlib.Omega.{arith}
-use lib.ListN.{length, get_or}
+use lib.ListN.{get_or}
 use Rattle.theory_calls.specs.Access.{total}
 use Rattle.answer_races.specs.Linked.{FirstFrom, bucket}
-use Rattle.answer_races.proofs.Chains.{sought-first, sought-more, sought-found, sought-none}
+use Rattle.answer_races.proofs.Chains.{sought-first, sought-more, sought-none}
 use Rattle.answer_races.proofs.same_variable.next_of.Goals as goal
 
 pub variable_at-variable-requires : goal.variable_at-variable-requires
 unfolding total
-variable_at-variable-requires c =
-    let few : total c.args.accesses.now ≤ 1024 =
-    omega (arith, c.requires.1) in
-    let first : (4 * c.args.i + 3 < length c.args.accesses.now) × (c.args.i < 1024) =
-    (omega (arith, c.requires.2), omega (arith, few, c.requires.2)) in
-    first.0
-
-pub offset_bounds-under-i : goal.offset_bounds-under-i
-unfolding total
-offset_bounds-under-i c =
-    let few : total c.args.accesses.now ≤ 1024 =
-    omega (arith, c.requires.1) in
-    let first : (4 * c.args.i + 3 < length c.args.accesses.now) × (c.args.i < 1024) =
-    (omega (arith, c.requires.2), omega (arith, few, c.requires.2)) in
-    omega (arith, first.1)
-
-pub bounds-under-i : goal.bounds-under-i
-unfolding total
-bounds-under-i c =
-    let few : total c.args.accesses.now ≤ 1024 =
-    omega (arith, c.requires.1) in
-    let first : (4 * c.args.i + 3 < length c.args.accesses.now) × (c.args.i < 1024) =
-    (omega (arith, c.requires.2), omega (arith, few, c.requires.2)) in
-    first.1
-
-pub index-k-requires : goal.index-k-requires
-index-k-requires c = tt
+variable_at-variable-requires c = omega (arith, c.requires.2)
 
 pub loop-k-init : goal.loop-k-init
 loop-k-init c =
-    rw c.index-k.ensures (sought-first c.args.accesses.now c.args.i (c.requires.0.after c.args.i c.requires.2))
-
-pub variable_at-requires : goal.variable_at-requires
-variable_at-requires c = omega arith
-
-pub returns-then-variable_at-variable : goal.returns-then-variable_at-variable
-unfolding total
-returns-then-variable_at-variable c =
-    let few : total c.args.accesses.now ≤ 1024 =
-    omega (arith, c.requires.1) in
-    (sought-found c.args.accesses.now c.args.i (sym c.variable_at.ensures ∙ c.if-variable_at-variable.true ∙ c.variable_at-variable.ensures) c.loop-k.invariant, omega (arith, few))
-
-pub offset_bounds-under-k : goal.offset_bounds-under-k
-unfolding total
-offset_bounds-under-k c =
-    let few : total c.args.accesses.now ≤ 1024 =
-    omega (arith, c.requires.1) in
-    omega (arith, few)
-
-pub bounds-under-k : goal.bounds-under-k
-unfolding total
-bounds-under-k c =
-    let few : total c.args.accesses.now ≤ 1024 =
-    omega (arith, c.requires.1) in
-    omega (arith, few)
-
-pub index-k-requires-in-loop-k : goal.index-k-requires-in-loop-k
-index-k-requires-in-loop-k c = tt
+    rw c.from-k.ensures (sought-first c.args.accesses.now c.args.i (c.requires.0.after c.args.i c.requires.2))
 
 pub loop-k-smaller : goal.loop-k-smaller
 unfolding total
@@ -78,7 +25,7 @@ loop-k-smaller c =
     let linked : let list = c.args.accesses.now in
     FirstFrom (λ x. bucket list x ≡ bucket list c.loop-k.k) (total list) (c.loop-k.k + 1) (get_or c.args.under.now c.loop-k.k 0) =
     c.requires.0.after c.loop-k.k inside in
-    omega (arith, c.index-k-in-loop-k.ensures, linked.from)
+    omega (arith, c.from-k-in-loop-k.ensures, linked.from)
 
 pub loop-k-preserved : goal.loop-k-preserved
 unfolding total
@@ -88,7 +35,7 @@ loop-k-preserved c =
     let linked : let list = c.args.accesses.now in
     FirstFrom (λ x. bucket list x ≡ bucket list c.loop-k.k) (total list) (c.loop-k.k + 1) (get_or c.args.under.now c.loop-k.k 0) =
     c.requires.0.after c.loop-k.k inside in
-    rw c.index-k-in-loop-k.ensures (sought-more c.args.accesses.now c.args.i inside
+    rw c.from-k-in-loop-k.ensures (sought-more c.args.accesses.now c.args.i inside
     (λ q. c.if-variable_at-variable.false (c.variable_at.ensures ∙ q ∙ sym c.variable_at-variable.ensures)) c.loop-k.invariant linked)
 
 pub returns : goal.returns

@@ -11,4 +11,4 @@ pub returns : goal.returns
 unfolding access_at field
 returns c =
     let q : 4 * c.args.i + 2 + 1 ≡ 4 * c.args.i + 3 = omega arith in
-    rw (c.wide.ensures.0, c.wide-2.ensures.0, q)
+    rw (c.from.ensures, c.from_le_bytes.ensures, q) (omega arith)

@@ -33,4 +33,4 @@ returns c i l F m L =
     let list = c.args.accesses.now in
     let k = c.args.k in
     let h = inside in
-    rw c.place.ensures (write-later list i few F h read (L.next k F.from h), L.small k F.from h)
+    rw c.from.ensures (write-later list i few F h read (L.next k F.from h), L.small k F.from h)

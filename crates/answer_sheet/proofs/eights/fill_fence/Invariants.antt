@@ -1,7 +1,7 @@
 -- The invariants and measures of `answer_sheet::eights::fill_fence`.
 use mathlib.Core.Path.{◌≡◌}
 use mathlib.Core.Bool.{cond}
-use Prim.Native.Nat.{ℕ, ◌+◌, ◌*◌, ◌-◌, ◌≤◌, ◌<◌}
+use Prim.Native.Nat.{ℕ, ◌+◌, ◌*◌, ◌≤◌, ◌<◌}
 use lib.Dec.{eqb}
 use lib.ListN.{length, get_or}
 use Rattle.answer_sheet.specs.Fan.{fan}
@@ -11,6 +11,3 @@ abbrev pub invariant-loop-k : goal.invariant-loop-k
 invariant-loop-k l =
     (l.k ≤ 24) × (length l.fence ≡ 64)
     × ((j : ℕ) → j < l.k → get_or l.fence j 0 ≡ fan (λ i. cond (eqb (get_or l.closed (8 * j + i) 0) 0) 0 255) 8)
-
-abbrev pub decreases-loop-k : goal.decreases-loop-k
-decreases-loop-k l = 24 - l.k

@@ -1,7 +1,7 @@
 -- `answer_sheet::eights::fill_spread` meets its contract. The loop's invariant: the entries passed are there.
 -- Assumes nothing.
 use mathlib.Core.Path.{◌≡◌, refl, ◌∙◌}
-use Prim.Native.Nat.{ℕ, ◌+◌, ◌*◌, ◌-◌, ◌/◌, ◌%◌, ◌≤◌, ◌<◌}
+use Prim.Native.Nat.{ℕ, ◌+◌, ◌*◌, ◌/◌, ◌%◌, ◌≤◌, ◌<◌}
 use native.Mathlib.Omega.{arith}
 use lib.ListN.{get_or, replicate, length-set}
 use Rattle.lists.specs.Store.{stored}
@@ -39,12 +39,6 @@ offset_bounds-table-b-in-loop-b c = omega arith
 
 pub bounds-table-b-in-loop-b : goal.bounds-table-b-in-loop-b
 bounds-table-b-in-loop-b c = omega arith
-
-pub overflow_add-b : goal.overflow_add-b
-overflow_add-b c = omega arith
-
-pub loop-b-smaller : goal.loop-b-smaller
-loop-b-smaller c = omega arith
 
 pub loop-b-preserved : goal.loop-b-preserved
 loop-b-preserved c =

@@ -1,6 +1,6 @@
 -- The invariants and measures of `answer_sheet::eights::fill_spread`.
 use mathlib.Core.Path.{◌≡◌}
-use Prim.Native.Nat.{ℕ, ◌-◌, ◌≤◌, ◌<◌}
+use Prim.Native.Nat.{ℕ, ◌≤◌, ◌<◌}
 use lib.ListN.{length, get_or}
 use Rattle.answer_sheet.specs.Fan.{fan}
 use Rattle.answer_sheet.proofs.Spreads.{bits_of}
@@ -9,6 +9,3 @@ use Rattle.answer_sheet.proofs.eights.fill_spread.Given as goal
 abbrev pub invariant-loop-b : goal.invariant-loop-b
 invariant-loop-b l =
     (l.b ≤ 256) × (0 < l.b) × (length l.table ≡ 256) × ((j : ℕ) → j < l.b → get_or l.table j 0 ≡ fan (bits_of j) 8)
-
-abbrev pub decreases-loop-b : goal.decreases-loop-b
-decreases-loop-b l = 256 - l.b

@@ -14,9 +14,6 @@ pub loop-i-init : goal.loop-i-init
 unfolding fan
 loop-i-init c = (omega arith, refl)
 
-pub overflow_sub-i : goal.overflow_sub-i
-overflow_sub-i c = omega arith
-
 pub overflow_mul-word : goal.overflow_mul-word
 overflow_mul-word c =
     let small : c.loop-i.word ≤ 72057594037927935 =
@@ -39,9 +36,6 @@ overflow_add-word c =
     let e = c.args in
     rw c.loop-i.invariant.1 (cover-most (λ k. eqb (get_or e.closed.now (e.at + (c.loop-i.i + k)) 0) 0) (8 - c.loop-i.i) (omega arith)) in
     omega (arith, small, c.cover.ensures.1)
-
-pub loop-i-smaller : goal.loop-i-smaller
-loop-i-smaller c = omega arith
 
 pub loop-i-preserved : goal.loop-i-preserved
 loop-i-preserved c =

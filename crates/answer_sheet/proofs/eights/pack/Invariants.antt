@@ -14,6 +14,3 @@ cover_at closed at i = cond (eqb (get_or closed (at + i) 0) 0) 0 255
 abbrev pub invariant-loop-i : goal.invariant-loop-i
 invariant-loop-i l =
     (l.i ≤ 8) × (l.word ≡ fan (λ k. cover_at l.closed l.at (l.i + k)) (8 - l.i))
-
-abbrev pub decreases-loop-i : goal.decreases-loop-i
-decreases-loop-i l = l.i

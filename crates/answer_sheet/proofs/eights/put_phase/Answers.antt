@@ -1,7 +1,6 @@
 -- `answer_sheet::eights::put_phase` meets its contract. The loop's invariant: the entries passed are there, and those below the word are kept.
 -- Assumes nothing.
 use mathlib.Core.Path.{refl}
-use Prim.Native.Nat.{◌-◌}
 use native.Mathlib.Omega.{arith}
 use Rattle.answer_sheet.proofs.Spreads.{ones, eights-more}
 use Rattle.answer_sheet.proofs.eights.put_phase.Invariants.{number}
@@ -40,12 +39,6 @@ overflow_add-w-in-loop-i c = omega arith
 
 pub put-requires : goal.put-requires
 put-requires c = (c.loop-i.invariant.1, omega arith)
-
-pub overflow_add-i : goal.overflow_add-i
-overflow_add-i c = omega arith
-
-pub loop-i-smaller : goal.loop-i-smaller
-loop-i-smaller c = omega arith
 
 pub loop-i-preserved : goal.loop-i-preserved
 loop-i-preserved c =

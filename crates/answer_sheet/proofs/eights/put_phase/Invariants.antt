@@ -8,6 +8,3 @@ number both j = 1 - both / 2 ^ j % 2
 
 abbrev pub invariant-loop-i : goal.invariant-loop-i
 invariant-loop-i l = Filled (number l.both) l.w l.fence l.initial.row l.row l.i
-
-abbrev pub decreases-loop-i : goal.decreases-loop-i
-decreases-loop-i l = 8 - l.i

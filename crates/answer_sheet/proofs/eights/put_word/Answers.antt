@@ -1,7 +1,6 @@
 -- `answer_sheet::eights::put_word` meets its contract. The loop's invariant: the entries passed are there, and those below the word are kept.
 -- Assumes nothing.
 use mathlib.Core.Path.{refl}
-use Prim.Native.Nat.{◌-◌}
 use native.Mathlib.Omega.{arith}
 use Rattle.answer_sheet.specs.Eights.{digit}
 use Rattle.answer_sheet.proofs.Spreads.{none-plain, digit-most, eights-more}
@@ -36,12 +35,6 @@ overflow_add-w-in-loop-i c = omega arith
 
 pub put-requires : goal.put-requires
 put-requires c = (c.loop-i.invariant.1, omega arith)
-
-pub overflow_add-i : goal.overflow_add-i
-overflow_add-i c = omega arith
-
-pub loop-i-smaller : goal.loop-i-smaller
-loop-i-smaller c = omega arith
 
 pub loop-i-preserved : goal.loop-i-preserved
 loop-i-preserved c =

@@ -1,11 +1,7 @@
 -- The invariants and measures of `answer_sheet::eights::put_word`.
-use Prim.Native.Nat.{◌-◌}
 use Rattle.answer_sheet.specs.Eights.{digit}
 use Rattle.answer_sheet.proofs.Spreads.{Filled}
 use Rattle.answer_sheet.proofs.eights.put_word.Given as goal
 
 abbrev pub invariant-loop-i : goal.invariant-loop-i
 invariant-loop-i l = Filled (digit l.p) l.w l.fence l.initial.row l.row l.i
-
-abbrev pub decreases-loop-i : goal.decreases-loop-i
-decreases-loop-i l = 8 - l.i

@@ -1,7 +1,6 @@
 -- `answer_sheet::rows::fill_rules` meets its contract. The loop's invariant: the sets of the rules passed are there.
 -- Assumes nothing.
 use mathlib.Core.Path.{◌∙◌}
-use Prim.Native.Nat.{◌-◌}
 use native.Mathlib.Omega.{arith}
 use lib.ListN.{length-set}
 use Rattle.lists.specs.Store.{stored}
@@ -19,9 +18,6 @@ offset_bounds-kinds-k c = omega arith
 
 pub bounds-kinds-k : goal.bounds-kinds-k
 bounds-kinds-k c = omega arith
-
-pub sharing-words-requires : goal.sharing-words-requires
-sharing-words-requires c = omega arith
 
 pub offset_bounds-low-k : goal.offset_bounds-low-k
 offset_bounds-low-k c = omega arith
@@ -41,12 +37,6 @@ offset_bounds-high-k c = omega arith
 pub bounds-high-k : goal.bounds-high-k
 bounds-high-k c = omega arith
 
-pub overflow_add-k : goal.overflow_add-k
-overflow_add-k c = omega arith
-
-pub loop-k-smaller : goal.loop-k-smaller
-loop-k-smaller c = omega arith
-
 pub loop-k-preserved : goal.loop-k-preserved
 loop-k-preserved c =
     let e = c.args in
@@ -56,9 +46,9 @@ loop-k-preserved c =
       length-set v.low k _ ∙ v.invariant.1,
       length-set v.middle k _ ∙ v.invariant.2,
       length-set v.high k _ ∙ v.invariant.3,
-      λ closed marks I. stored (Shares e.held e.sets.kinds closed marks 0) v.low k _ (omega (arith, v.invariant.1)) (c.sharing-words.ensures closed marks I).low (v.invariant.4 closed marks I),
-      λ closed marks I. stored (Shares e.held e.sets.kinds closed marks 1) v.middle k _ (omega (arith, v.invariant.2)) (c.sharing-words.ensures closed marks I).middle (v.invariant.5 closed marks I),
-      λ closed marks I. stored (Shares e.held e.sets.kinds closed marks 2) v.high k _ (omega (arith, v.invariant.3)) (c.sharing-words.ensures closed marks I).high (v.invariant.6 closed marks I),
+      λ closed marks I. stored (Shares e.held e.sets.kinds closed marks 0) v.low k _ (omega (arith, v.invariant.1)) (c.sharing-words.ensures closed marks.held I.held).low (v.invariant.4 closed marks I),
+      λ closed marks I. stored (Shares e.held e.sets.kinds closed marks 1) v.middle k _ (omega (arith, v.invariant.2)) (c.sharing-words.ensures closed marks.held I.held).middle (v.invariant.5 closed marks I),
+      λ closed marks I. stored (Shares e.held e.sets.kinds closed marks 2) v.high k _ (omega (arith, v.invariant.3)) (c.sharing-words.ensures closed marks.held I.held).high (v.invariant.6 closed marks I),
     )
 
 pub returns : goal.returns

@@ -1,5 +1,5 @@
 -- The invariants and measures of `answer_sheet::rows::planes`.
-use Prim.Native.Nat.{ℕ, ◌-◌, ◌≤◌}
+use Prim.Native.Nat.{ℕ, ◌≤◌}
 use lib.ListN.{get_or}
 use Rattle.lists.specs.Bits.{has}
 use Rattle.answer_sheet.specs.Eights.{digit}
@@ -8,6 +8,3 @@ use Rattle.answer_sheet.proofs.rows.planes.Given as goal
 
 abbrev pub invariant-loop-k : goal.invariant-loop-k
 invariant-loop-k l = (l.k ≤ 4) × ((j : ℕ) → Ruled (has l.both j) (λ i. has (get_or l.rules i 0) j) l.k (has l.left j) (digit l.p j))
-
-abbrev pub decreases-loop-k : goal.decreases-loop-k
-decreases-loop-k l = 4 - l.k

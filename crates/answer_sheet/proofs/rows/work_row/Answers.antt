@@ -10,15 +10,6 @@ use Rattle.answer_sheet.proofs.RowSets.{low-row, middle-row, high-row}
 use Rattle.answer_sheet.proofs.rows.work_row.Goals as goal
 
 -- where all sets were found, and where the function was called
-pub sharing-s-requires : goal.sharing-s-requires
-sharing-s-requires c = omega arith
-
-pub sharing-e-requires : goal.sharing-e-requires
-sharing-e-requires c = omega arith
-
-pub phase_only-requires : goal.phase_only-requires
-phase_only-requires c = tt
-
 pub work_phase_row-requires : goal.work_phase_row-requires
 work_phase_row-requires c = c.requires
 
@@ -26,39 +17,15 @@ pub returns-then-phase_only : goal.returns-then-phase_only
 returns-then-phase_only c =
     let e = c.args in (
       c.work_phase_row.ensures.0,
-      λ closed marks I F. c.work_phase_row.ensures.1 closed marks e.sets e.own F (c.sharing-s.ensures closed marks I) (c.sharing-e.ensures closed marks I)
+      λ closed marks I F. c.work_phase_row.ensures.1 closed marks e.sets e.own F (c.sharing-s.ensures closed marks.starts I.starts) (c.sharing-e.ensures closed marks.ends I.ends)
           (c.phase_only.ensures c.if-phase_only.true),
     )
-
-pub sharing-z-requires : goal.sharing-z-requires
-sharing-z-requires c = omega arith
-
-pub common-lacks-requires : goal.common-lacks-requires
-common-lacks-requires c = tt
-
-pub planes-requires : goal.planes-requires
-planes-requires c = tt
-
-pub ahead-first-requires : goal.ahead-first-requires
-ahead-first-requires c = tt
 
 pub put_word-requires : goal.put_word-requires
 put_word-requires c = (omega arith, c.requires.0, c.requires.1)
 
-pub planes-requires-2 : goal.planes-requires-2
-planes-requires-2 c = tt
-
-pub ahead-second-requires : goal.ahead-second-requires
-ahead-second-requires c = tt
-
 pub put_word-requires-2 : goal.put_word-requires-2
 put_word-requires-2 c = (omega arith, c.requires.0, c.put_word.ensures.0)
-
-pub planes-requires-3 : goal.planes-requires-3
-planes-requires-3 c = tt
-
-pub ahead-third-requires : goal.ahead-third-requires
-ahead-third-requires c = tt
 
 pub put_word-requires-3 : goal.put_word-requires-3
 put_word-requires-3 c = (omega arith, c.requires.0, c.put_word-2.ensures.0)
@@ -68,10 +35,10 @@ returns c =
     let e = c.args in (
       c.put_word-3.ensures.0,
       λ closed marks I F.
-          let S = c.sharing-s.ensures closed marks I in
-          let E = c.sharing-e.ensures closed marks I in
+          let S = c.sharing-s.ensures closed marks.starts I.starts in
+          let E = c.sharing-e.ensures closed marks.ends I.ends in
           let T = c.fill_rules.ensures closed marks I in
-          let Z = c.sharing-z.ensures closed marks I in
+          let Z = c.sharing-z.ensures closed marks.held I.held in
           let L = c.common-lacks.ensures in
           three-words (λ j. get_or c.put_word-3.new.row j 0 ≡ row_of closed e.sets marks e.own j)
           (λ j l. c.put_word-3.ensures.2 (64 * 0 + j) (omega arith) ∙ c.put_word-2.ensures.2 (64 * 0 + j) (omega arith) ∙ c.put_word.ensures.1 closed F j l

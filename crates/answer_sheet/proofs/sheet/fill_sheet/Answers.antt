@@ -1,7 +1,7 @@
 -- `answer_sheet::sheet::fill_sheet` meets its contract. The loop's invariant: the rows passed stand at the front of the buffer.
 -- Assumes nothing.
 use mathlib.Core.Path.{◌≡◌, refl, ap, sym, ◌∙◌, subst}
-use Prim.Native.Nat.{ℕ, ◌+◌, ◌*◌, ◌-◌, ◌≤◌, ◌<◌}
+use Prim.Native.Nat.{ℕ, ◌+◌, ◌*◌, ◌≤◌, ◌<◌}
 use native.Mathlib.Omega.{arith}
 use native.Mathlib.Nat.{mul-le-mul_right}
 use lib.ListN.{length}
@@ -12,7 +12,7 @@ use Rattle.lists.specs.Rows.{square, row_room, row-end, after, after_none, after
 use Rattle.theory_answers.specs.Answer.{answer_for}
 use Rattle.theory_answers.specs.Sheet.{entry, row, sheet}
 use Rattle.answer_constructs.specs.Marks.{Marks}
-use Rattle.answer_constructs.proofs.Past.{rows-past}
+use Rattle.answer_nodes.proofs.Joining.{rows-past}
 use Rattle.answer_sheet.proofs.Entries.{kept_row}
 use Rattle.answer_sheet.proofs.sheet.fill_sheet.Goals as goal
 
@@ -24,7 +24,7 @@ load_closed-requires c = c.requires.0
 
 pub gather_all-requires : goal.gather_all-requires
 gather_all-requires c =
-    (λ r l x. rows-past c.requires.1 (nodes-length _ c.args.chart c.requires.0.laid) r x l, refl)
+    (rows-past c.requires.1 (nodes-length _ c.args.chart c.requires.0.laid), refl)
 
 pub fill_fence-requires : goal.fill_fence-requires
 fill_fence-requires c = tt
@@ -66,12 +66,6 @@ overflow_mul-a c =
     let most : (c.loop-a.a + 1) * c.args.chart.nodes ≤ 36864 =
     omega (arith, ends, row_room c.loop-a.a c.args.chart.nodes c.loop-a-test.true, square c.requires.0.laid.nodes-most) in
     omega (arith, most, ends)
-
-pub overflow_add-a : goal.overflow_add-a
-overflow_add-a c =
-    let few : c.loop-a.a < 192 =
-    omega (arith, c.requires.0.laid.nodes-most, c.loop-a-test.true) in
-    omega (arith, few)
 
 pub overflow_mul-a-in-loop-a : goal.overflow_mul-a-in-loop-a
 overflow_mul-a-in-loop-a c =
@@ -137,15 +131,6 @@ fill_row-requires c =
     omega (arith, ends, row_room c.loop-a.a c.args.chart.nodes c.loop-a-test.true, c.requires.2, long) in
     let long = part_length c.args.chart.nodes _ _ c.loop-a.out ends room in
     (omega (arith, long, c.requires.0.laid.nodes-most), omega (arith, long))
-
-pub overflow_add-a-in-loop-a : goal.overflow_add-a-in-loop-a
-overflow_add-a-in-loop-a c =
-    let few : c.loop-a.a < 192 =
-    omega (arith, c.requires.0.laid.nodes-most, c.loop-a-test.true) in
-    omega (arith, few)
-
-pub loop-a-smaller : goal.loop-a-smaller
-loop-a-smaller c = omega arith
 
 pub loop-a-preserved : goal.loop-a-preserved
 unfolding row

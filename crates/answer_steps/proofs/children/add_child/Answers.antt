@@ -8,33 +8,6 @@ use Rattle.answer_steps.proofs.children.add_child.Goals as goal
 pub returns-then-parent-ge-CONSTRUCTS : goal.returns-then-parent-ge-CONSTRUCTS
 returns-then-parent-ge-CONSTRUCTS c = λ old K. children-alone K c.requires.2 c.requires.3 refl c.at-parent.ensures c.if-parent-ge-CONSTRUCTS.true
 
-pub is_sort-requires : goal.is_sort-requires
-is_sort-requires c = (c.requires.0, c.requires.2, c.requires.3)
-
-pub overflow_mul-place : goal.overflow_mul-place
-overflow_mul-place c = omega (arith, c.requires.1)
-
-pub overflow_add-place : goal.overflow_add-place
-overflow_add-place c = omega (arith, c.requires.1)
-
-pub overflow_add-place-then-is_sort : goal.overflow_add-place-then-is_sort
-overflow_add-place-then-is_sort c = omega (arith, c.requires.1, c.if-parent-ge-CONSTRUCTS.false)
-
-pub bit-requires : goal.bit-requires
-bit-requires c = omega (arith, c.requires.2)
-
-pub offset_bounds-table-place : goal.offset_bounds-table-place
-offset_bounds-table-place c = omega (arith, c.requires.1, c.if-parent-ge-CONSTRUCTS.false)
-
-pub bounds-table-place : goal.bounds-table-place
-bounds-table-place c = omega (arith, c.requires.1, c.if-parent-ge-CONSTRUCTS.false)
-
-pub offset_bounds-table-place-then-is_sort : goal.offset_bounds-table-place-then-is_sort
-offset_bounds-table-place-then-is_sort c = omega (arith, c.requires.1, c.if-parent-ge-CONSTRUCTS.false)
-
-pub bounds-table-place-then-is_sort : goal.bounds-table-place-then-is_sort
-bounds-table-place-then-is_sort c = omega (arith, c.requires.0, c.requires.1, c.if-parent-ge-CONSTRUCTS.false)
-
 pub returns-then-is_sort : goal.returns-then-is_sort
 returns-then-is_sort c =
     λ old K.

@@ -7,6 +7,3 @@ use Rattle.answer_steps.proofs.children.fill_children.Given as goal
 
 abbrev pub invariant-loop-x : goal.invariant-loop-x
 invariant-loop-x l = (l.x ≤ l.n) × (l.n ≡ get_or l.initial.table 2033 0) × Children l.which l.x l.initial.table l.table
-
-abbrev pub decreases-loop-x : goal.decreases-loop-x
-decreases-loop-x l = l.n - l.x

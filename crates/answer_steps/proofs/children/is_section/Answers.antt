@@ -7,21 +7,9 @@ use Rattle.lists.specs.Truth.{and-false}
 use Rattle.answer_steps.specs.Children.{section_at}
 use Rattle.answer_steps.proofs.children.is_section.Goals as goal
 
-pub overflow_add-begin : goal.overflow_add-begin
-overflow_add-begin c = omega (arith, c.at-begin.ensures, c.requires.2)
-
-pub at-requires : goal.at-requires
-at-requires c = (c.requires.0, omega (arith, c.at-begin.ensures, c.requires.2))
-
 pub returns-then-at-ne-OPENS : goal.returns-then-at-ne-OPENS
 unfolding section_at
 returns-then-at-ne-OPENS c = rw (sym c.at-begin.ensures, ne_eqb _ _ (λ z. c.if-at-ne-OPENS.true (c.at.ensures ∙ z)))
-
-pub overflow_add-begin-2 : goal.overflow_add-begin-2
-overflow_add-begin-2 c = omega (arith, c.at-begin.ensures, c.requires.2)
-
-pub at-requires-2 : goal.at-requires-2
-at-requires-2 c = (c.requires.0, omega (arith, c.at-begin.ensures, c.requires.2))
 
 pub returns-then-at-x : goal.returns-then-at-x
 unfolding section_at
@@ -34,5 +22,5 @@ returns c = rw (
   eq-eqb _ _ (sym c.at.ensures ∙ c.if-at-ne-OPENS.false),
   eq-eqb _ _ (sym c.at-2.ensures ∙ c.if-at-x.false),
   c.at-3.ensures,
-  c.wide.ensures.0,
+  c.from.ensures,
 )

@@ -11,12 +11,6 @@ use Rattle.answer_constructs.proofs.Constructs.{index_below}
 use Rattle.answer_steps.proofs.Around.{above_more}
 use Rattle.answer_steps.proofs.columns.add_above.Goals as goal
 
-pub read-parent-requires : goal.read-parent-requires
-read-parent-requires c = (c.requires.0.laid, c.requires.1)
-
-pub bit-requires : goal.bit-requires
-bit-requires c = omega (arith, c.requires.1, c.requires.0.laid.constructs-most)
-
 pub mask_at-requires : goal.mask_at-requires
 unfolding parent_of
 mask_at-requires c =

@@ -5,9 +5,6 @@ use borrow.Author.Tests.{eq-eqb, ne_eqb}
 use Rattle.answer_steps.specs.Words.{construct_word}
 use Rattle.answer_steps.proofs.columns.construct_word.Goals as goal
 
-pub read-construct-requires : goal.read-construct-requires
-read-construct-requires c = (c.requires.0.laid, c.requires.1)
-
 pub returns-then-which-eq0 : goal.returns-then-which-eq0
 unfolding construct_word
 returns-then-which-eq0 c = rw (eq-eqb _ _ c.if-which-eq0.true) c.read-construct.ensures.0
@@ -20,21 +17,9 @@ pub returns-then-which-eq2 : goal.returns-then-which-eq2
 unfolding construct_word
 returns-then-which-eq2 c = rw (ne_eqb _ _ c.if-which-eq0.false, ne_eqb _ _ c.if-which-eq1.false, eq-eqb _ _ c.if-which-eq2.true) c.read-construct.ensures.3
 
-pub bounds-begins-c : goal.bounds-begins-c
-bounds-begins-c c = omega (arith, c.requires.1, c.requires.0.laid.constructs-most)
-
-pub overflow_cast-result-then-which-eq3 : goal.overflow_cast-result-then-which-eq3
-overflow_cast-result-then-which-eq3 c = omega (arith, c.requires.2 c.args.c)
-
 pub returns-then-which-eq3 : goal.returns-then-which-eq3
 unfolding construct_word
 returns-then-which-eq3 c = rw (ne_eqb _ _ c.if-which-eq0.false, ne_eqb _ _ c.if-which-eq1.false, ne_eqb _ _ c.if-which-eq2.false, eq-eqb _ _ c.if-which-eq3.true)
-
-pub bounds-ends-c : goal.bounds-ends-c
-bounds-ends-c c = omega (arith, c.requires.1, c.requires.0.laid.constructs-most)
-
-pub overflow_cast-result-2 : goal.overflow_cast-result-2
-overflow_cast-result-2 c = omega (arith, c.requires.3 c.args.c)
 
 pub returns : goal.returns
 unfolding construct_word

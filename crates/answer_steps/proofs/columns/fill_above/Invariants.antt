@@ -6,6 +6,3 @@ use Rattle.answer_steps.proofs.columns.fill_above.Given as goal
 
 abbrev pub invariant-loop-c : goal.invariant-loop-c
 invariant-loop-c l = (l.c ≤ l.chart.constructs) × Above (decode l.s) l.c l.above
-
-abbrev pub decreases-loop-c : goal.decreases-loop-c
-decreases-loop-c l = l.chart.constructs - l.c

@@ -5,7 +5,4 @@ use Rattle.answer_steps.specs.Words.{Column, construct_word}
 use Rattle.answer_steps.proofs.columns.fill_constructs.Given as goal
 
 abbrev pub invariant-loop-c : goal.invariant-loop-c
-invariant-loop-c l = (l.c ≤ l.chart.constructs) × Column (1792 + 48 * l.which) l.c (construct_word (decode l.s) l.begins l.ends l.which) l.initial.table l.table
-
-abbrev pub decreases-loop-c : goal.decreases-loop-c
-decreases-loop-c l = l.chart.constructs - l.c
+invariant-loop-c l = (l.c ≤ l.chart.constructs) × Column (1792 + 48 * l.which) l.c (construct_word (decode l.s) l.framing.begins l.framing.ends l.which) l.initial.table l.table

@@ -6,6 +6,3 @@ use Rattle.answer_steps.proofs.columns.fill_nodes.Given as goal
 
 abbrev pub invariant-loop-x : goal.invariant-loop-x
 invariant-loop-x l = (l.x ≤ l.chart.nodes) × Column (1024 + 256 * l.which) l.x (node_word (decode l.s) l.chart.region l.members l.which) l.initial.table l.table
-
-abbrev pub decreases-loop-x : goal.decreases-loop-x
-decreases-loop-x l = l.chart.nodes - l.x

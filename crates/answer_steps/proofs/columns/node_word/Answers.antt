@@ -17,9 +17,6 @@ use Rattle.answer_steps.specs.Words.{node_word}
 use Rattle.answer_steps.proofs.Around.{around-node}
 use Rattle.answer_steps.proofs.columns.node_word.Goals as goal
 
-pub read-node-requires : goal.read-node-requires
-read-node-requires c = (c.requires.0.laid, c.requires.1)
-
 pub role_code-requires : goal.role_code-requires
 role_code-requires c =
     let f = c.read-node.ensures in
@@ -30,9 +27,6 @@ unfolding node_word
 returns-then-which-eq0 c =
     let f = c.read-node.ensures in
     rw (eq-eqb _ _ c.if-which-eq0.true, ← f.0, ← f.1) c.role_code.ensures
-
-pub place_of-requires : goal.place_of-requires
-place_of-requires c = (c.requires.0, c.requires.1)
 
 pub mask_at-requires : goal.mask_at-requires
 mask_at-requires c =

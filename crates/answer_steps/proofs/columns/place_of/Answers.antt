@@ -10,9 +10,6 @@ use Rattle.chart.proofs.Scopes.{lies-number, lies-parent}
 use Rattle.answer_constructs.proofs.Nodes.{frame-number}
 use Rattle.answer_steps.proofs.columns.place_of.Goals as goal
 
-pub read-node-requires : goal.read-node-requires
-read-node-requires c = (c.requires.0.laid, c.requires.1)
-
 pub returns-then-node-lt-BEGIN : goal.returns-then-node-lt-BEGIN
 unfolding lies_at
 returns-then-node-lt-BEGIN c =
@@ -24,11 +21,11 @@ pub read-requires : goal.read-requires
 read-requires c =
     let f = c.read-node.ensures in
     let l : begin_node ≤ (node_at (decode c.args.s.now).nodes c.args.x).kind = omega (arith, f.0, c.if-node-lt-BEGIN.false) in
-    (c.requires.0.laid, omega (arith, c.wide.ensures.0, f.1, frame-number _ c.args.chart c.requires.0 c.args.x l, constructs-length _ c.args.chart c.requires.0.laid))
+    (c.requires.0.laid, omega (arith, c.from.ensures, f.1, frame-number _ c.args.chart c.requires.0 c.args.x l, constructs-length _ c.args.chart c.requires.0.laid))
 
 pub returns : goal.returns
 unfolding lies_at parent_of
 returns c =
     let f = c.read-node.ensures in
     let l : begin_node ≤ (node_at (decode c.args.s.now).nodes c.args.x).kind = omega (arith, f.0, c.if-node-lt-BEGIN.false) in
-    c.read.ensures.1 ∙ ap (λ (n : ℕ). (construct_at (decode c.args.s.now).constructs n).parent) (c.wide.ensures.0 ∙ f.1) ∙ sym (lies-parent _ _ l)
+    c.read.ensures.1 ∙ ap (λ (n : ℕ). (construct_at (decode c.args.s.now).constructs n).parent) (c.from.ensures ∙ f.1) ∙ sym (lies-parent _ _ l)

@@ -14,23 +14,20 @@ returns-then-node-eq-PLAIN c = rw (eq-eqb _ _ c.if-node-eq-PLAIN.true)
 
 pub returns-then-number-region : goal.returns-then-number-region
 unfolding role_code
-returns-then-number-region c = rw (ne_eqb _ _ c.if-node-eq-PLAIN.false, eq-eqb _ _ (sym c.wide-number.ensures.0 ∙ c.if-number-region.true))
+returns-then-number-region c = rw (ne_eqb _ _ c.if-node-eq-PLAIN.false, eq-eqb _ _ (sym c.from-number.ensures ∙ c.if-number-region.true))
 
 pub returns-then-node-eq-BARRIER : goal.returns-then-node-eq-BARRIER
 unfolding role_code
-returns-then-node-eq-BARRIER c = rw (ne_eqb _ _ c.if-node-eq-PLAIN.false, ne_eqb _ _ (λ z. c.if-number-region.false (c.wide-number.ensures.0 ∙ z)), eq-eqb _ _ c.if-node-eq-BARRIER.true)
-
-pub has-requires : goal.has-requires
-has-requires c = omega (arith, c.wide-number.ensures.0, c.requires (omega (arith, c.if-node-eq-PLAIN.false, c.if-node-eq-BARRIER.false)))
+returns-then-node-eq-BARRIER c = rw (ne_eqb _ _ c.if-node-eq-PLAIN.false, ne_eqb _ _ (λ z. c.if-number-region.false (c.from-number.ensures ∙ z)), eq-eqb _ _ c.if-node-eq-BARRIER.true)
 
 pub returns-then-has : goal.returns-then-has
 unfolding role_code
 returns-then-has c =
-    let member : has c.args.members c.args.node.number ≡ true = ap (has c.args.members) (sym c.wide-number.ensures.0) ∙ sym c.has.ensures ∙ c.if-has.true in
-    rw (ne_eqb _ _ c.if-node-eq-PLAIN.false, ne_eqb _ _ (λ z. c.if-number-region.false (c.wide-number.ensures.0 ∙ z)), ne_eqb _ _ c.if-node-eq-BARRIER.false, member)
+    let member : has c.args.members c.args.node.number ≡ true = ap (has c.args.members) (sym c.from-number.ensures) ∙ sym c.has.ensures ∙ c.if-has.true in
+    rw (ne_eqb _ _ c.if-node-eq-PLAIN.false, ne_eqb _ _ (λ z. c.if-number-region.false (c.from-number.ensures ∙ z)), ne_eqb _ _ c.if-node-eq-BARRIER.false, member)
 
 pub returns : goal.returns
 unfolding role_code
 returns c =
-    let other : has c.args.members c.args.node.number ≡ false = ap (has c.args.members) (sym c.wide-number.ensures.0) ∙ sym c.has.ensures ∙ c.if-has.false in
-    rw (ne_eqb _ _ c.if-node-eq-PLAIN.false, ne_eqb _ _ (λ z. c.if-number-region.false (c.wide-number.ensures.0 ∙ z)), ne_eqb _ _ c.if-node-eq-BARRIER.false, other)
+    let other : has c.args.members c.args.node.number ≡ false = ap (has c.args.members) (sym c.from-number.ensures) ∙ sym c.has.ensures ∙ c.if-has.false in
+    rw (ne_eqb _ _ c.if-node-eq-PLAIN.false, ne_eqb _ _ (λ z. c.if-number-region.false (c.from-number.ensures ∙ z)), ne_eqb _ _ c.if-node-eq-BARRIER.false, other)

@@ -7,12 +7,8 @@ use borrow.Author.Tests.{eq-eqb, ne_eqb}
 use Rattle.answer_steps.proofs.Laws.{loop-test, in_table}
 use Rattle.answer_steps.proofs.decide.again.Goals as goal
 
-pub returns-then-at-wide : goal.returns-then-at-wide
-returns-then-at-wide c = λ R T. rw (T.kind _ (in_table T c.requires.3), loop-test, ne_eqb _ _ (λ z. c.if-at-wide.true (c.at.ensures ∙ z ∙ sym c.wide.ensures.0)))
-
-pub leads-requires : goal.leads-requires
-leads-requires c =
-    (c.requires.1.long, omega (arith, c.at-2.ensures, c.requires.1.begins c.args.c (in_table c.requires.1 c.requires.3)), c.requires.2)
+pub returns-then-at-from : goal.returns-then-at-from
+returns-then-at-from c = λ R T. rw (T.kind _ (in_table T c.requires.3), loop-test, ne_eqb _ _ (λ z. c.if-at-from.true (c.at.ensures ∙ z ∙ sym c.from.ensures)))
 
 pub returns : goal.returns
 returns c =
@@ -20,4 +16,4 @@ returns c =
     let l = in_table T c.requires.3 in
     let begin = c.at-2.ensures in
     let edge = ap (λ (n : ℕ). R.edge n c.args.v) (T.begin c.args.c l ∙ sym begin) ∙ T.edge _ c.args.v (omega (arith, begin, T.begins c.args.c l)) c.requires.2 in
-    rw (T.kind _ l, loop-test, eq-eqb _ _ (sym c.at.ensures ∙ c.if-at-wide.false ∙ c.wide.ensures.0)) (c.leads.ensures ∙ sym edge)
+    rw (T.kind _ l, loop-test, eq-eqb _ _ (sym c.at.ensures ∙ c.if-at-from.false ∙ c.from.ensures)) (c.leads.ensures ∙ sym edge)

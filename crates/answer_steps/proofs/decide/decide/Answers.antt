@@ -7,14 +7,12 @@ use lib.ListN.{get_or}
 use borrow.Author.Tests.{lt-ltb, le-ltb}
 use Rattle.theory_traces.specs.Decide.{from_begin, from_end, from_node, decide}
 use Rattle.answer_steps.proofs.Laws.{role-opens, role-closes, role-barrier, role-plain}
+use Rattle.answer_steps.specs.Teams.{thread_at}
 use Rattle.answer_steps.proofs.decide.decide.Goals as goal
 
 pub returns-then-m-t : goal.returns-then-m-t
 unfolding decide
 returns-then-m-t c = record { of_states = λ R σ T S. rw (le-ltb c.args.t c.args.m c.if-m-t.true); numbered = tt }
-
-pub node_of-x-requires : goal.node_of-x-requires
-node_of-x-requires c = (c.requires.0.shows.long, omega arith)
 
 pub overflow_add-x : goal.overflow_add-x
 overflow_add-x c =
@@ -43,7 +41,7 @@ at-requires c =
 pub from_begin-requires : goal.from_begin-requires
 from_begin-requires c =
     let T = c.requires.0.tabled in
-    let n = get_or c.args.team.now (97 * c.args.t) 0 in
+    let n = (thread_at c.args.team.now c.args.t).node in
     let low = c.requires.0.shows.byte c.args.t (omega arith) in
     let code = c.at-role.ensures ∙ ap (λ (z : ℕ). get_or c.args.table.now (1024 + z) 0) c.node_of-x.ensures in
     let number = T.number n low (omega (arith, code, c.if-role-eq-OPENS.true)) in
@@ -77,7 +75,7 @@ at-requires-then-role-eq-CLOSES c =
 pub from_end-requires : goal.from_end-requires
 from_end-requires c =
     let T = c.requires.0.tabled in
-    let n = get_or c.args.team.now (97 * c.args.t) 0 in
+    let n = (thread_at c.args.team.now c.args.t).node in
     let low = c.requires.0.shows.byte c.args.t (omega arith) in
     let code = c.at-role.ensures ∙ ap (λ (z : ℕ). get_or c.args.table.now (1024 + z) 0) c.node_of-x.ensures in
     let number = T.number n low (omega (arith, code, c.if-role-eq-CLOSES.true)) in

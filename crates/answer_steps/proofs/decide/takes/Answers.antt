@@ -16,25 +16,13 @@ pub returns-then-at-ne-OPENS : goal.returns-then-at-ne-OPENS
 unfolding taking
 returns-then-at-ne-OPENS c = λ R σ T S effect. rw (T.role _ c.requires.3) (role-else (λ r. taking R c.args.m σ c.args.c c.args.instance effect r ≡ None) _ _ (λ z. c.if-at-ne-OPENS.true (c.at.ensures ∙ z)) refl refl refl)
 
-pub returns-then-at-wide : goal.returns-then-at-wide
+pub returns-then-at-from : goal.returns-then-at-from
 unfolding taking
-returns-then-at-wide c = λ R σ T S effect. rw (T.role _ c.requires.3 ∙ role-opens _ _ (sym c.at.ensures ∙ c.if-at-ne-OPENS.false), T.kind _ (in_table T c.requires.2), sections-test, ne_eqb _ _ (λ z. c.if-at-wide.true (c.at-2.ensures ∙ z ∙ sym c.wide.ensures.0)))
+returns-then-at-from c = λ R σ T S effect. rw (T.role _ c.requires.3 ∙ role-opens _ _ (sym c.at.ensures ∙ c.if-at-ne-OPENS.false), T.kind _ (in_table T c.requires.2), sections-test, ne_eqb _ _ (λ z. c.if-at-from.true (c.at-2.ensures ∙ z ∙ sym c.from.ensures)))
 
-pub overflow_add-x : goal.overflow_add-x
-overflow_add-x c =
-    let T = c.requires.0.tabled in
-    let low = T.numbers c.args.v c.requires.3 in
-    omega (arith, c.at-x.ensures, low)
-
-pub at-requires-3 : goal.at-requires-3
-at-requires-3 c =
-    let T = c.requires.0.tabled in
-    let low = T.numbers c.args.v c.requires.3 in
-    (T.long, omega (arith, c.at-x.ensures, low))
-
-pub returns-then-at-wide-2 : goal.returns-then-at-wide-2
+pub returns-then-at-from-2 : goal.returns-then-at-from-2
 unfolding taking
-returns-then-at-wide-2 c =
+returns-then-at-from-2 c =
     λ R σ T S effect.
     let lc = in_table T c.requires.2 in
     let role = T.role _ c.requires.3 ∙ role-opens _ _ (sym c.at.ensures ∙ c.if-at-ne-OPENS.false) in
@@ -42,19 +30,7 @@ returns-then-at-wide-2 c =
     let lx : get_or c.args.table.now (1280 + c.args.v) 0 < R.constructs = T.number c.args.v c.requires.3 code in
     let x = c.at-x.ensures in
     let kind = c.at-3.ensures ∙ ap (λ (z : ℕ). get_or c.args.table.now (1792 + z) 0) x in
-    rw (role, T.kind _ lc, sections-test, eq-eqb _ _ (sym c.at-2.ensures ∙ c.if-at-wide.false ∙ c.wide.ensures.0), T.kind _ lx, section-test, ne_eqb _ _ (λ z. c.if-at-wide-2.true (kind ∙ z ∙ sym c.wide-2.ensures.0)))
-
-pub overflow_add-x-2 : goal.overflow_add-x-2
-overflow_add-x-2 c =
-    let T = c.requires.0.tabled in
-    let low = T.numbers c.args.v c.requires.3 in
-    omega (arith, c.at-x.ensures, low)
-
-pub at-requires-4 : goal.at-requires-4
-at-requires-4 c =
-    let T = c.requires.0.tabled in
-    let low = T.numbers c.args.v c.requires.3 in
-    (T.long, omega (arith, c.at-x.ensures, low))
+    rw (role, T.kind _ lc, sections-test, eq-eqb _ _ (sym c.at-2.ensures ∙ c.if-at-from.false ∙ c.from.ensures), T.kind _ lx, section-test, ne_eqb _ _ (λ z. c.if-at-from-2.true (kind ∙ z ∙ sym c.from-2.ensures)))
 
 pub returns-then-at-c : goal.returns-then-at-c
 unfolding taking
@@ -67,13 +43,7 @@ returns-then-at-c c =
     let x = c.at-x.ensures in
     let kind = c.at-3.ensures ∙ ap (λ (z : ℕ). get_or c.args.table.now (1792 + z) 0) x in
     let parent = c.at-4.ensures ∙ ap (λ (z : ℕ). get_or c.args.table.now (1840 + z) 0) x in
-    rw (role, T.kind _ lc, sections-test, eq-eqb _ _ (sym c.at-2.ensures ∙ c.if-at-wide.false ∙ c.wide.ensures.0), T.kind _ lx, section-test, eq-eqb _ _ (sym kind ∙ c.if-at-wide-2.false ∙ c.wide-2.ensures.0), T.parent _ lx, ne_eqb _ _ (λ z. c.if-at-c.true (parent ∙ z)))
-
-pub is_untaken-requires : goal.is_untaken-requires
-is_untaken-requires c =
-    let T = c.requires.0.tabled in
-    let low = T.numbers c.args.v c.requires.3 in
-    (c.requires.0.shows.long, c.requires.1, omega (arith, c.requires.2, T.constructs, T.few), omega (arith, c.at-x.ensures, low))
+    rw (role, T.kind _ lc, sections-test, eq-eqb _ _ (sym c.at-2.ensures ∙ c.if-at-from.false ∙ c.from.ensures), T.kind _ lx, section-test, eq-eqb _ _ (sym kind ∙ c.if-at-from-2.false ∙ c.from-2.ensures), T.parent _ lx, ne_eqb _ _ (λ z. c.if-at-c.true (parent ∙ z)))
 
 pub returns : goal.returns
 unfolding taking
@@ -87,5 +57,5 @@ returns c =
     let kind = c.at-3.ensures ∙ ap (λ (z : ℕ). get_or c.args.table.now (1792 + z) 0) x in
     let parent = c.at-4.ensures ∙ ap (λ (z : ℕ). get_or c.args.table.now (1840 + z) 0) x in
     let test = c.is_untaken.ensures σ S ∙ ap (is_untaken c.args.m σ c.args.c c.args.instance) x in
-    rw (role, T.kind _ lc, sections-test, eq-eqb _ _ (sym c.at-2.ensures ∙ c.if-at-wide.false ∙ c.wide.ensures.0), T.kind _ lx, section-test, eq-eqb _ _ (sym kind ∙ c.if-at-wide-2.false ∙ c.wide-2.ensures.0), T.parent _ lx, eq-eqb _ _ (sym parent ∙ c.if-at-c.false))
+    rw (role, T.kind _ lc, sections-test, eq-eqb _ _ (sym c.at-2.ensures ∙ c.if-at-from.false ∙ c.from.ensures), T.kind _ lx, section-test, eq-eqb _ _ (sym kind ∙ c.if-at-from-2.false ∙ c.from-2.ensures), T.parent _ lx, eq-eqb _ _ (sym parent ∙ c.if-at-c.false))
     (ap (λ (b : Bool). cond b (effect (get_or c.args.table.now (1280 + c.args.v) 0)) None) (sym test))

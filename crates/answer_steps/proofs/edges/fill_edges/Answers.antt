@@ -8,13 +8,8 @@ use Rattle.answer_steps.proofs.edges.fill_edges.Goals as goal
 pub load_edges-loaded-requires : goal.load_edges-loaded-requires
 load_edges-loaded-requires c = (c.requires.accepted.0, blank_none)
 
-pub mark_edges-requires : goal.mark_edges-requires
-mark_edges-requires c =
-    let T = c.load_edges-loaded.ensures in
-    record { n_bound = (T.split.few, T.six, c.requires.accepted.1, T.split.from, T.split.to); by_index = c.requires.by_index }
-
 pub returns : goal.returns
 returns c =
-    let T = c.load_edges-loaded.ensures in
+    let T = c.load_edges-loaded.ensures.tabled in
     let (m, beside) = c.mark_edges.ensures in
     (λ x y l k. edge-any c.args.s.now c.args.chart T.columns x y ∙ sym (rw T.count at (m.at x y l k)), beside)

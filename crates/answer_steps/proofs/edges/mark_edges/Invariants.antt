@@ -6,6 +6,3 @@ use Rattle.answer_steps.proofs.edges.mark_edges.Given as goal
 
 abbrev pub invariant-loop-i : goal.invariant-loop-i
 invariant-loop-i l = (l.i ≤ l.n) × Marked (row l.edges 0) (row l.edges 1) l.i l.table × Beside 0 1024 l.initial.table l.table
-
-abbrev pub decreases-loop-i : goal.decreases-loop-i
-decreases-loop-i l = l.n - l.i

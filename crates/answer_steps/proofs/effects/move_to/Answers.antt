@@ -4,4 +4,4 @@ use Rattle.answer_steps.proofs.Stores.{shows-moved}
 use Rattle.answer_steps.proofs.effects.move_to.Goals as goal
 
 pub returns : goal.returns
-returns c = λ σ S. shows-moved S c.args.t c.requires.1 c.args.v c.requires.2
+returns c σ S = shows-moved S c.args.t c.requires.0 c.args.v c.requires.1

@@ -11,39 +11,6 @@ use Rattle.answer_steps.specs.Words.{construct_word}
 use Rattle.answer_steps.proofs.Whole.{region-few, tabled}
 use Rattle.answer_steps.proofs.fill.fill_table.Goals as goal
 
-pub members_of-members-requires : goal.members_of-members-requires
-members_of-members-requires c = c.requires
-
-pub fill_above-requires : goal.fill_above-requires
-fill_above-requires c = (c.requires, length-replicate {A = ℕ} 48 0)
-
-pub fill_nodes-requires : goal.fill_nodes-requires
-fill_nodes-requires c = (c.requires, c.fill_above.ensures, omega arith, length-replicate {A = ℕ} 2133 0)
-
-pub fill_nodes-requires-2 : goal.fill_nodes-requires-2
-fill_nodes-requires-2 c = (c.requires, c.fill_above.ensures, omega arith, c.fill_nodes.ensures.long ∙ length-replicate {A = ℕ} 2133 0)
-
-pub fill_nodes-requires-3 : goal.fill_nodes-requires-3
-fill_nodes-requires-3 c = (c.requires, c.fill_above.ensures, omega arith, c.fill_nodes-2.ensures.long ∙ c.fill_nodes.ensures.long ∙ length-replicate {A = ℕ} 2133 0)
-
-pub frames-requires : goal.frames-requires
-frames-requires c = c.requires
-
-pub fill_constructs-requires : goal.fill_constructs-requires
-fill_constructs-requires c = (c.requires, omega arith, c.fill_nodes-3.ensures.long ∙ c.fill_nodes-2.ensures.long ∙ c.fill_nodes.ensures.long ∙ length-replicate {A = ℕ} 2133 0, c.frames.ensures.0.node, c.frames.ensures.1.node)
-
-pub fill_constructs-requires-2 : goal.fill_constructs-requires-2
-fill_constructs-requires-2 c = (c.requires, omega arith, c.fill_constructs.ensures.long ∙ c.fill_nodes-3.ensures.long ∙ c.fill_nodes-2.ensures.long ∙ c.fill_nodes.ensures.long ∙ length-replicate {A = ℕ} 2133 0, c.frames.ensures.0.node, c.frames.ensures.1.node)
-
-pub fill_constructs-requires-3 : goal.fill_constructs-requires-3
-fill_constructs-requires-3 c = (c.requires, omega arith, c.fill_constructs-2.ensures.long ∙ c.fill_constructs.ensures.long ∙ c.fill_nodes-3.ensures.long ∙ c.fill_nodes-2.ensures.long ∙ c.fill_nodes.ensures.long ∙ length-replicate {A = ℕ} 2133 0, c.frames.ensures.0.node, c.frames.ensures.1.node)
-
-pub fill_constructs-requires-4 : goal.fill_constructs-requires-4
-fill_constructs-requires-4 c = (c.requires, omega arith, c.fill_constructs-3.ensures.long ∙ c.fill_constructs-2.ensures.long ∙ c.fill_constructs.ensures.long ∙ c.fill_nodes-3.ensures.long ∙ c.fill_nodes-2.ensures.long ∙ c.fill_nodes.ensures.long ∙ length-replicate {A = ℕ} 2133 0, c.frames.ensures.0.node, c.frames.ensures.1.node)
-
-pub fill_constructs-requires-5 : goal.fill_constructs-requires-5
-fill_constructs-requires-5 c = (c.requires, omega arith, c.fill_constructs-4.ensures.long ∙ c.fill_constructs-3.ensures.long ∙ c.fill_constructs-2.ensures.long ∙ c.fill_constructs.ensures.long ∙ c.fill_nodes-3.ensures.long ∙ c.fill_nodes-2.ensures.long ∙ c.fill_nodes.ensures.long ∙ length-replicate {A = ℕ} 2133 0, c.frames.ensures.0.node, c.frames.ensures.1.node)
-
 pub put_numbers-requires : goal.put_numbers-requires
 put_numbers-requires c = (omega (arith, c.requires.laid.two-nodes), region-few _ c.args.chart c.requires, c.fill_constructs-5.ensures.long ∙ c.fill_constructs-4.ensures.long ∙ c.fill_constructs-3.ensures.long ∙ c.fill_constructs-2.ensures.long ∙ c.fill_constructs.ensures.long ∙ c.fill_nodes-3.ensures.long ∙ c.fill_nodes-2.ensures.long ∙ c.fill_nodes.ensures.long ∙ length-replicate {A = ℕ} 2133 0, c.frames.ensures.0.node, c.frames.ensures.1.node)
 

@@ -36,29 +36,11 @@ pub loop-t-init : goal.loop-t-init
 unfolding every
 loop-t-init c = (omega arith, λ R σ T S x l h. ((λ g. absurd (has-none x g)), λ g. absurd (clash refl g)))
 
-pub taken_by-taken-requires : goal.taken_by-taken-requires
-taken_by-taken-requires c = (c.requires.0, c.requires.2, omega (arith, c.requires.1))
-
-pub overflow_add-t : goal.overflow_add-t
-overflow_add-t c = omega arith
-
-pub loop-t-smaller : goal.loop-t-smaller
-loop-t-smaller c = omega arith
-
 pub loop-t-preserved : goal.loop-t-preserved
 loop-t-preserved c = (
   omega arith,
   λ R σ T S x k h. more (untaken_by σ c.args.c c.args.instance x) c.loop-t.t c.loop-t.taken c.taken_by-taken.result x (c.loop-t.invariant.1 R σ T S x k h) (c.taken_by-taken.ensures R σ T S x k h),
 )
-
-pub overflow_add-sections : goal.overflow_add-sections
-overflow_add-sections c = omega (arith, c.requires.2)
-
-pub offset_bounds-table-c : goal.offset_bounds-table-c
-offset_bounds-table-c c = omega (arith, c.requires.2)
-
-pub bounds-table-c : goal.bounds-table-c
-bounds-table-c c = omega (arith, c.requires.2, c.requires.0.tabled.long)
 
 pub returns : goal.returns
 unfolding all_taken is_untaken

@@ -9,6 +9,3 @@ use Rattle.answer_steps.proofs.tests.all_taken.Given as goal
 abbrev pub invariant-loop-t : goal.invariant-loop-t
 invariant-loop-t l =
     (l.t ≤ l.m) × ((R : Region) (σ : State) → Tabled R l.table → Shows σ l.team → TakenIn R l.c l.taken (λ x. every l.t (untaken_by σ l.c l.instance x)))
-
-abbrev pub decreases-loop-t : goal.decreases-loop-t
-decreases-loop-t l = l.m - l.t

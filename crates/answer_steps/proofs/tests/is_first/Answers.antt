@@ -11,38 +11,26 @@ use Rattle.theory_traces.specs.Tests.{is_first}
 use Rattle.answer_steps.proofs.Laws.{every_more, every-fails}
 use Rattle.answer_steps.proofs.tests.is_first.Goals as goal
 
-pub count_of-own-requires : goal.count_of-own-requires
-count_of-own-requires c = (c.requires.0, c.requires.2, c.requires.3)
-
 pub loop-k-init : goal.loop-k-init
 unfolding every
 loop-k-init c = (omega arith, c.count_of-own.ensures, λ σ S. refl)
-
-pub count_of-requires : goal.count_of-requires
-count_of-requires c = (c.requires.0, omega arith, c.requires.3)
 
 pub returns-then-own-count_of : goal.returns-then-own-count_of
 unfolding is_first
 returns-then-own-count_of c =
     λ σ S.
-    let own = S.count c.args.t c.args.c c.requires.2 c.requires.3 in
-    let other = S.count c.loop-k.k c.args.c (omega arith) c.requires.3 in
+    let own = S.count c.args.t c.args.c c.requires.1 c.requires.2 in
+    let other = S.count c.loop-k.k c.args.c (omega arith) c.requires.2 in
     sym (every-fails c.args.m (λ j. leb (σ.encounters j c.args.c) (σ.encounters c.args.t c.args.c)) c.loop-k.k (omega arith)
     (lt-leb (σ.encounters c.loop-k.k c.args.c) (σ.encounters c.args.t c.args.c) (omega (arith, c.if-own-count_of.true, c.loop-k.invariant.1, c.count_of.ensures, own, other))))
-
-pub overflow_add-k : goal.overflow_add-k
-overflow_add-k c = omega arith
-
-pub loop-k-smaller : goal.loop-k-smaller
-loop-k-smaller c = omega arith
 
 pub loop-k-preserved : goal.loop-k-preserved
 loop-k-preserved c = (
   omega arith,
   c.loop-k.invariant.1,
   λ σ S.
-      let own = S.count c.args.t c.args.c c.requires.2 c.requires.3 in
-      let other = S.count c.loop-k.k c.args.c (omega arith) c.requires.3 in
+      let own = S.count c.args.t c.args.c c.requires.1 c.requires.2 in
+      let other = S.count c.loop-k.k c.args.c (omega arith) c.requires.2 in
       every_more c.loop-k.k (λ j. leb (σ.encounters j c.args.c) (σ.encounters c.args.t c.args.c)) (c.loop-k.invariant.2 σ S) (le-leb (σ.encounters c.loop-k.k c.args.c) (σ.encounters c.args.t c.args.c) (omega (arith, c.if-own-count_of.false, c.loop-k.invariant.1, c.count_of.ensures, own, other))),
 )
 

@@ -13,18 +13,9 @@ pub loop-t-init : goal.loop-t-init
 unfolding every
 loop-t-init c = (omega arith, λ σ S. refl)
 
-pub untaken_by-requires : goal.untaken_by-requires
-untaken_by-requires c = (c.requires.0, c.requires.2, c.requires.3, omega arith)
-
 pub returns-then-not-untaken_by : goal.returns-then-not-untaken_by
 unfolding is_untaken
 returns-then-not-untaken_by c = λ σ S. sym (every-fails c.args.m _ c.loop-t.t (omega (arith)) (sym (c.untaken_by.ensures σ S) ∙ c.if-not-untaken_by.true))
-
-pub overflow_add-t : goal.overflow_add-t
-overflow_add-t c = omega arith
-
-pub loop-t-smaller : goal.loop-t-smaller
-loop-t-smaller c = omega arith
 
 pub loop-t-preserved : goal.loop-t-preserved
 loop-t-preserved c =

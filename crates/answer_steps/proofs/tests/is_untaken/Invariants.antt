@@ -11,6 +11,3 @@ use Rattle.answer_steps.proofs.tests.is_untaken.Given as goal
 abbrev pub invariant-loop-t : goal.invariant-loop-t
 invariant-loop-t l =
     (l.t ≤ l.m) × ((σ : State) → Shows σ l.team → every l.t (λ j. leb (σ.encounters j l.c) l.instance && (not (eqb (σ.encounters j l.c) l.instance) || not (σ.taken j l.c l.x))) ≡ true)
-
-abbrev pub decreases-loop-t : goal.decreases-loop-t
-decreases-loop-t l = l.m - l.t

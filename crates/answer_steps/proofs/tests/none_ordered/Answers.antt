@@ -13,18 +13,9 @@ pub loop-k-init : goal.loop-k-init
 unfolding every
 loop-k-init c = (omega arith, λ R σ T S. refl)
 
-pub not_beside-requires : goal.not_beside-requires
-not_beside-requires c = (c.requires.0, c.requires.2, c.requires.3, omega arith)
-
 pub returns-then-not-not_beside : goal.returns-then-not-not_beside
 unfolding none_ordered
 returns-then-not-not_beside c = λ R σ T S. sym (every-fails c.args.m _ c.loop-k.k (omega (arith)) (sym (c.not_beside.ensures R σ T S) ∙ c.if-not-not_beside.true))
-
-pub overflow_add-k : goal.overflow_add-k
-overflow_add-k c = omega arith
-
-pub loop-k-smaller : goal.loop-k-smaller
-loop-k-smaller c = omega arith
 
 pub loop-k-preserved : goal.loop-k-preserved
 loop-k-preserved c =

@@ -13,6 +13,3 @@ use Rattle.answer_steps.proofs.tests.none_ordered.Given as goal
 abbrev pub invariant-loop-k : goal.invariant-loop-k
 invariant-loop-k l =
     (l.k ≤ l.m) × ((R : Region) (σ : State) → Tabled R l.table → Shows σ l.team → every l.k (λ j. eqb j l.t || (not (in_ordered_of R (σ.node j) l.d) || not (eqb (σ.encounters j l.d) (σ.encounters l.t l.d)))) ≡ true)
-
-abbrev pub decreases-loop-k : goal.decreases-loop-k
-decreases-loop-k l = l.m - l.k

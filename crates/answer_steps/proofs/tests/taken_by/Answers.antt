@@ -10,35 +10,12 @@ use Rattle.lists.specs.Mask.{has-none, mask-of}
 use Rattle.answer_steps.specs.Tables.{untaken_by}
 use Rattle.answer_steps.proofs.tests.taken_by.Goals as goal
 
-pub count_of-own-requires : goal.count_of-own-requires
-count_of-own-requires c = (c.requires.0.shows.long, c.requires.2, c.requires.1)
-
-pub overflow_add-result : goal.overflow_add-result
-overflow_add-result c = omega (arith, c.requires.1)
-
-pub offset_bounds-table-c : goal.offset_bounds-table-c
-offset_bounds-table-c c = omega (arith, c.requires.1)
-
-pub bounds-table-c : goal.bounds-table-c
-bounds-table-c c = omega (arith, c.requires.1, c.requires.0.tabled.long)
-
 pub returns-then-instance-own : goal.returns-then-instance-own
 returns-then-instance-own c =
     λ R σ T S x l h.
     let own = c.count_of-own.ensures ∙ S.count c.args.t c.args.c c.requires.2 c.requires.1 in
     let past : c.args.instance < σ.encounters c.args.t c.args.c = omega (arith, own, c.if-instance-own.true) in
     ((λ g. rw (lt-leb _ _ past)), λ g. rw (T.sections c.args.c c.requires.1) ((mask-of _ R.constructs).all x l h))
-
-pub returns-then-own-instance : goal.returns-then-own-instance
-returns-then-own-instance c =
-    λ R σ T S x l h.
-    let own = c.count_of-own.ensures ∙ S.count c.args.t c.args.c c.requires.2 c.requires.1 in
-    let most : σ.encounters c.args.t c.args.c ≤ c.args.instance = omega (arith, own, c.if-instance-own.false) in
-    let free : untaken_by σ c.args.c c.args.instance x c.args.t ≡ true = rw (le-leb _ _ most, ne_eqb _ _ (λ z. c.if-own-instance.true (own ∙ z))) in
-    ((λ g. absurd (has-none x g)), λ g. absurd (clash free g))
-
-pub taken_of-requires : goal.taken_of-requires
-taken_of-requires c = (c.requires.0.shows.long, c.requires.2, c.requires.1)
 
 pub returns : goal.returns
 returns c =

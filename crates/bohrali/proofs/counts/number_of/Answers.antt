@@ -9,16 +9,16 @@ use Rattle.theory_calls.specs.Admission.{number_of}
 use Rattle.bohrali.proofs.counts.number_of.Goals as goal
 
 pub packed-requires : goal.packed-requires
-packed-requires c = c.requires _ c.in-Admitted.is
+packed-requires c = c.requires _ c.in-Ok.is
 
-pub returns-in-Admitted : goal.returns-in-Admitted
+pub returns-in-Ok : goal.returns-in-Ok
 unfolding number_of
-returns-in-Admitted c =
+returns-in-Ok c =
     let e : to_z w64 (of_z w64 c.counted.result) ≡ c.counted.result = search rules in
-    e ∙ c.counted.ensures ∙ ap pos c.packed.ensures.0 ∙ sym (ap number_of c.in-Admitted.is)
+    e ∙ c.counted.ensures ∙ ap pos c.packed.ensures.0 ∙ sym (ap number_of c.in-Ok.is)
 
-pub returns-in-Refused : goal.returns-in-Refused
+pub returns-in-Err : goal.returns-in-Err
 unfolding number_of
-returns-in-Refused c =
+returns-in-Err c =
     let e : to_z w64 (of_z w64 c.negated.result) ≡ c.negated.result = search rules in
-    e ∙ c.negated.ensures ∙ sym (ap number_of c.in-Refused.is)
+    e ∙ c.negated.ensures ∙ sym (ap number_of c.in-Err.is)

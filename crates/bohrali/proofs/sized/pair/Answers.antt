@@ -8,14 +8,14 @@ use mir.Val.{to_z, of_z}
 use Rattle.theory_calls.specs.Pair.{number_of}
 use Rattle.bohrali.proofs.sized.pair.Goals as goal
 
-pub returns-in-Answer : goal.returns-in-Answer
+pub returns-in-Ok : goal.returns-in-Ok
 unfolding number_of
-returns-in-Answer c =
+returns-in-Ok c =
     let e : to_z w64 (of_z w64 c.counted.result) ≡ c.counted.result = search rules in
-    e ∙ c.counted.ensures ∙ ap pos c.wide.ensures.0 ∙ sym (ap number_of (sym c.pair.ensures ∙ c.in-Answer.is))
+    e ∙ c.counted.ensures ∙ ap pos c.from.ensures ∙ sym (ap number_of (sym c.pair.ensures ∙ c.in-Ok.is))
 
-pub returns-in-Refused : goal.returns-in-Refused
+pub returns-in-Err : goal.returns-in-Err
 unfolding number_of
-returns-in-Refused c =
+returns-in-Err c =
     let e : to_z w64 (of_z w64 c.negated.result) ≡ c.negated.result = search rules in
-    e ∙ c.negated.ensures ∙ sym (ap number_of (sym c.pair.ensures ∙ c.in-Refused.is))
+    e ∙ c.negated.ensures ∙ sym (ap number_of (sym c.pair.ensures ∙ c.in-Err.is))

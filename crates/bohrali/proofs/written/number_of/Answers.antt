@@ -8,16 +8,16 @@ use Rattle.output.specs.Output.{number_of}
 use Rattle.bohrali.proofs.written.number_of.Goals as goal
 
 pub counted-requires : goal.counted-requires
-counted-requires c = c.requires _ c.in-Bytes.is
+counted-requires c = c.requires _ c.in-Ok.is
 
-pub returns-in-Bytes : goal.returns-in-Bytes
+pub returns-in-Ok : goal.returns-in-Ok
 unfolding number_of
-returns-in-Bytes c =
+returns-in-Ok c =
     let e : to_z w64 (of_z w64 c.counted.result) ≡ c.counted.result = search rules in
-    e ∙ c.counted.ensures ∙ sym (ap number_of c.in-Bytes.is)
+    e ∙ c.counted.ensures ∙ sym (ap number_of c.in-Ok.is)
 
-pub returns-in-Refused : goal.returns-in-Refused
+pub returns-in-Err : goal.returns-in-Err
 unfolding number_of
-returns-in-Refused c =
+returns-in-Err c =
     let e : to_z w64 (of_z w64 c.negated.result) ≡ c.negated.result = search rules in
-    e ∙ c.negated.ensures ∙ sym (ap number_of c.in-Refused.is)
+    e ∙ c.negated.ensures ∙ sym (ap number_of c.in-Err.is)

@@ -1,5 +1,4 @@
 -- The invariants and measures of `call_admit::count::unite`.
-use Prim.Native.Nat.{◌≤◌, ◌-◌}
 use Rattle.chart.specs.Region.{Region}
 use Rattle.theory_paths.specs.Phases.{forward, backward}
 use Rattle.mark_tables.specs.Tables.{Masks}
@@ -9,7 +8,4 @@ use Rattle.call_admit.proofs.count.unite.Given as goal
 
 abbrev pub invariant-loop-x : goal.invariant-loop-x
 invariant-loop-x l =
-    (l.x ≤ l.n) × Added l.unions l.last_starts l.last_ends l.unions × ((R : Region) → Masks forward R l.starts → Masks backward R l.ends → United R l.x l.unions)
-
-abbrev pub decreases-loop-x : goal.decreases-loop-x
-decreases-loop-x l = l.n - l.x
+    Added l.unions l.last.starts l.last.ends l.unions × ((R : Region) → Masks forward R l.starts → Masks backward R l.ends → United R l.x l.unions)

@@ -1,6 +1,6 @@
 -- `call_edges::ask::ask_into` meets its contract.
 -- Assumes nothing.
-use mathlib.Core.Path.{◌≡◌, sym, ◌∙◌}
+use Rattle.std.proofs.Common.{◌≡◌, Err, rules, sym, ◌∙◌}
 use mathlib.Core.Option.{none}
 use Prim.Native.Nat.{◌≤◌}
 use native.Mathlib.Omega.{arith}
@@ -16,7 +16,7 @@ use Rattle.call_edges.proofs.ask.ask_into.Goals as goal
 pub slice_bounds-ask_longer-end : goal.slice_bounds-ask_longer-end
 slice_bounds-ask_longer-end c =
     let passes : first_of (front_rows c.args.buffer.now c.args.len) ≡ none =
-    (passed_none _ _ (sym c.check_front.ensures ∙ c.in-Passed.is)).0 in
+    (passed_none _ _ (sym c.check_front.ensures ∙ c.in_ok-chart.was)).0 in
     let present : (c.args.len ≤ length c.args.buffer.now) × Admitted (take c.args.len c.args.buffer.now) =
     front-admitted c.args.buffer.now c.args.len passes in
     sym (length-take-le _ _ present.0)
@@ -24,20 +24,21 @@ slice_bounds-ask_longer-end c =
 pub ask_longer-requires : goal.ask_longer-requires
 ask_longer-requires c =
     let passes : first_of (front_rows c.args.buffer.now c.args.len) ≡ none =
-    (passed_none _ _ (sym c.check_front.ensures ∙ c.in-Passed.is)).0 in
+    (passed_none _ _ (sym c.check_front.ensures ∙ c.in_ok-chart.was)).0 in
     let present : (c.args.len ≤ length c.args.buffer.now) × Admitted (take c.args.len c.args.buffer.now) =
     front-admitted c.args.buffer.now c.args.len passes in
-    ((present.1, (passed_none _ _ (sym c.check_front.ensures ∙ c.in-Passed.is)).1), c.requires)
+    ((present.1, (passed_none _ _ (sym c.check_front.ensures ∙ c.in_ok-chart.was)).1), c.requires)
 
-pub returns-in-Refused : goal.returns-in-Refused
-returns-in-Refused c =
-    let h = refused-some _ _ (sym c.check_front.ensures ∙ c.in-Refused.is) in
-    record { value = front-refused c.args.buffer.now c.args.len c.args.from c.args.to _ h; len_bound = λ receipt q. absurd (apart q) }
+pub returns-in_err-chart : goal.returns-in_err-chart
+returns-in_err-chart c =
+    let h = refused-some _ _ (sym c.check_front.ensures ∙ c.in_err-chart.was) in
+    let same : c.from_residual.result ≡ Err c.in_err-chart.field-0.0 = search rules in
+    record { value = same ∙ front-refused c.args.buffer.now c.args.len c.args.from c.args.to _ h; len_bound = λ receipt q. absurd (apart (sym same ∙ q)) }
 
-pub returns-in-Passed : goal.returns-in-Passed
-returns-in-Passed c =
+pub returns : goal.returns
+returns c =
     let passes : first_of (front_rows c.args.buffer.now c.args.len) ≡ none =
-    (passed_none _ _ (sym c.check_front.ensures ∙ c.in-Passed.is)).0 in
+    (passed_none _ _ (sym c.check_front.ensures ∙ c.in_ok-chart.was)).0 in
     let present : (c.args.len ≤ length c.args.buffer.now) × Admitted (take c.args.len c.args.buffer.now) =
     front-admitted c.args.buffer.now c.args.len passes in
     let edge = c.edge_between.ensures in

@@ -1,6 +1,6 @@
 -- `call_edges::ask::ask_longer` meets its contract.
 -- Assumes nothing.
-use mathlib.Core.Path.{sym, ◌∙◌}
+use Rattle.std.proofs.Common.{◌≡◌, Err, rules, sym, ◌∙◌}
 use native.Mathlib.Omega.{arith}
 use Rattle.chart.proofs.Accepted.{laid}
 use Rattle.theory_edits.proofs.SpliceLaws.{inserted-length}
@@ -17,16 +17,17 @@ put_longer-requires c =
     let ((admits, counts), long) = c.requires in
     ((trailer-passes _ admits, counts), c.place_of-place.ensures.0, omega (arith, chart-most _ admits))
 
-pub returns-in-Refused : goal.returns-in-Refused
-returns-in-Refused c =
+pub returns-in_err-check_front : goal.returns-in_err-check_front
+returns-in_err-check_front c =
     let is = c.put_longer.ensures in
     let long = inserted-length _ (admitted-laid _ c.requires.0.0) c.args.edge.from c.args.edge.to in
-    let h = refused-some _ _ (sym c.check_front.ensures ∙ c.in-Refused.is) in
-    record { value = longer-refused c.args.s.now c.args.edge.from c.args.edge.to _ (sym (within _ _ is long) ∙ h); longer_after = is }
+    let h = refused-some _ _ (sym c.check_front.ensures ∙ c.in_err-check_front.was) in
+    let same : c.from_residual.result ≡ Err c.in_err-check_front.field-0.0 = search rules in
+    record { value = same ∙ longer-refused c.args.s.now c.args.edge.from c.args.edge.to _ (sym (within _ _ is long) ∙ h); longer_after = is }
 
-pub returns-in-Passed : goal.returns-in-Passed
-returns-in-Passed c =
+pub returns : goal.returns
+returns c =
     let is = c.put_longer.ensures in
     let long = inserted-length _ (admitted-laid _ c.requires.0.0) c.args.edge.from c.args.edge.to in
-    let h = (passed_none _ _ (sym c.check_front.ensures ∙ c.in-Passed.is)).0 in
+    let h = (passed_none _ _ (sym c.check_front.ensures ∙ c.in_ok-check_front.was)).0 in
     record { value = rw c.place_of-place.ensures.0 (longer-admitted c.args.s.now c.args.edge.from c.args.edge.to (sym (within _ _ is long) ∙ h)); longer_after = is }

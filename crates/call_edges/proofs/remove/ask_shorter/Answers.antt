@@ -1,6 +1,7 @@
 -- `call_edges::remove::ask_shorter` meets its contract.
 -- Assumes nothing.
-use mathlib.Core.Path.{◌≡◌, refl, sym, ◌∙◌}
+use Rattle.std.proofs.Common.{◌≡◌, Err, rules, sym, ◌∙◌}
+use mathlib.Core.Path.{refl}
 use mathlib.Core.Bool.{false, not}
 use mathlib.Core.List.{[]}
 use native.Mathlib.Omega.{arith}
@@ -46,24 +47,25 @@ put_shorter-requires c =
       omega (arith, chart-most _ admits),
     )
 
-pub returns-in-Refused : goal.returns-in-Refused
-returns-in-Refused c =
+pub returns-in_err-check_front : goal.returns-in_err-check_front
+returns-in_err-check_front c =
     let there : not (edge_in (decode c.args.s.now).edges c.args.edge.from c.args.edge.to) ≡ false =
     sym c.lacks_edge.ensures ∙ c.if-lacks_edge.false in
     let s = c.args.s.now in
     let x = c.args.edge.from in
     let y = c.args.edge.to in
     let is = c.put_shorter.ensures x y c.place_of-place.ensures.0 in
-    let h = refused-some _ _ (sym c.check_front.ensures ∙ c.in-Refused.is) in
-    record { value = (refused _ _ [] [] (sym (short-front s x y there c.requires.0.0 _ is) ∙ h)).0; by_index = λ count q. absurd (apart q) }
+    let h = refused-some _ _ (sym c.check_front.ensures ∙ c.in_err-check_front.was) in
+    let same : c.from_residual.result ≡ Err c.in_err-check_front.field-0.0 = search rules in
+    record { value = same ∙ (refused _ _ [] [] (sym (short-front s x y there c.requires.0.0 _ is) ∙ h)).0; by_index = λ count q. absurd (apart (sym same ∙ q)) }
 
-pub returns-in-Passed : goal.returns-in-Passed
-returns-in-Passed c =
+pub returns : goal.returns
+returns c =
     let there : not (edge_in (decode c.args.s.now).edges c.args.edge.from c.args.edge.to) ≡ false =
     sym c.lacks_edge.ensures ∙ c.if-lacks_edge.false in
     let s = c.args.s.now in
     let x = c.args.edge.from in
     let y = c.args.edge.to in
     let is = c.put_shorter.ensures x y c.place_of-place.ensures.0 in
-    let h = (passed_none _ _ (sym c.check_front.ensures ∙ c.in-Passed.is)).0 in
+    let h = (passed_none _ _ (sym c.check_front.ensures ∙ c.in_ok-check_front.was)).0 in
     record { value = (passed _ _ [] [] refl (sym (short-front s x y there c.requires.0.0 _ is) ∙ h)).0; by_index = λ count q. is }

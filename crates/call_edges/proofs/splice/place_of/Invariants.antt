@@ -1,6 +1,6 @@
 -- The invariants and measures of `call_edges::splice::place_of`.
 use mathlib.Core.Path.{◌≡◌}
-use Prim.Native.Nat.{◌-◌, ◌≤◌}
+use Prim.Native.Nat.{◌≤◌}
 use Rattle.lists.specs.Range.{count}
 use Rattle.chart.specs.Format.{decode, edge_at}
 use Rattle.chart.specs.Refusal.{rises}
@@ -8,7 +8,4 @@ use Rattle.call_edges.proofs.splice.place_of.Given as goal
 
 abbrev pub invariant-loop-i : goal.invariant-loop-i
 invariant-loop-i l =
-    (l.i ≤ l.e) × (l.sum ≤ l.i) × (l.sum ≡ count l.i (λ k. rises (edge_at (decode l.s).edges k).from (edge_at (decode l.s).edges k).to l.edge.from l.edge.to))
-
-abbrev pub decreases-loop-i : goal.decreases-loop-i
-decreases-loop-i l = l.e - l.i
+    (l.sum ≤ l.i) × (l.sum ≡ count l.i (λ k. rises (edge_at (decode l.s).edges k).from (edge_at (decode l.s).edges k).to l.edge.from l.edge.to))

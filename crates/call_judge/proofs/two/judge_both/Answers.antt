@@ -10,25 +10,25 @@ use Rattle.call_judge.proofs.two.judge_both.Goals as goal
 
 pub judge_claims-first-requires : goal.judge_claims-first-requires
 judge_claims-first-requires c =
-    let S = c.survey.ensures.survey _ c.in-Passed.is in
+    let S = c.survey.ensures.survey _ c.in-Ok.is in
     (S.accepted, S.marked)
 
 pub judge_claims-second-requires : goal.judge_claims-second-requires
 judge_claims-second-requires c =
-    let S = c.survey.ensures.survey _ c.in-Passed.is in
+    let S = c.survey.ensures.survey _ c.in-Ok.is in
     (S.accepted, S.marked)
 
-pub returns-in-Refused : goal.returns-in-Refused
-returns-in-Refused c =
+pub returns-in-Err : goal.returns-in-Err
+returns-in-Err c =
     let s = c.args.s.now in
     let p = c.args.region in
-    let n = refused-some _ (read_for (counts_of s) p) _ (sym c.survey.ensures.value ∙ c.in-Refused.is) in
+    let n = refused-some _ (read_for (counts_of s) p) _ (sym c.survey.ensures.value ∙ c.in-Err.is) in
     (refused-judged s p Any _ _ n, refused-judged s p Any _ _ n)
 
-pub returns-in-Passed : goal.returns-in-Passed
-returns-in-Passed c =
+pub returns-in-Ok : goal.returns-in-Ok
+returns-in-Ok c =
     let s = c.args.s.now in
     let p = c.args.region in
-    let n = passed_none _ (read_for (counts_of s) p) _ (sym c.survey.ensures.value ∙ c.in-Passed.is) in
+    let n = passed_none _ (read_for (counts_of s) p) _ (sym c.survey.ensures.value ∙ c.in-Ok.is) in
     let named = sym (ap (λ (chart : Chart). chart.region) n.1) in
     (listed-judged s p Any _ _ n.0 (rw named at c.judge_claims-first.ensures), listed-judged s p Any _ _ n.0 (rw named at c.judge_claims-second.ensures))

@@ -1,29 +1,28 @@
 -- `call_listing::reader::read` meets its contract.
 -- Assumes nothing.
-use mathlib.Core.Path.{◌≡◌, sym, ◌∙◌, ap}
-use Prim.Native.Nat.{suc}
-use native.Mathlib.Omega.{arith}
-use lib.ListN.{length}
+use Rattle.std.proofs.Common.{◌≡◌, Ok, Err, rules, sym, ◌∙◌, ap, suc, length, arith}
 use borrow.Author.Tests.{eq-eqb, ne_eqb}
-use Rattle.call_listing.specs.declared.reader.Extent.TheVariants.{UpTo}
-use Rattle.call_listing.specs.Extent.{refused}
+use Rattle.chart.specs.declared.format.Refusal.TheVariants.{BadGrammar}
+use Rattle.call_listing.specs.Extent.{Told}
 use Rattle.call_listing.proofs.Steps.{ending, whole-extent}
 use Rattle.call_listing.proofs.reader.read.Goals as goal
 
-pub returns-in-Stopped : goal.returns-in-Stopped
-returns-in-Stopped c =
+pub returns-in_err-all : goal.returns-in_err-all
+returns-in_err-all c =
+    let same : c.from_residual.result ≡ Err c.in_err-all.field-0.0 = search rules in
     let s = c.args.s.now in
-    ap (ending s) (sym c.in-Stopped.is ∙ c.block.ensures.by_index (suc (length s)) (omega arith)) ∙ whole-extent s
+    same ∙ ap (ending s) (sym c.in_err-all.was ∙ c.block.ensures.by_index (suc (length s)) (omega arith)) ∙ whole-extent s
 
-pub returns-then-next-s : goal.returns-then-next-s
-returns-then-next-s c =
+pub returns-then-all-s : goal.returns-then-all-s
+returns-then-all-s c =
     let s = c.args.s.now in
-    let here : UpTo c.in-UpTo.next c.in-UpTo.nodes c.in-UpTo.constructs ≡ ending s (UpTo c.in-UpTo.next c.in-UpTo.nodes c.in-UpTo.constructs) =
-    rw (eq-eqb c.in-UpTo.next (length s) c.if-next-s.true) in
-    here ∙ ap (ending s) (sym c.in-UpTo.is ∙ c.block.ensures.by_index (suc (length s)) (omega arith)) ∙ whole-extent s
+    let all = c.in_ok-all.all in
+    let here : ◌≡◌ {A = Told} (Ok all) (ending s (Ok all)) = rw (eq-eqb all.next (length s) c.if-all-s.true) in
+    here ∙ ap (ending s) (sym c.in_ok-all.was ∙ c.block.ensures.by_index (suc (length s)) (omega arith)) ∙ whole-extent s
 
-pub returns-else-next-s : goal.returns-else-next-s
-returns-else-next-s c =
+pub returns-else-all-s : goal.returns-else-all-s
+returns-else-all-s c =
     let s = c.args.s.now in
-    let here : refused 14 ≡ ending s (UpTo c.in-UpTo.next c.in-UpTo.nodes c.in-UpTo.constructs) = rw (ne_eqb c.in-UpTo.next (length s) c.if-next-s.false) in
-    here ∙ ap (ending s) (sym c.in-UpTo.is ∙ c.block.ensures.by_index (suc (length s)) (omega arith)) ∙ whole-extent s
+    let all = c.in_ok-all.all in
+    let here : ◌≡◌ {A = Told} (Err BadGrammar) (ending s (Ok all)) = rw (ne_eqb all.next (length s) c.if-all-s.false) in
+    here ∙ ap (ending s) (sym c.in_ok-all.was ∙ c.block.ensures.by_index (suc (length s)) (omega arith)) ∙ whole-extent s

@@ -4,6 +4,7 @@ use mathlib.Core.Path.{◌≡◌, refl}
 use mathlib.Core.List.{[], ◌∷◌}
 use Prim.Native.Nat.{◌+◌, ◌*◌}
 use native.Mathlib.Omega.{arith}
+use native.Mathlib.Decide.{dec_lt}
 use lib.ListN.{take}
 use Rattle.chart_writing.specs.Encode.{flat}
 use Rattle.chart_writing.proofs.Putting.{chained}
@@ -16,26 +17,11 @@ unfolding flat
 returns-then-x-y c sort lies q =
     let k = c.args.k in
     let n = c.args.e in
-    let x = c.args.x in
     let y = c.args.y in
-    let two : n + 1 + 1 ≡ n + 2 = omega arith in
-    rw (two-below x y c.if-x-y.true)
-    (stored-cell k sort c.args.node.kind c.args.node.number lies q n (n + 2) _ c.args.edges.now _ _ (x ∷ (y ∷ [])) c.put_record.ensures
-    (chained (take (2 * n) c.args.edges.now) (k ∷ (x ∷ [])) (k ∷ (y ∷ [])) c.put_edge.ensures (rw two at c.put_edge-then-x-y.ensures))
-    refl (omega arith))
-
-pub returns-then-y-x : goal.returns-then-y-x
-unfolding flat
-returns-then-y-x c sort lies q =
-    let k = c.args.k in
-    let n = c.args.e in
-    let x = c.args.x in
-    let y = c.args.y in
-    let two : n + 1 + 1 ≡ n + 2 = omega arith in
-    rw (two-above x y c.if-y-x.true)
-    (stored-cell k sort c.args.node.kind c.args.node.number lies q n (n + 2) _ c.args.edges.now _ _ (y ∷ (x ∷ [])) c.put_record.ensures
-    (chained (take (2 * n) c.args.edges.now) (k ∷ (y ∷ [])) (k ∷ (x ∷ [])) c.put_edge-then-y-x.ensures (rw two at c.put_edge-then-y-x-2.ensures))
-    refl (omega arith))
+    let low : c.min.result ≡ y = omega arith in
+    rw c.if-x-y.true
+    (rw (two-same y)
+    (stored-cell k sort c.args.node.kind c.args.node.number lies q n (n + 1) _ c.args.edges.now _ _ (y ∷ []) c.put_record.ensures (rw low at c.put_edge.ensures) refl (omega arith)))
 
 pub returns : goal.returns
 unfolding flat
@@ -44,7 +30,20 @@ returns c sort lies q =
     let n = c.args.e in
     let x = c.args.x in
     let y = c.args.y in
-    let same : x ≡ y = omega arith in
-    rw same
-    (rw (two-same y)
-    (stored-cell k sort c.args.node.kind c.args.node.number lies q n (n + 1) _ c.args.edges.now _ _ (y ∷ []) c.put_record.ensures (rw same at c.put_edge-2.ensures) refl (omega arith)))
+    let two : n + 1 + 1 ≡ n + 2 = omega arith in
+    elim (dec_lt x y) [
+      | yes h ↦
+          let low : c.min.result ≡ x = omega arith in
+          let high : c.max.result ≡ y = omega arith in
+          rw (two-below x y h)
+          (stored-cell k sort c.args.node.kind c.args.node.number lies q n (n + 2) _ c.args.edges.now _ _ (x ∷ (y ∷ [])) c.put_record.ensures
+          (chained (take (2 * n) c.args.edges.now) (k ∷ (x ∷ [])) (k ∷ (y ∷ [])) (rw low at c.put_edge.ensures) (rw (two, high) at c.put_edge-2.ensures))
+          refl (omega arith))
+      | no h ↦
+          let low : c.min.result ≡ y = omega arith in
+          let high : c.max.result ≡ x = omega arith in
+          rw (two-above x y (omega arith))
+          (stored-cell k sort c.args.node.kind c.args.node.number lies q n (n + 2) _ c.args.edges.now _ _ (y ∷ (x ∷ [])) c.put_record.ensures
+          (chained (take (2 * n) c.args.edges.now) (k ∷ (y ∷ [])) (k ∷ (x ∷ [])) (rw low at c.put_edge.ensures) (rw (two, high) at c.put_edge-2.ensures))
+          refl (omega arith))
+    ]

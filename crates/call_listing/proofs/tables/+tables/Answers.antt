@@ -5,12 +5,14 @@ use Rattle.theory_listing.specs.Tree.{node_count, simple, stop, opens}
 use Rattle.theory_listing.specs.Grammar.{loop_letter, branch_letter, letter_kind}
 use Rattle.call_listing.specs.declared.tables.Spot.{Spot}
 use Rattle.call_listing.specs.Reads.{Takes, ConstructAt}
+use Rattle.call_listing.proofs.Bounds.{beyond-read}
 use Rattle.call_listing.proofs.Begins.{ahead-most, plain-item, barrier-item}
 use Rattle.call_listing.proofs.Filling.{plain-filled, barrier-filled, loop-filled, branch-filled, construct-filled}
 use Rattle.call_listing.proofs.Parts.{kind-simple, kind-stop, kind-opens, InLoop, in-loop, InBranch, in-branch, InConstruct, in-construct}
 use Rattle.call_listing.proofs.Calls.{cell_room, few-after, falls-first, reads_first, leads-first, told, never-stopped, told-branch, falls-second, reads_second, leads-second}
 use Rattle.call_listing.proofs.Turns.{left-all, left-brace, left_ended, turn, never, takes, left-next}
 use Rattle.call_listing.proofs.tables.+tables.Goals as goal
+use Rattle.call_listing.proofs.tables.+tables.Goals.{fill_item-in-115, fill_item-in-98}
 
 -- The loop, the branch and the construct that stand at a spot whose item was read.
 module _ (s : List ℕ) (spot : Spot) (n : ℕ) (took : Takes s spot n) where
@@ -32,15 +34,15 @@ fill_block-loop-here-init t c =
 pub fill_block-returns-then-s-at-eq-CLOSE : goal.fill_block-returns-then-s-at-eq-CLOSE
 fill_block-returns-then-s-at-eq-CLOSE t c f b last h r = left-brace (c.loop-here.invariant.5 f b last h r) (omega arith) c.if-s-at-eq-CLOSE.true
 
-pub fill_block-returns-in-Stopped : goal.fill_block-returns-in-Stopped
-fill_block-returns-in-Stopped t c f b last h r =
-    absurd (never (c.loop-here.invariant.5 f b last h r) (omega arith) c.if-s-at-eq-CLOSE.false c.item.ensures.by_index c.in-Stopped.is)
+pub fill_block-returns-in_default : goal.fill_block-returns-in_default
+fill_block-returns-in_default t c f b last h r =
+    absurd (never (c.loop-here.invariant.5 f b last h r) (omega arith) c.if-s-at-eq-CLOSE.false c.item.ensures.by_index c.in_default.is)
 
 pub fill_block-overflow_add-node : goal.fill_block-overflow_add-node
 fill_block-overflow_add-node t c =
     let reads = c.requires.0 in
     let left = c.loop-here.invariant.5 reads.fuel reads.block reads.last reads.enough reads.read in
-    let item = takes left (omega arith) c.if-s-at-eq-CLOSE.false c.item.ensures.by_index c.in-UpTo.is 0 reads.nodes-fit reads.parts-fit in
+    let item = takes left (omega arith) c.if-s-at-eq-CLOSE.false c.item.ensures.by_index c.in-Ok.is 0 reads.nodes-fit reads.parts-fit in
     omega (arith, item.0.nodes-fit)
 
 pub fill_block-fill_item-edge-requires : goal.fill_block-fill_item-edge-requires
@@ -48,15 +50,15 @@ fill_block-fill_item-edge-requires t c =
     let inv = c.loop-here.invariant in
     let reads = c.requires.0 in
     let left = inv.5 reads.fuel reads.block reads.last reads.enough reads.read in
-    let item = (takes left (omega arith) c.if-s-at-eq-CLOSE.false c.item.ensures.by_index c.in-UpTo.is c.ahead.result reads.nodes-fit reads.parts-fit).0 in
-    let most = ahead-most c.args.s.now c.in-UpTo.next (c.loop-here.here.node + c.in-UpTo.n) c.args.spot.follow 191 c.ahead.result c.ahead.ensures item.nodes-fit c.requires.1.3 in
+    let item = (takes left (omega arith) c.if-s-at-eq-CLOSE.false c.item.ensures.by_index c.in-Ok.is c.ahead.result reads.nodes-fit reads.parts-fit).0 in
+    let most = ahead-most c.args.s.now c.in-Ok.read.next (c.loop-here.here.node + c.in-Ok.read.nodes) c.args.spot.follow 191 c.ahead.result c.ahead.ensures item.nodes-fit c.requires.1.3 in
     (omega (arith, c.decreases, inv.3, item.below), (item, (inv.0, inv.1, inv.2, most, inv.4)))
 
 pub fill_block-overflow_add-here : goal.fill_block-overflow_add-here
 fill_block-overflow_add-here t c =
     let reads = c.requires.0 in
     let left = c.loop-here.invariant.5 reads.fuel reads.block reads.last reads.enough reads.read in
-    let item = takes left (omega arith) c.if-s-at-eq-CLOSE.false c.item.ensures.by_index c.in-UpTo.is 0 reads.nodes-fit reads.parts-fit in
+    let item = takes left (omega arith) c.if-s-at-eq-CLOSE.false c.item.ensures.by_index c.in-Ok.is 0 reads.nodes-fit reads.parts-fit in
     omega (arith, item.1)
 
 pub fill_block-loop-here-preserved : goal.fill_block-loop-here-preserved
@@ -66,11 +68,11 @@ fill_block-loop-here-preserved t c =
     let other = c.if-s-at-eq-CLOSE.false in
     let tells = c.item.ensures.by_index in
     let all = inv.5 reads.fuel reads.block reads.last reads.enough reads.read in
-    let item = (takes all (omega arith) other tells c.in-UpTo.is c.ahead.result reads.nodes-fit reads.parts-fit).0 in
+    let item = (takes all (omega arith) other tells c.in-Ok.is c.ahead.result reads.nodes-fit reads.parts-fit).0 in
     let fill = c.fill_item-edge in
     let few = (fill.ensures item.fuel item.item item.next item.enough item.read).0.edges_few in
     let count = item.counted item.fuel item.item item.next item.enough item.read in
-    let past = c.in-UpTo.ensures.within.1 in (
+    let past = beyond-read _ c.in-Ok.is c.item.ensures.within.1 in (
       fill.auto.nodes ∙ inv.0,
       fill.auto.edges ∙ inv.1,
       fill.auto.parts ∙ inv.2,
@@ -79,7 +81,7 @@ fill_block-loop-here-preserved t c =
       λ f b last h r.
           let left = inv.5 f b last h r in
           let w = turn left (omega arith) other in
-          left-next left (omega arith) other tells c.in-UpTo.is past c.ahead.ensures
+          left-next left (omega arith) other tells c.in-Ok.is past c.ahead.ensures
           (fill.ensures (pred left.fuel) w.what w.next (omega (arith, left.enough)) w.item-read),
     )
 
@@ -130,10 +132,10 @@ fill_branch-put_cell-e0-requires t c =
     let spot = c.args.spot in
     let room = c.requires.2 in
     let p = branch-taken s spot c.args.n c.requires.1 c.requires.0 in
-    let w = told-branch s spot p c.block.ensures.within c.block.ensures.by_index c.in-UpTo.is in
+    let w = told-branch s spot p c.block.ensures.within c.block.ensures.by_index c.in-Ok.is in
     let join = spot.node + c.args.n - 1 in
     let low = ahead-most s (spot.at + 2) (spot.node + 1) join 191 c.ahead.result c.ahead.ensures p.inside.first-few p.join-few in
-    let high = ahead-most s (c.in-UpTo.close + 2) (spot.node + 1 + c.in-UpTo.z) join 191 c.ahead-in-UpTo.result c.ahead-in-UpTo.ensures w.second-few p.join-few in
+    let high = ahead-most s (c.in-Ok.inside.next + 2) (spot.node + 1 + c.in-Ok.inside.nodes) join 191 c.ahead-2.result c.ahead-2.ensures w.second-few p.join-few in
     cell_room spot.node spot.edge _ _ room.0 room.1 p.inside.node-few room.4 low high
 
 pub fill_branch-fill_block-e1-requires : goal.fill_branch-fill_block-e1-requires
@@ -155,7 +157,7 @@ fill_branch-fill_block-e2-requires t c =
     let took = c.requires.1 in
     let room = c.requires.2 in
     let p = branch-taken s spot c.args.n took c.requires.0 in
-    let w = told-branch s spot p c.block.ensures.within c.block.ensures.by_index c.in-UpTo.is in
+    let w = told-branch s spot p c.block.ensures.within c.block.ensures.by_index c.in-Ok.is in
     let k = spot.node + 1 in
     let cell = c.put_cell-e0 in
     let fill = c.fill_block-e1 in
@@ -181,9 +183,9 @@ fill_branch-put_cell-requires t c =
     let took = c.requires.1 in
     let room = c.requires.2 in
     let p = branch-taken s spot c.args.n took c.requires.0 in
-    let w = told-branch s spot p c.block.ensures.within c.block.ensures.by_index c.in-UpTo.is in
+    let w = told-branch s spot p c.block.ensures.within c.block.ensures.by_index c.in-Ok.is in
     let k = spot.node + 1 in
-    let l = k + c.in-UpTo.z in
+    let l = k + c.in-Ok.inside.nodes in
     let cell = c.put_cell-e0 in
     let fill = c.fill_block-e1 in
     let fill2 = c.fill_block-e2 in
@@ -194,23 +196,23 @@ fill_branch-put_cell-requires t c =
     cell_room (spot.node + c.args.n - 1) _ _ _
     (fill2.auto.nodes ∙ fill.auto.nodes ∙ cell.auto.nodes ∙ room.0) (fill2.auto.edges ∙ fill.auto.edges ∙ cell.auto.edges ∙ room.1) p.join-few few room.3 room.3
 
-pub fill_branch-returns-in-Stopped : goal.fill_branch-returns-in-Stopped
-fill_branch-returns-in-Stopped t c fuel i next h r =
+pub fill_branch-returns-in_default : goal.fill_branch-returns-in_default
+fill_branch-returns-in_default t c fuel i next h r =
     let p = in-branch _ c.args.spot c.args.n c.requires.1 fuel i next h r c.requires.0 in
-    absurd (never-stopped _ _ p.inside c.block.ensures.by_index c.in-Stopped.is)
+    absurd (never-stopped _ _ p.inside c.block.ensures.by_index c.in_default.is)
 
-pub fill_branch-returns-in-UpTo : goal.fill_branch-returns-in-UpTo
-fill_branch-returns-in-UpTo t c fuel i next h r =
+pub fill_branch-returns : goal.fill_branch-returns
+fill_branch-returns t c fuel i next h r =
     let s = c.args.s.now in
     let spot = c.args.spot in
     let p = in-branch s spot c.args.n c.requires.1 fuel i next h r c.requires.0 in
-    let w = told-branch s spot p c.block.ensures.within c.block.ensures.by_index c.in-UpTo.is in
+    let w = told-branch s spot p c.block.ensures.within c.block.ensures.by_index c.in-Ok.is in
     let one = c.fill_block-e1.ensures fuel p.one p.inside.close p.inside.enough p.inside.read in
     let two = c.fill_block-e2.ensures fuel p.other p.other-close w.enough w.read in
     let join = spot.node + c.args.n - 1 in
-    let l = spot.node + 1 + c.in-UpTo.z in
-    branch-filled spot i p.one p.other c.ahead.result c.ahead-in-UpTo.result l join c.in-UpTo.c _ _ _ p.is
-    (leads-first s spot p.inside (spot.node + 1) join c.ahead.ensures) (leads-second s spot p w l join c.ahead-in-UpTo.ensures)
+    let l = spot.node + 1 + c.in-Ok.inside.nodes in
+    branch-filled spot i p.one p.other c.ahead.result c.ahead-2.result l join c.in-Ok.inside.constructs _ _ _ p.is
+    (leads-first s spot p.inside (spot.node + 1) join c.ahead.ensures) (leads-second s spot p w l join c.ahead-2.ensures)
     (sym w.to-second) (sym w.to-join) w.to-parts
     (c.put_cell-e0.ensures simple spot.owner kind-simple) one.0 one.1 two.0 two.1 (c.put_cell.ensures simple spot.owner kind-simple)
 
@@ -233,7 +235,7 @@ fill_construct-fill_block-e1-requires t c =
     let room = c.requires.2 in
     let known = construct-taken c.args.s.now spot c.args.n took c.requires.0 in
     let p = known.inside in
-    let is = (told _ _ p c.block.ensures.by_index c.in-UpTo.is).1 in
+    let is = (told _ _ p c.block.ensures.by_index c.in-Ok.is).1 in
     let cell = c.put_cell-e0 in
     let few = few-after spot.node (spot.node + 1) (spot.node + 1) (cell.ensures opens 0 kind-opens).edges_few room.4 refl in (
       falls-first _ _ p c.decreases,
@@ -249,7 +251,7 @@ fill_construct-put_end-requires t c =
     let took = c.requires.1 in
     let room = c.requires.2 in
     let p = construct-taken c.args.s.now spot c.args.n took c.requires.0 in
-    let is = (told _ _ p.inside c.block.ensures.by_index c.in-UpTo.is).1 in
+    let is = (told _ _ p.inside c.block.ensures.by_index c.in-Ok.is).1 in
     let k = spot.node + 1 in
     let cell = c.put_cell-e0 in
     let fill = c.fill_block-e1 in
@@ -265,36 +267,34 @@ fill_construct-put_end-requires t c =
       fill.auto.edges ∙ cell.auto.edges ∙ room.1,
     )
 
-pub fill_construct-returns-in-Stopped : goal.fill_construct-returns-in-Stopped
-fill_construct-returns-in-Stopped t c fuel i next h r =
+pub fill_construct-returns-in_default : goal.fill_construct-returns-in_default
+fill_construct-returns-in_default t c fuel i next h r =
     let at = c.requires.0 in
     let p = in-construct _ c.args.spot c.args.n c.requires.1 fuel i next h r at.0 at.1 at.2 at.3 in
-    absurd (never-stopped _ _ p.inside c.block.ensures.by_index c.in-Stopped.is)
+    absurd (never-stopped _ _ p.inside c.block.ensures.by_index c.in_default.is)
 
-pub fill_construct-returns-in-UpTo : goal.fill_construct-returns-in-UpTo
-fill_construct-returns-in-UpTo t c fuel i next h r =
+pub fill_construct-returns : goal.fill_construct-returns
+fill_construct-returns t c fuel i next h r =
     let s = c.args.s.now in
     let spot = c.args.spot in
     let took = c.requires.1 in
     let at = c.requires.0 in
     let known = construct-taken s spot c.args.n took at in
-    let end = spot.node + 1 + c.in-UpTo.z in
+    let end = spot.node + 1 + c.in-Ok.inner.nodes in
     let p = in-construct s spot c.args.n took fuel i next h r at.0 at.1 at.2 at.3 in
-    let is = (told s spot p.inside c.block.ensures.by_index c.in-UpTo.is).1 in
+    let is = (told s spot p.inside c.block.ensures.by_index c.in-Ok.is).1 in
     let inner = c.fill_block-e1.ensures fuel p.block p.inside.close p.inside.enough p.inside.read in
     let last : spot.node + c.args.n ≡ end + 1 + cond p.waits 1 0 = omega (arith, p.size, is) in
     construct-filled spot i (letter_kind (get_or s spot.at 0)) _ p.waits p.block (spot.part % 256) end c.args.n _ _ _ p.is
     c.letter_kind.ensures (omega (arith, known.parts_are, took.parts-fit)) (omega (arith, is)) last c.put_record.ensures
     (c.put_cell-e0.ensures opens spot.owner kind-opens) inner.0 inner.1 (c.put_end.ensures p.waits last)
 
--- `fill_item`: a node of its own, or what the letter begins.
-pub fill_item-returns-then-letter-eq-PLAIN : goal.fill_item-returns-then-letter-eq-PLAIN
-fill_item-returns-then-letter-eq-PLAIN t c fuel i next h r =
+-- `fill_item`: a node of its own; what another letter begins is filled by its function.
+pub fill_item-returns : goal.fill_item-returns
+fill_item-returns t c fuel i next h r =
+    let s = c.args.s.now in
     let spot = c.args.spot in
-    plain-filled spot i _ (plain-item fuel c.args.s.now spot.depth spot.at i next r c.if-letter-eq-PLAIN.true) (c.put_cell.ensures simple spot.owner kind-simple)
-
-pub fill_item-returns-then-letter-eq-BARRIER : goal.fill_item-returns-then-letter-eq-BARRIER
-fill_item-returns-then-letter-eq-BARRIER t c fuel i next h r =
-    let spot = c.args.spot in
-    barrier-filled spot i _ (barrier-item fuel c.args.s.now spot.depth spot.at i next r c.if-letter-eq-BARRIER.true)
-    (c.put_cell-then-letter-eq-BARRIER.ensures stop spot.owner kind-stop)
+    elim c.match-s-spot.branch [
+      | fill_item-in-115 w ↦ plain-filled spot i _ (plain-item fuel s spot.depth spot.at i next r w.in-115.is) (c.put_cell.ensures simple spot.owner (kind-simple ∙ sym w.kind-is))
+      | fill_item-in-98 w ↦ barrier-filled spot i _ (barrier-item fuel s spot.depth spot.at i next r w.in-98.is) (c.put_cell.ensures stop spot.owner (kind-stop ∙ sym w.kind-is))
+    ]

@@ -1,6 +1,7 @@
 -- `call_phases::writing::write_phases` meets its contract.
 -- Assumes nothing.
-use mathlib.Core.Path.{◌≡◌, ap, sym, ◌∙◌}
+use Rattle.std.proofs.Common.{◌≡◌, Err, rules, sym, ◌∙◌}
+use mathlib.Core.Path.{ap}
 use mathlib.Core.List.{[]}
 use Prim.Native.Nat.{ℕ, ◌*◌}
 use lib.ListN.{length}
@@ -17,20 +18,21 @@ size R n q = tab-length (16 * R.nodes) (phase_byte R) ∙ ap (λ (k : ℕ). 16 *
 
 pub fill_phases-requires : goal.fill_phases-requires
 fill_phases-requires c =
-    (c.requires, (had-room [] [] (length c.args.out.now) (16 * c.args.n) (sym c.room_for.ensures ∙ c.in-Bytes.is)).1)
+    (c.requires, (had-room [] [] (length c.args.out.now) (16 * c.args.n) (sym c.room_for.ensures ∙ c.in_ok-size.was)).1)
 
-pub returns-in-Refused : goal.returns-in-Refused
-returns-in-Refused c =
+pub returns-in_err-size : goal.returns-in_err-size
+returns-in_err-size c =
     let answers : (R : Region) → R.nodes ≡ c.args.n
     → c.room_for.result ≡ written_by (output_rows [] (length c.args.out.now) (length (phases_result R)) []) (length (phases_result R)) =
     λ R q. rw (size R c.args.n q) c.room_for.ensures in
-    let h = c.in-Refused.is in
-    record { value = (λ R q. sym h ∙ answers R q); of_masks = λ R q S E. kept _ _ (phases_result R) _ (sym (answers R q) ∙ h) }
+    let h = c.in_err-size.was in
+    let same : c.from_residual.result ≡ Err c.in_err-size.field-0.0 = search rules in
+    record { value = λ R q. same ∙ sym h ∙ answers R q; of_masks = λ R q S E. kept _ _ (phases_result R) _ (sym (answers R q) ∙ h) }
 
-pub returns-in-Bytes : goal.returns-in-Bytes
-returns-in-Bytes c =
+pub returns : goal.returns
+returns c =
     let answers : (R : Region) → R.nodes ≡ c.args.n
     → c.room_for.result ≡ written_by (output_rows [] (length c.args.out.now) (length (phases_result R)) []) (length (phases_result R)) =
     λ R q. rw (size R c.args.n q) c.room_for.ensures in
-    let h = c.in-Bytes.is in
+    let h = c.in_ok-size.was in
     record { value = (λ R q. sym h ∙ answers R q); of_masks = λ R q S E. c.fill_phases.ensures R q S E ∙ put _ _ (phases_result R) _ (sym (answers R q) ∙ h) }

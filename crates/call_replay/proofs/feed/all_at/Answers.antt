@@ -14,19 +14,10 @@ pub loop-k-init : goal.loop-k-init
 unfolding every
 loop-k-init c = (omega arith, λ σ S. refl)
 
-pub node_of-requires : goal.node_of-requires
-node_of-requires c = (c.requires.0, omega arith)
-
 pub returns-then-node_of-x : goal.returns-then-node_of-x
 returns-then-node_of-x c =
     λ σ S.
     sym (every-fails c.args.m (λ j. eqb (σ.node j) c.args.x) c.loop-k.k (omega arith) (ne_eqb _ _ (λ z. c.if-node_of-x.true (c.node_of.ensures ∙ S.node c.loop-k.k (omega arith) ∙ z))))
-
-pub overflow_add-k : goal.overflow_add-k
-overflow_add-k c = omega arith
-
-pub loop-k-smaller : goal.loop-k-smaller
-loop-k-smaller c = omega arith
 
 pub loop-k-preserved : goal.loop-k-preserved
 loop-k-preserved c =

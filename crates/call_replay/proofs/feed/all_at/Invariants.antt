@@ -10,6 +10,3 @@ use Rattle.call_replay.proofs.feed.all_at.Given as goal
 
 abbrev pub invariant-loop-k : goal.invariant-loop-k
 invariant-loop-k l = (l.k ≤ l.m) × ((σ : State) → Shows σ l.team → every l.k (λ j. eqb (σ.node j) l.x) ≡ true)
-
-abbrev pub decreases-loop-k : goal.decreases-loop-k
-decreases-loop-k l = l.m - l.k

@@ -11,9 +11,6 @@ use Rattle.call_replay.proofs.feed.at_finish.Goals as goal
 pub at-requires : goal.at-requires
 at-requires c = (c.requires.1.long, omega arith)
 
-pub all_at-requires : goal.all_at-requires
-all_at-requires c = (c.requires.2, c.requires.3)
-
 pub returns : goal.returns
 unfolding at_finish
 returns c = λ R σ T S. c.all_at.ensures σ S ∙ ap (λ (x : ℕ). every c.args.m (λ k. eqb (σ.node k) x)) (c.at.ensures ∙ sym T.finish)

@@ -11,11 +11,8 @@ use Rattle.call_replay.proofs.Releases.{released-same}
 use Rattle.call_replay.proofs.Choices.{after-by, fed-choose, choose-other, choose-off, choose-last, choose-next, shows-chosen, choice-more, bytes-more, playing-chosen, playing-reached}
 use Rattle.call_replay.proofs.feed.choose.Goals as goal
 
-pub returns-then-t-pending : goal.returns-then-t-pending
-returns-then-t-pending c = λ R P T L g. (after-by (fed-choose R c.args.m P c.args.t c.args.v g ∙ choose-other R c.args.m P c.args.t c.args.v (λ z. c.if-t-pending.true (z ∙ sym L.pending))) (forbidden L), kept_same _ _)
-
-pub node_of-requires : goal.node_of-requires
-node_of-requires c = (c.requires.3.state.long, omega arith)
+pub returns-then-t-team : goal.returns-then-t-team
+returns-then-t-team c = λ R P T L g. (after-by (fed-choose R c.args.m P c.args.t c.args.v g ∙ choose-other R c.args.m P c.args.t c.args.v (λ z. c.if-t-team.true (z ∙ sym L.pending))) (forbidden L), kept_same _ _)
 
 pub leads-requires : goal.leads-requires
 leads-requires c = (c.requires.2.long, omega (arith, c.node_of.ensures, c.requires.3.state.byte 0 (omega arith)), c.requires.5)
@@ -27,19 +24,10 @@ returns-then-not-leads c =
     let edge = ap (λ (n : ℕ). R.edge n c.args.v) (sym (x ∙ L.state.node 0 (omega arith))) ∙ T.edge _ c.args.v (omega (arith, x, L.state.byte 0 (omega arith))) c.requires.5 ∙ sym c.leads.ensures in
     (after-by (fed-choose R c.args.m P c.args.t c.args.v g ∙ choose-off R c.args.m P c.args.t c.args.v (edge ∙ c.if-not-leads.true)) (forbidden L), kept_same _ _)
 
-pub overflow_add-team : goal.overflow_add-team
-overflow_add-team c = omega (arith, c.requires.3.pending, c.requires.3.fewer, c.requires.4)
-
-pub bounds-team-pending : goal.bounds-team-pending
-bounds-team-pending c = omega (arith, c.requires.3.pending, c.requires.3.fewer, c.requires.4)
-
-pub overflow_add-pending : goal.overflow_add-pending
-overflow_add-pending c = omega (arith, c.requires.3.pending, c.requires.3.fewer, c.requires.4)
-
 pub release-requires : goal.release-requires
 release-requires c =
     let L = c.requires.3 in
-    record { shows = (c.requires.1.state, shows-chosen L c.requires.4 _ c.args.v L.pending, c.requires.4); by_index = λ t l. bytes-more L c.requires.4 _ c.args.v L.pending c.requires.5 t (omega (arith, L.pending, c.if-pending-m.true)) }
+    record { shows = (c.requires.1.state, shows-chosen L c.requires.4 _ c.args.v (c.if-t-team.false ∙ L.pending) _, c.requires.4); by_index = λ t l. bytes-more L c.requires.4 _ c.args.v (c.if-t-team.false ∙ L.pending) c.requires.5 t (omega (arith, L.pending, c.if-t-team.false, c.if-t-m.true)) }
 
 pub at-requires : goal.at-requires
 at-requires c = (c.requires.2.long, omega arith)
@@ -49,42 +37,38 @@ mark_state-requires c =
     let T = c.requires.2 in
     let L = c.requires.3 in
     let n = c.at.ensures ∙ sym T.nodes in (
-      (c.release.ensures.shows_2 c.requires.1.state (shows-chosen L c.requires.4 _ c.args.v L.pending)).long,
       c.requires.4,
       subst (λ (k : ℕ). c.args.rows.count * k ≤ length c.args.out.now) (sym n) c.requires.6,
     )
 
-pub shape_of-out-then-pending-m : goal.shape_of-out-then-pending-m
-shape_of-out-then-pending-m c = c.mark_state.ensures.1.long
+pub shape_of-out-then-t-m : goal.shape_of-out-then-t-m
+shape_of-out-then-t-m c = c.mark_state.ensures.1.long
 
-pub returns-then-pending-m : goal.returns-then-pending-m
-returns-then-pending-m c =
+pub returns-then-t-m : goal.returns-then-t-m
+returns-then-t-m c =
     λ R P T L g.
     let x = c.node_of.ensures in
     let edge = ap (λ (n : ℕ). R.edge n c.args.v) (sym (x ∙ L.state.node 0 (omega arith))) ∙ T.edge _ c.args.v (omega (arith, x, L.state.byte 0 (omega arith))) c.requires.5 ∙ sym c.leads.ensures in
-    let last : length P.chosen + 1 ≡ c.args.m = omega (arith, L.pending, c.if-pending-m.true) in
-    let S = shows-chosen L c.requires.4 _ c.args.v L.pending in
-    let to = released-same P.state _ (λ k. get_or (P.chosen ++ (c.args.v ∷ [])) k 0) (λ k l. choice-more L c.requires.4 _ c.args.v L.pending k (omega (arith, last))) (c.release.ensures.shows_2 P.state S) in
+    let last : length P.chosen + 1 ≡ c.args.m = omega (arith, L.pending, c.if-t-team.false, c.if-t-m.true) in
+    let S = shows-chosen L c.requires.4 _ c.args.v (c.if-t-team.false ∙ L.pending) _ in
+    let to = released-same P.state _ (λ k. get_or (P.chosen ++ (c.args.v ∷ [])) k 0) (λ k l. choice-more L c.requires.4 _ c.args.v (c.if-t-team.false ∙ L.pending) k (omega (arith, last))) (c.release.ensures.shows_2 P.state S) in
     let n = c.at.ensures ∙ sym T.nodes in
     let marked = c.mark_state.ensures in
     let sheet = sheet-size (sym n) L.marks in (
       after-by
-          (fed-choose R c.args.m P c.args.t c.args.v g ∙ choose-last R c.args.m P c.args.t c.args.v (c.if-t-pending.false ∙ L.pending) (edge ∙ c.if-not-leads.false) last)
+          (fed-choose R c.args.m P c.args.t c.args.v g ∙ choose-last R c.args.m P c.args.t c.args.v (c.if-t-team.false ∙ L.pending) (edge ∙ c.if-not-leads.false) last)
           (fed (playing-reached P.met _ (omega (arith, L.fewer)) to c.release.ensures.team_after (sheet-size n (marked.0 _ P.met to sheet)))),
       kept-size _ n marked.1,
     )
-
-pub overflow_add-team-2 : goal.overflow_add-team-2
-overflow_add-team-2 c = omega (arith, c.requires.3.pending, c.requires.3.fewer, c.requires.4)
 
 pub returns : goal.returns
 returns c =
     λ R P T L g.
     let x = c.node_of.ensures in
     let edge = ap (λ (n : ℕ). R.edge n c.args.v) (sym (x ∙ L.state.node 0 (omega arith))) ∙ T.edge _ c.args.v (omega (arith, x, L.state.byte 0 (omega arith))) c.requires.5 ∙ sym c.leads.ensures in
-    let more : length P.chosen + 1 ≡ c.args.m → ⊥ = λ e. c.if-pending-m.false (ap (λ (k : ℕ). k + 1) L.pending ∙ e) in (
+    let more : length P.chosen + 1 ≡ c.args.m → ⊥ = λ e. c.if-t-m.false (ap (λ (k : ℕ). k + 1) (c.if-t-team.false ∙ L.pending) ∙ e) in (
       after-by
-          (fed-choose R c.args.m P c.args.t c.args.v g ∙ choose-next R c.args.m P c.args.t c.args.v (c.if-t-pending.false ∙ L.pending) (edge ∙ c.if-not-leads.false) more)
-          (fed (playing-chosen L c.requires.4 _ c.args.v L.pending g c.requires.5 more _ refl)),
+          (fed-choose R c.args.m P c.args.t c.args.v g ∙ choose-next R c.args.m P c.args.t c.args.v (c.if-t-team.false ∙ L.pending) (edge ∙ c.if-not-leads.false) more)
+          (fed (playing-chosen L c.requires.4 _ c.args.v (c.if-t-team.false ∙ L.pending) g c.requires.5 more _ refl)),
       kept_same _ _,
     )

@@ -12,9 +12,6 @@ use Rattle.theory_traces.specs.Replay.{gathered}
 use Rattle.answer_steps.proofs.Laws.{role-barrier, role-open}
 use Rattle.call_replay.proofs.feed.gathered.Goals as goal
 
-pub node_of-x-requires : goal.node_of-x-requires
-node_of-x-requires c = (c.requires.3.long, omega arith)
-
 pub overflow_add-x : goal.overflow_add-x
 overflow_add-x c = omega (arith, c.node_of-x.ensures, c.requires.3.byte 0 (omega arith))
 
@@ -41,9 +38,6 @@ returns-then-x-at c =
     let node = x ∙ S.node 0 (omega arith) in
     let role = ap R.role (sym node) ∙ T.role _ (omega (arith, x, S.byte 0 (omega arith))) in
     rw (role ∙ role-barrier _ _ (sym c.at.ensures ∙ c.if-at-ne-BARRIER.false), eq-eqb _ _ (sym node ∙ c.if-x-at.true ∙ c.at-2.ensures ∙ sym T.finish))
-
-pub all_at-requires : goal.all_at-requires
-all_at-requires c = (c.requires.3.long, c.requires.4)
 
 pub returns : goal.returns
 unfolding gathered

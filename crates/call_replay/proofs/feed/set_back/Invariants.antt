@@ -1,10 +1,8 @@
 -- The invariants and measures of `call_replay::feed::set_back`.
-use Prim.Native.Nat.{◌-◌, ◌≤◌}
 use Rattle.call_replay.specs.Release.{SetBack}
 use Rattle.call_replay.proofs.feed.set_back.Given as goal
 
-abbrev pub invariant-loop-t : goal.invariant-loop-t
-invariant-loop-t l = (l.t ≤ 8) × SetBack l.t l.c l.initial.team l.team
-
-abbrev pub decreases-loop-t : goal.decreases-loop-t
-decreases-loop-t l = 8 - l.t
+abbrev pub invariant-loop-thread : goal.invariant-loop-thread
+invariant-loop-thread l =
+    let team = l.fn.team in
+    SetBack l.thread-index l.c team (record { threads = l.thread-items; chosen = team.chosen; pending = team.pending; left = team.left })

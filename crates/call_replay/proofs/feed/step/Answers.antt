@@ -1,6 +1,6 @@
 -- `call_replay::feed::step` meets its contract.
 -- Assumes nothing.
-use mathlib.Core.Path.{sym, ◌∙◌, ap, subst}
+use mathlib.Core.Path.{refl, sym, ◌∙◌, ap, subst}
 use Prim.Native.Nat.{ℕ, ◌*◌, ◌≤◌, ◌<◌}
 use native.Mathlib.Omega.{arith}
 use lib.ListN.{length}
@@ -9,7 +9,7 @@ use Rattle.answer_steps.proofs.Stores.{applied}
 use Rattle.call_replay.specs.Playing.{forbidden, fed}
 use Rattle.call_replay.proofs.Sheets.{sheet-same, kept_same, sheet-size, kept-size}
 use Rattle.call_replay.proofs.Meetings.{apply-others, stepped-meet}
-use Rattle.call_replay.proofs.Choices.{after-by, fed-none, fed-step, allowed-in, shows-past, playing-reached, none-pending}
+use Rattle.call_replay.proofs.Choices.{after-by, fed-none, fed-step, allowed-in, shows-past, playing-reached}
 use Rattle.call_replay.proofs.feed.step.Goals as goal
 
 pub decide-effect-requires : goal.decide-effect-requires
@@ -39,7 +39,6 @@ mark_thread-requires c =
     let e = c.decide-effect.ensures.of_states R P.state T L.state in
     let al = ap allowed (sym e) ∙ sym c.is_allowed.ensures ∙ c.if-not-is_allowed.false in
     let n = c.at.ensures ∙ sym T.nodes in (
-      (shows-past 784 0 (omega arith) (omega arith) (c.apply.ensures P.state L.state)).long,
       few,
       allowed-in R c.args.m P c.args.t c.args.v al,
       subst (λ (k : ℕ). c.args.rows.count * k ≤ length c.args.out.now) (sym n) room,
@@ -54,12 +53,12 @@ returns c =
     let e = c.decide-effect.ensures.of_states R P.state T L.state in
     let al = ap allowed (sym e) ∙ sym c.is_allowed.ensures ∙ c.if-not-is_allowed.false in
     let S = applied P.state c.args.t c.args.v (sym e) (c.apply.ensures P.state L.state) in
-    let S' = shows-past 784 0 (omega arith) (omega arith) S in
+    let S' = shows-past _ 0 S.room S in
     let n = c.at.ensures ∙ sym T.nodes in
     let marked = c.mark_thread.ensures in
     let σ' = apply P.state c.args.t c.args.v (decide R c.args.m P.state c.args.t c.args.v) in
     let same = stepped-meet c.args.m c.args.t P.state σ' P.met (allowed-in R c.args.m P c.args.t c.args.v al) (apply-others P.state c.args.t c.args.v _) L.own in (
       after-by (fed-step R c.args.m P c.args.t c.args.v g al)
-          (fed (playing-reached P.met _ (omega (arith, L.fewer)) S' (none-pending S) (sheet-same same (sheet-size n (marked.0 _ P.met S' (sheet-size (sym n) L.marks)))))),
+          (fed (playing-reached P.met _ (omega (arith, L.fewer)) S' refl (sheet-same same (sheet-size n (marked.0 _ P.met S' (sheet-size (sym n) L.marks)))))),
       kept-size _ n marked.1,
     )

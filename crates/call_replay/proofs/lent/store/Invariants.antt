@@ -5,6 +5,3 @@ use Rattle.call_replay.proofs.lent.store.Given as goal
 
 abbrev pub invariant-loop-t : goal.invariant-loop-t
 invariant-loop-t l = (l.t ≤ l.n) × (l.threads ≡ stored l.team.threads l.t l.fn.threads)
-
-abbrev pub decreases-loop-t : goal.decreases-loop-t
-decreases-loop-t l = l.n - l.t

@@ -13,13 +13,7 @@ loop-k-init c = (omega arith, ((λ σ met S H. sheet-same (λ a b. met-none (met
 pub mark_pair-requires : goal.mark_pair-requires
 mark_pair-requires c =
     let pre = c.requires in
-    (pre.0, pre.1, omega (arith, pre.1), (λ e. omega arith), omega (arith, pre.2, c.loop-k.invariant.1.1.long))
-
-pub overflow_add-k : goal.overflow_add-k
-overflow_add-k c = omega arith
-
-pub loop-k-smaller : goal.loop-k-smaller
-loop-k-smaller c = omega arith
+    (pre.0, omega (arith, pre.0), (λ e. omega arith), omega (arith, pre.1, c.loop-k.invariant.1.1.long))
 
 pub loop-k-preserved : goal.loop-k-preserved
 loop-k-preserved c =

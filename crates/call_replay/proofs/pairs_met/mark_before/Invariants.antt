@@ -5,6 +5,3 @@ use Rattle.call_replay.proofs.pairs_met.mark_before.Given as goal
 
 abbrev pub invariant-loop-k : goal.invariant-loop-k
 invariant-loop-k l = (l.k ≤ l.t) × Marks (λ σ. meets l.k σ l.t) l.n l.rows l.team l.initial.out l.out
-
-abbrev pub decreases-loop-k : goal.decreases-loop-k
-decreases-loop-k l = l.t - l.k

@@ -15,13 +15,7 @@ loop-t-init c = (omega arith, ((λ σ met S H. sheet-same (λ a b. met-none (met
 pub mark_before-requires : goal.mark_before-requires
 mark_before-requires c =
     let pre = c.requires in
-    (pre.0, omega (arith, pre.1), omega (arith, pre.2, c.loop-t.invariant.1.1.long))
-
-pub overflow_add-t : goal.overflow_add-t
-overflow_add-t c = omega arith
-
-pub loop-t-smaller : goal.loop-t-smaller
-loop-t-smaller c = omega arith
+    (omega (arith, pre.0), omega (arith, pre.1, c.loop-t.invariant.1.1.long))
 
 pub loop-t-preserved : goal.loop-t-preserved
 loop-t-preserved c =

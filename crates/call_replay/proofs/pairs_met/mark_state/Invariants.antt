@@ -6,6 +6,3 @@ use Rattle.call_replay.proofs.pairs_met.mark_state.Given as goal
 
 abbrev pub invariant-loop-t : goal.invariant-loop-t
 invariant-loop-t l = (l.t ≤ l.m) × Marks (λ σ a b. any l.t (λ j. meets j σ j a b)) l.n l.rows l.team l.initial.out l.out
-
-abbrev pub decreases-loop-t : goal.decreases-loop-t
-decreases-loop-t l = l.m - l.t

@@ -13,33 +13,26 @@ use Rattle.call_replay.proofs.pairs_met.mark_thread.Goals as goal
 pub loop-k-init : goal.loop-k-init
 loop-k-init c = (
   omega arith,
-  omega (arith, c.requires.2),
+  omega (arith, c.requires.1),
   (
-    (λ σ met S H. sheet-same (λ x y. sym (ap (λ (u : Bool). met x y || u) (round-first c.args.m c.args.t c.requires.2 σ x y) ∙ or-false (met x y))) H),
+    (λ σ met S H. sheet-same (λ x y. sym (ap (λ (u : Bool). met x y || u) (round-first c.args.m c.args.t c.requires.1 σ x y) ∙ or-false (met x y))) H),
     kept_same _ _,
   ),
 )
 
 pub next_thread-requires : goal.next_thread-requires
-next_thread-requires c = (c.requires.1, c.requires.2, omega arith)
+next_thread-requires c = (c.requires.0, c.requires.1, omega arith)
 
 pub mark_pair-requires : goal.mark_pair-requires
 mark_pair-requires c =
     let l = c.loop-k in
-    let below = next-below c.args.m c.args.t c.requires.2 l.k (omega arith) in
+    let below = next-below c.args.m c.args.t c.requires.1 l.k (omega arith) in
     let at = c.next_thread.ensures in (
-      c.requires.0,
-      omega (arith, c.requires.1, c.requires.2),
-      omega (arith, c.requires.1, at, below),
-      (λ e. next-other c.args.m c.args.t c.requires.2 l.k (omega (arith, l.invariant.0)) (omega arith) (e ∙ at)),
-      omega (arith, c.requires.3, l.invariant.2.1.long),
+      omega (arith, c.requires.0, c.requires.1),
+      omega (arith, c.requires.0, at, below),
+      (λ e. next-other c.args.m c.args.t c.requires.1 l.k (omega (arith, l.invariant.0)) (omega arith) (e ∙ at)),
+      omega (arith, c.requires.2, l.invariant.2.1.long),
     )
-
-pub overflow_add-k : goal.overflow_add-k
-overflow_add-k c = omega arith
-
-pub loop-k-smaller : goal.loop-k-smaller
-loop-k-smaller c = omega arith
 
 pub loop-k-preserved : goal.loop-k-preserved
 loop-k-preserved c =
@@ -59,4 +52,4 @@ pub returns : goal.returns
 returns c =
     let q : c.loop-k.k ≡ c.args.m = omega arith in
     let marked = rw q at c.loop-k.invariant.2 in
-    ((λ σ met S H. sheet-same (λ x y. ap (λ (u : Bool). met x y || u) (round-all c.args.m c.args.t c.requires.2 σ x y)) (marked.0 σ met S H)), marked.1)
+    ((λ σ met S H. sheet-same (λ x y. ap (λ (u : Bool). met x y || u) (round-all c.args.m c.args.t c.requires.1 σ x y)) (marked.0 σ met S H)), marked.1)

@@ -11,10 +11,6 @@ use Rattle.call_replay.proofs.play.play.Given as goal
 
 abbrev pub invariant-loop-i : goal.invariant-loop-i
 invariant-loop-i l =
-    (l.i ≤ l.n)
-    × (l.n ≡ length l.trace / 2)
+    (l.i ≤ length l.trace / 2)
     × ((R : Region) → Tabled R l.table → Playing R l.m l.rows (begun R l.m) l.initial.team l.initial.out
     → (P : Play) × (progress R l.m l.trace l.i ≡ going P) × (Playing R l.m l.rows P l.team l.out × (Few l.i P.state × Kept (l.rows.count * R.nodes) l.initial.out l.out)))
-
-abbrev pub decreases-loop-i : goal.decreases-loop-i
-decreases-loop-i l = l.n - l.i

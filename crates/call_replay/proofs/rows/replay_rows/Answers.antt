@@ -26,7 +26,7 @@ mark_state-requires c =
     c.fill_table.ensures in
     let shown : Shows (initial R) c.set_team.new.team =
     c.set_team.ensures.shows R tabled in
-    (shown.long, c.requires.2, omega (arith, c.requires.3, c.clear.ensures.0))
+    (c.requires.2, omega (arith, c.requires.3, c.clear.ensures.0))
 
 -- where the state before the first entry is marked
 pub play-requires : goal.play-requires

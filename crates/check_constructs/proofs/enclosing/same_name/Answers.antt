@@ -5,10 +5,10 @@ use Rattle.chart.specs.Scope.{critical_byte, kind_of}
 use Rattle.chart.specs.Nesting.{excluded, same_critical, may_enclose}
 use Rattle.check_constructs.proofs.enclosing.same_name.Goals as goal
 
-pub returns-then-outer-ne-CRITICAL : goal.returns-then-outer-ne-CRITICAL
+pub returns-then-outer-eq-CRITICAL : goal.returns-then-outer-eq-CRITICAL
 unfolding excluded same_critical may_enclose kind_of
-returns-then-outer-ne-CRITICAL c = rw (ne_eqb _ critical_byte c.if-outer-ne-CRITICAL.true)
+returns-then-outer-eq-CRITICAL c = rw (eq-eqb _ critical_byte c.if-outer-eq-CRITICAL.true)
 
-pub returns : goal.returns
+pub returns-else-outer-eq-CRITICAL : goal.returns-else-outer-eq-CRITICAL
 unfolding excluded same_critical may_enclose kind_of
-returns c = rw (eq-eqb _ critical_byte c.if-outer-ne-CRITICAL.false)
+returns-else-outer-eq-CRITICAL c = rw (ne_eqb _ critical_byte c.if-outer-eq-CRITICAL.false)

@@ -12,12 +12,6 @@ use Rattle.check_constructs.proofs.kinds.barred_kinds.Goals as goal
 pub loop-row-init : goal.loop-row-init
 loop-row-init c = (omega arith, refl, λ kind l. absurd (omega arith))
 
-pub overflow_add-row : goal.overflow_add-row
-overflow_add-row c = omega arith
-
-pub loop-row-smaller : goal.loop-row-smaller
-loop-row-smaller c = omega arith
-
 pub loop-row-preserved : goal.loop-row-preserved
 loop-row-preserved c =
     let i = c.loop-row.invariant in (

@@ -22,12 +22,6 @@ pub loop-k-init : goal.loop-k-init
 unfolding mask_of barred_by
 loop-k-init c = (omega arith, omega arith, refl)
 
-pub overflow_add-k : goal.overflow_add-k
-overflow_add-k c = omega arith
-
-pub loop-k-smaller : goal.loop-k-smaller
-loop-k-smaller c = omega arith
-
 -- a flag at bit k of what has no such bit
 one_more : (flag : Bool) (k m : ℕ) → k < 8 → bit_or ((bool_byte flag * 2 ^ k) % 2 ^ 8) m ≡ cond flag (bit_or (2 ^ k) m) m
 one_more true k m l = rw (shl_exact {a = 1} 1 k 8 (omega arith) (omega arith), one-mul (2 ^ k))

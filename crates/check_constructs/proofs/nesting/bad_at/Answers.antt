@@ -42,7 +42,7 @@ overflow_sub-row c =
     c.read-construct.ensures.0 in
     let kind-in : (1 ≤ c.read-construct.result.kind) × (c.read-construct.result.kind ≤ kinds) =
     let f = fits cs (c.args.c + 1) alone c.args.c (omega arith) in (omega (arith, f.least, kind-read), omega (arith, f.most, kind-read)) in
-    omega (arith, kind-in.0, c.wide-row.ensures.0)
+    omega (arith, kind-in.0, c.from-row.ensures)
 
 -- what was read of the parent, and what is noted of c
 pub bounds-misplaced-row : goal.bounds-misplaced-row
@@ -58,8 +58,8 @@ bounds-misplaced-row c =
     c.read-construct.ensures.0 in
     let kind-in : (1 ≤ c.read-construct.result.kind) × (c.read-construct.result.kind ≤ kinds) =
     let f = fits cs (c.args.c + 1) alone c.args.c (omega arith) in (omega (arith, f.least, kind-read), omega (arith, f.most, kind-read)) in
-    let row_below : c.wide-row.result - 1 < 8 =
-    omega (arith, kind-in.0, kind-in.1, c.wide-row.ensures.0) in
+    let row_below : c.from-row.result - 1 < 8 =
+    omega (arith, kind-in.0, kind-in.1, c.from-row.ensures) in
     row_below
 
 pub returns-then-parent-misplaced-ne0 : goal.returns-then-parent-misplaced-ne0
@@ -75,24 +75,24 @@ returns-then-parent-misplaced-ne0 c =
     c.read-construct.ensures.0 in
     let kind-in : (1 ≤ c.read-construct.result.kind) × (c.read-construct.result.kind ≤ kinds) =
     let f = fits cs (c.args.c + 1) alone c.args.c (omega arith) in (omega (arith, f.least, kind-read), omega (arith, f.most, kind-read)) in
-    let row_below : c.wide-row.result - 1 < 8 =
-    omega (arith, kind-in.0, kind-in.1, c.wide-row.ensures.0) in
-    let row-kind : c.wide-row.result - 1 + 1 ≡ c.read-construct.result.kind =
-    omega (arith, kind-in.0, c.wide-row.ensures.0) in
+    let row_below : c.from-row.result - 1 < 8 =
+    omega (arith, kind-in.0, kind-in.1, c.from-row.ensures) in
+    let row-kind : c.from-row.result - 1 + 1 ≡ c.read-construct.result.kind =
+    omega (arith, kind-in.0, c.from-row.ensures) in
     let up : ℕ =
-    c.wide-up.result in
+    c.from-up.result in
     let parent-read : up ≡ parent_of cs c.args.c =
-    c.wide-up.ensures.0 ∙ c.read-construct.ensures.1 in
+    c.from-up.ensures ∙ c.read-construct.ensures.1 in
     let noted-at : (Byte : ℕ → ℕ → Type 0) (table : List ℕ) → NotedTo Byte c.args.c table → Byte (parent_of cs c.args.c) (get_or table (up % 64) 0) =
     λ Byte table T. subst (λ (p : ℕ). Byte (parent_of cs c.args.c) (get_or table (p % 64) 0)) (sym parent-read)
     (T.at (parent_of cs c.args.c) (parents cs (c.args.c + 1) alone c.args.c (omega arith))) in
     let few : c.args.chart.constructs ≤ 48 =
     c.requires.laid.0.constructs-most in
-    let place-told : common (get_or c.args.own.now (up % 64) 0) (get_or c.args.misplaced.now (c.wide-row.result - 1) 0)
+    let place-told : common (get_or c.args.own.now (up % 64) 0) (get_or c.args.misplaced.now (c.from-row.result - 1) 0)
     ≡ misplaced (construct_at cs c.args.c).kind (construct_at cs (parent_of cs c.args.c)).kind =
     let above = (construct_at cs (parent_of cs c.args.c)).kind in
     let most = parent-most cs c.args.c (omega (arith, few, constructs-length _ c.args.chart c.requires.laid.0)) alone in
-    rw (noted-at (KindAt cs) c.args.own.now c.requires.noted_to.1) (c.requires.barred_table.1.entry (c.wide-row.result - 1) above row_below most
+    rw (noted-at (KindAt cs) c.args.own.now c.requires.noted_to.1) (c.requires.barred_table.1.entry (c.from-row.result - 1) above row_below most
     ∙ ap (λ (kind : ℕ). misplaced kind above) (row-kind ∙ kind-read)) in
     record { value = rw (sym tested ∙ c.if-bad_construct.false) (sym (or_right (any (length cs) (wrongly_above cs c.args.c)) _ (sym place-told ∙ ap not (ne_eqb _ 0 c.if-parent-misplaced-ne0.true)))); fact = λ h. absurd (clash refl h) }
 
@@ -109,8 +109,8 @@ bounds-barred-row c =
     c.read-construct.ensures.0 in
     let kind-in : (1 ≤ c.read-construct.result.kind) × (c.read-construct.result.kind ≤ kinds) =
     let f = fits cs (c.args.c + 1) alone c.args.c (omega arith) in (omega (arith, f.least, kind-read), omega (arith, f.most, kind-read)) in
-    let row_below : c.wide-row.result - 1 < 8 =
-    omega (arith, kind-in.0, kind-in.1, c.wide-row.ensures.0) in
+    let row_below : c.from-row.result - 1 < 8 =
+    omega (arith, kind-in.0, kind-in.1, c.from-row.ensures) in
     row_below
 
 pub bad_above-requires : goal.bad_above-requires
@@ -126,18 +126,18 @@ bad_above-requires c =
     c.read-construct.ensures.0 in
     let kind-in : (1 ≤ c.read-construct.result.kind) × (c.read-construct.result.kind ≤ kinds) =
     let f = fits cs (c.args.c + 1) alone c.args.c (omega arith) in (omega (arith, f.least, kind-read), omega (arith, f.most, kind-read)) in
-    let row_below : c.wide-row.result - 1 < 8 =
-    omega (arith, kind-in.0, kind-in.1, c.wide-row.ensures.0) in
-    let row-kind : c.wide-row.result - 1 + 1 ≡ c.read-construct.result.kind =
-    omega (arith, kind-in.0, c.wide-row.ensures.0) in
+    let row_below : c.from-row.result - 1 < 8 =
+    omega (arith, kind-in.0, kind-in.1, c.from-row.ensures) in
+    let row-kind : c.from-row.result - 1 + 1 ≡ c.read-construct.result.kind =
+    omega (arith, kind-in.0, c.from-row.ensures) in
     let up : ℕ =
-    c.wide-up.result in
+    c.from-up.result in
     let parent-read : up ≡ parent_of cs c.args.c =
-    c.wide-up.ensures.0 ∙ c.read-construct.ensures.1 in
+    c.from-up.ensures ∙ c.read-construct.ensures.1 in
     let noted-at : (Byte : ℕ → ℕ → Type 0) (table : List ℕ) → NotedTo Byte c.args.c table → Byte (parent_of cs c.args.c) (get_or table (up % 64) 0) =
     λ Byte table T. subst (λ (p : ℕ). Byte (parent_of cs c.args.c) (get_or table (p % 64) 0)) (sym parent-read)
     (T.at (parent_of cs c.args.c) (parents cs (c.args.c + 1) alone c.args.c (omega arith))) in
-    let barred = c.requires.barred_table.0.entry (c.wide-row.result - 1) row_below ∙ ap (λ (kind : ℕ). mask_of (barred_by kind) 8) row-kind in
+    let barred = c.requires.barred_table.0.entry (c.from-row.result - 1) row_below ∙ ap (λ (kind : ℕ). mask_of (barred_by kind) 8) row-kind in
     record { laid = (c.requires.laid.0, c.requires.laid.1, alone); kind_value = (kind-read, barred); kinds_from = noted-at (KindsFrom cs) c.args.under.now c.requires.noted_to.0 }
 
 pub returns : goal.returns
@@ -153,24 +153,24 @@ returns c =
     c.read-construct.ensures.0 in
     let kind-in : (1 ≤ c.read-construct.result.kind) × (c.read-construct.result.kind ≤ kinds) =
     let f = fits cs (c.args.c + 1) alone c.args.c (omega arith) in (omega (arith, f.least, kind-read), omega (arith, f.most, kind-read)) in
-    let row_below : c.wide-row.result - 1 < 8 =
-    omega (arith, kind-in.0, kind-in.1, c.wide-row.ensures.0) in
-    let row-kind : c.wide-row.result - 1 + 1 ≡ c.read-construct.result.kind =
-    omega (arith, kind-in.0, c.wide-row.ensures.0) in
+    let row_below : c.from-row.result - 1 < 8 =
+    omega (arith, kind-in.0, kind-in.1, c.from-row.ensures) in
+    let row-kind : c.from-row.result - 1 + 1 ≡ c.read-construct.result.kind =
+    omega (arith, kind-in.0, c.from-row.ensures) in
     let up : ℕ =
-    c.wide-up.result in
+    c.from-up.result in
     let parent-read : up ≡ parent_of cs c.args.c =
-    c.wide-up.ensures.0 ∙ c.read-construct.ensures.1 in
+    c.from-up.ensures ∙ c.read-construct.ensures.1 in
     let noted-at : (Byte : ℕ → ℕ → Type 0) (table : List ℕ) → NotedTo Byte c.args.c table → Byte (parent_of cs c.args.c) (get_or table (up % 64) 0) =
     λ Byte table T. subst (λ (p : ℕ). Byte (parent_of cs c.args.c) (get_or table (p % 64) 0)) (sym parent-read)
     (T.at (parent_of cs c.args.c) (parents cs (c.args.c + 1) alone c.args.c (omega arith))) in
     let few : c.args.chart.constructs ≤ 48 =
     c.requires.laid.0.constructs-most in
-    let place-told : common (get_or c.args.own.now (up % 64) 0) (get_or c.args.misplaced.now (c.wide-row.result - 1) 0)
+    let place-told : common (get_or c.args.own.now (up % 64) 0) (get_or c.args.misplaced.now (c.from-row.result - 1) 0)
     ≡ misplaced (construct_at cs c.args.c).kind (construct_at cs (parent_of cs c.args.c)).kind =
     let above = (construct_at cs (parent_of cs c.args.c)).kind in
     let most = parent-most cs c.args.c (omega (arith, few, constructs-length _ c.args.chart c.requires.laid.0)) alone in
-    rw (noted-at (KindAt cs) c.args.own.now c.requires.noted_to.1) (c.requires.barred_table.1.entry (c.wide-row.result - 1) above row_below most
+    rw (noted-at (KindAt cs) c.args.own.now c.requires.noted_to.1) (c.requires.barred_table.1.entry (c.from-row.result - 1) above row_below most
     ∙ ap (λ (kind : ℕ). misplaced kind above) (row-kind ∙ kind-read)) in
     let noted-under : NotedTo (KindsFrom cs) (c.args.c + 1) (set c.args.under.now c.args.c c.within.result) =
     let d = c.args.c in

@@ -1,7 +1,9 @@
 -- `check_constructs::nesting::bad_constructs` meets its contract.
 -- Assumes nothing.
-use mathlib.Core.Path.{◌≡◌, refl, sym, ◌∙◌}
+use mathlib.Core.Path.{◌≡◌, refl, sym}
 use mathlib.Core.Bool.{Bool, true, false, ◌||◌}
+use Rattle.std.proofs.Common.{arith}
+use Rattle.std.proofs.lemmas.Bool.Decides.{nat_tests}
 use lib.ListN.{length}
 use Rattle.lists.specs.Range.{every, any}
 use Rattle.chart.specs.Format.{Decoded, decode}
@@ -28,19 +30,10 @@ unfolding every agrees may_enclose kind_of
 bad_nesting-requires c = (c.requires, tested _ refl)
 
 pub returns-then-bad_nesting : goal.returns-then-bad_nesting
-returns-then-bad_nesting c = rw (joined _, sym c.bad_nesting.ensures ∙ c.if-bad_nesting.true)
+returns-then-bad_nesting c = let row = joined (decode c.args.s.now) in grind (arith, nat_tests, row)
 
-pub returns-then-not-occurs : goal.returns-then-not-occurs
-returns-then-not-occurs c =
-    let passed : let D = decode c.args.s.now in
-    (any (length D.constructs) (bad_alone D.constructs) || any (length D.constructs) (misnested D.constructs)) ≡ false =
-    sym c.bad_nesting.ensures ∙ c.if-bad_nesting.false in
-    let s = c.args.s.now in
-    rw (joined _, passed) (sym (no_stray (decode s) (sym c.occurs.ensures ∙ c.if-not-occurs.true)))
+pub returns-then-occurs : goal.returns-then-occurs
+returns-then-occurs c = let row = joined (decode c.args.s.now) in grind (arith, nat_tests, row)
 
-pub returns : goal.returns
-returns c =
-    let passed : let D = decode c.args.s.now in
-    (any (length D.constructs) (bad_alone D.constructs) || any (length D.constructs) (misnested D.constructs)) ≡ false =
-    sym c.bad_nesting.ensures ∙ c.if-bad_nesting.false in
-    rw (joined _, passed) c.stray_nodes.ensures
+pub returns-else-occurs : goal.returns-else-occurs
+returns-else-occurs c = let row = joined (decode c.args.s.now) in grind (arith, nat_tests, row, no_stray (decode c.args.s.now))

@@ -24,9 +24,6 @@ row : (s : List ℕ) →
     any (length cs) (bad s) ≡ (any (length cs) (bad_alone cs) || any (length cs) (misnested cs))
 row s = let cs = (decode s).constructs in any-or (length cs) (bad_alone cs) (misnested cs)
 
-pub barred_kinds-requires : goal.barred_kinds-requires
-barred_kinds-requires c = c.requires.1
-
 pub loop-c-init : goal.loop-c-init
 unfolding any
 loop-c-init c =
@@ -40,7 +37,7 @@ bad_at-requires c =
     let cs = (decode c.args.s.now).constructs in
     let k = c.loop-c.c in
     let alone = (or-neither (any k (bad_alone cs)) _ (sym (any-or k (bad_alone cs) (misnested cs)) ∙ c.loop-c.invariant.1)).0 in
-    record { laid = (c.requires.0, omega arith, alone); barred_table = (c.barred_kinds.ensures, placed _ refl refl); noted_to = (c.loop-c.invariant.2, c.loop-c.invariant.3) }
+    record { laid = (c.requires.0, omega arith, alone); barred_table = (c.barred_kinds-barred.ensures, placed _ refl refl); noted_to = (c.loop-c.invariant.2, c.loop-c.invariant.3) }
 
 pub returns-then-bad_at : goal.returns-then-bad_at
 returns-then-bad_at c =
@@ -48,12 +45,6 @@ returns-then-bad_at c =
     c.bad_at.ensures.value in
     let s = c.args.s.now in
     sym (sym (row s) ∙ at-any _ (bad s) c.loop-c.c (omega (arith, constructs-length _ c.args.chart c.requires.0)) (sym answered ∙ c.if-bad_at.true))
-
-pub overflow_add-c : goal.overflow_add-c
-overflow_add-c c = omega arith
-
-pub loop-c-smaller : goal.loop-c-smaller
-loop-c-smaller c = omega arith
 
 pub loop-c-preserved : goal.loop-c-preserved
 loop-c-preserved c =

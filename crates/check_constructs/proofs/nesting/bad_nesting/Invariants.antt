@@ -2,7 +2,7 @@
 use mathlib.Core.Path.{◌≡◌}
 use mathlib.Core.List.{List}
 use mathlib.Core.Bool.{Bool, false, ◌||◌}
-use Prim.Native.Nat.{ℕ, ◌≤◌, ◌-◌}
+use Prim.Native.Nat.{ℕ, ◌≤◌}
 use Rattle.lists.specs.Range.{any}
 use Rattle.chart.specs.Format.{decode}
 use Rattle.chart.specs.Nesting.{misnested}
@@ -16,6 +16,3 @@ bad s c = bad_alone (decode s).constructs c || misnested (decode s).constructs c
 abbrev pub invariant-loop-c : goal.invariant-loop-c
 invariant-loop-c l =
     (l.c ≤ l.chart.constructs) × (any l.c (bad l.s) ≡ false) × NotedTo (KindsFrom (decode l.s).constructs) l.c l.under × NotedTo (KindAt (decode l.s).constructs) l.c l.own
-
-abbrev pub decreases-loop-c : goal.decreases-loop-c
-decreases-loop-c l = l.chart.constructs - l.c

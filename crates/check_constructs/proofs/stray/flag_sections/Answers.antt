@@ -17,12 +17,6 @@ loop-c-init c = (omega arith, rw c.requires.1 (sections-none (decode c.args.s.no
 pub read-requires : goal.read-requires
 read-requires c = (c.requires.0, omega arith)
 
-pub overflow_add-c : goal.overflow_add-c
-overflow_add-c c = omega arith
-
-pub loop-c-smaller : goal.loop-c-smaller
-loop-c-smaller c = omega arith
-
 pub loop-c-preserved : goal.loop-c-preserved
 loop-c-preserved c = (
   omega arith,

@@ -1,11 +1,8 @@
 -- The invariants and measures of `check_constructs::stray::flag_sections`.
-use Prim.Native.Nat.{◌≤◌, ◌-◌}
+use Prim.Native.Nat.{◌≤◌}
 use Rattle.chart.specs.Format.{decode}
 use Rattle.check_constructs.specs.Sections.{SectionsBelow}
 use Rattle.check_constructs.proofs.stray.flag_sections.Given as goal
 
 abbrev pub invariant-loop-c : goal.invariant-loop-c
 invariant-loop-c l = (l.c ≤ l.chart.constructs) × SectionsBelow (decode l.s).constructs l.c l.flags
-
-abbrev pub decreases-loop-c : goal.decreases-loop-c
-decreases-loop-c l = l.chart.constructs - l.c

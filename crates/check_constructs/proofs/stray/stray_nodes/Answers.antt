@@ -25,17 +25,11 @@ loop-x-init c = (omega arith, refl)
 pub read-node-requires : goal.read-node-requires
 read-node-requires c = (c.requires, omega arith)
 
-pub overflow_add-x : goal.overflow_add-x
-overflow_add-x c = omega arith
-
-pub loop-x-smaller : goal.loop-x-smaller
-loop-x-smaller c = omega arith
-
 pub loop-x-preserved : goal.loop-x-preserved
 loop-x-preserved c = (
   omega arith,
   stray-more (decode c.args.s.now) c.loop-x.x (constructs-length _ c.args.chart c.requires) c.flag_sections.ensures
-      (as-flag (ltb c.read-node.result.kind begin_node) ∙ ap (λ (kind : ℕ). cond (ltb kind begin_node) 1 0) c.read-node.ensures.0) (c.wide.ensures.0 ∙ c.read-node.ensures.1) c.loop-x.invariant.1,
+      (as-flag (ltb c.read-node.result.kind begin_node) ∙ ap (λ (kind : ℕ). cond (ltb kind begin_node) 1 0) c.read-node.ensures.0) (c.from.ensures ∙ c.read-node.ensures.1) c.loop-x.invariant.1,
 )
 
 pub returns : goal.returns

@@ -2,6 +2,7 @@
 -- Assumes nothing.
 use mathlib.Core.Path.{◌≡◌, refl, sym, ◌∙◌}
 use native.Mathlib.Omega.{arith}
+use Rattle.std.proofs.lemmas.Bool.Decides.{nat_tests}
 use lib.ListN.{length}
 use Rattle.lists.specs.Truth.{clash}
 use Rattle.lists.specs.Range.{any}
@@ -19,30 +20,19 @@ returns-then-chart-eq0 c =
     let q : length D.constructs ≡ 0 = constructs-length _ c.args.chart c.requires.0 ∙ c.if-chart-eq0.true in
     record { value = rw q; both_framed = λ h. (framed-none D begin_node q, framed-none D end_node q) }
 
-pub note_nodes-frames-requires : goal.note_nodes-frames-requires
-note_nodes-frames-requires c =
-    (c.requires.0, c.requires.1, refl)
-
-pub overflow_mul-c : goal.overflow_mul-c
-overflow_mul-c c = omega (arith, c.requires.0.constructs-most)
-
 pub returns-then-frames-c : goal.returns-then-frames-c
 returns-then-frames-c c =
     record { value = sym (true-if (λ h. c.if-frames-c.true (two-each _ c.args.chart c.requires.0 c.requires.1 c.note_nodes-frames.ensures h))); both_framed = λ h. absurd (clash refl h) }
 
-pub take_frames-no_begin-requires : goal.take_frames-no_begin-requires
-take_frames-no_begin-requires c =
-    (omega arith, c.requires.0.constructs-most, c.note_nodes-frames.ensures.long, refl)
+pub returns-then-no_begin : goal.returns-then-no_begin
+returns-then-no_begin c =
+    let is = decides c.args.s.now c.args.chart c.requires.0 c.requires.1 c.note_nodes-frames.ensures c.if-frames-c.false in
+    record { value = grind (arith, nat_tests, is, c.take_frames-no_begin.ensures.value); both_framed = λ h. absurd (clash c.if-no_begin.true h) }
 
-pub take_frames-no_end-requires : goal.take_frames-no_end-requires
-take_frames-no_end-requires c =
-    (omega arith, c.requires.0.constructs-most, c.note_nodes-frames.ensures.long, refl)
-
-pub returns : goal.returns
-returns c =
-    let ended = c.take_frames-no_end.ensures in
-    let begun = c.take_frames-no_begin.ensures in
+pub returns-else-no_begin : goal.returns-else-no_begin
+returns-else-no_begin c =
     let N = c.note_nodes-frames.ensures in
     let s = c.args.s.now in
-    let is : c.either.result ≡ bad_frames (decode s) = cc (c.either.ensures, begun.value, ended.value, decides s c.args.chart c.requires.0 c.requires.1 N c.if-frames-c.false) in
-    record { value = is; both_framed = λ h. both-framed s c.args.chart c.requires.0 c.requires.1 N (sym is ∙ h) begun.written ended.written }
+    let is = decides s c.args.chart c.requires.0 c.requires.1 N c.if-frames-c.false in
+    let value : c.take_frames-no_end.result ≡ bad_frames (decode s) = grind (arith, nat_tests, is, c.take_frames-no_begin.ensures.value, c.take_frames-no_end.ensures.value) in
+    record { value = value; both_framed = λ h. both-framed s c.args.chart c.requires.0 c.requires.1 N (sym value ∙ h) c.take_frames-no_begin.ensures.written c.take_frames-no_end.ensures.written }

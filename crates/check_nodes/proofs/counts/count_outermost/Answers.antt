@@ -1,7 +1,7 @@
 -- `check_nodes::counts::count_outermost` meets its contract: after x turns the barriers among the first x nodes are counted.
 -- Assumes nothing.
 use mathlib.Core.Path.{◌≡◌, refl, ap, ◌∙◌}
-use Prim.Native.Nat.{ℕ, ◌+◌, ◌-◌}
+use Prim.Native.Nat.{ℕ, ◌+◌}
 use native.Mathlib.Omega.{arith}
 use lib.ListN.{length}
 use Rattle.lists.specs.Range.{count, count_most, count-more}
@@ -14,9 +14,6 @@ pub loop-x-init : goal.loop-x-init
 unfolding count
 loop-x-init c = (omega arith, refl)
 
-pub read-requires : goal.read-requires
-read-requires c = (c.requires, omega arith)
-
 pub overflow_add-found : goal.overflow_add-found
 unfolding barrier_of
 overflow_add-found c =
@@ -24,12 +21,6 @@ overflow_add-found c =
     let r = c.read.ensures in
     cc (c.loop-x.invariant.1, c.outermost-found.ensures, r.0, r.1, count-more c.loop-x.x (barrier_of (decode c.args.s.now).nodes outside)) in
     omega (arith, next, count_most (c.loop-x.x + 1) (barrier_of (decode c.args.s.now).nodes outside), c.requires.nodes-most)
-
-pub overflow_add-x : goal.overflow_add-x
-overflow_add-x c = omega arith
-
-pub loop-x-smaller : goal.loop-x-smaller
-loop-x-smaller c = omega arith
 
 pub loop-x-preserved : goal.loop-x-preserved
 unfolding barrier_of

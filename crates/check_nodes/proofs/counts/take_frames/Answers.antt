@@ -1,7 +1,7 @@
 -- `check_nodes::counts::take_frames` meets its contract: after c turns the nodes of the first c constructs are taken.
 -- Assumes nothing.
 use mathlib.Core.Path.{◌≡◌, refl, ap, ◌∙◌}
-use Prim.Native.Nat.{ℕ, ◌+◌, ◌*◌, ◌-◌, ◌≤◌, ◌<◌}
+use Prim.Native.Nat.{ℕ, ◌+◌, ◌*◌, ◌≤◌, ◌<◌}
 use native.Mathlib.Omega.{arith}
 use lib.Dec.{eqb}
 use lib.ListN.{get_or, length-set}
@@ -15,47 +15,15 @@ unfolding any
 loop-c-init c =
     (omega arith, rw c.requires.3 refl, refl, rw c.requires.3 (written_none _ 64))
 
-pub overflow_add-node : goal.overflow_add-node
-overflow_add-node c =
-    let low : (c.wide-row.result ≤ 3) × (c.loop-c.c < 48) =
-    (omega (arith, c.wide-row.ensures.0, c.requires.0), omega (arith, c.loop-c-test.true, c.requires.1)) in
-    let (k, l) = low in omega arith
-
-pub bounds-noted-row : goal.bounds-noted-row
-bounds-noted-row c =
-    let low : (c.wide-row.result ≤ 3) × (c.loop-c.c < 48) =
-    (omega (arith, c.wide-row.ensures.0, c.requires.0), omega (arith, c.loop-c-test.true, c.requires.1)) in
-    let (k, l) = low in omega arith
-
-pub bounds-frames-c : goal.bounds-frames-c
-bounds-frames-c c =
-    let low : (c.wide-row.result ≤ 3) × (c.loop-c.c < 48) =
-    (omega (arith, c.wide-row.ensures.0, c.requires.0), omega (arith, c.loop-c-test.true, c.requires.1)) in
-    let (k, l) = low in omega arith
-
-pub overflow_add-c : goal.overflow_add-c
-overflow_add-c c =
-    let low : (c.wide-row.result ≤ 3) × (c.loop-c.c < 48) =
-    (omega (arith, c.wide-row.ensures.0, c.requires.0), omega (arith, c.loop-c-test.true, c.requires.1)) in
-    let (k, l) = low in omega arith
-
-pub loop-c-smaller : goal.loop-c-smaller
-loop-c-smaller c = omega arith
-
 pub loop-c-preserved : goal.loop-c-preserved
 loop-c-preserved c =
-    let placed : c.wide-row.result * 64 + c.loop-c.c ≡ c.args.kind * 64 + c.loop-c.c =
-    omega (arith, c.wide-row.ensures.0) in
-    let low : (c.wide-row.result ≤ 3) × (c.loop-c.c < 48) =
-    (omega (arith, c.wide-row.ensures.0, c.requires.0), omega (arith, c.loop-c-test.true, c.requires.1)) in
+    let placed : c.from-row.result * 64 + c.loop-c.c ≡ c.args.kind * 64 + c.loop-c.c =
+    omega (arith, c.from-row.ensures) in
+    let low : (c.from-row.result ≤ 3) × (c.loop-c.c < 48) =
+    (omega (arith, c.from-row.ensures, c.requires.0), omega (arith, c.loop-c-test.true, c.requires.1)) in
     let (below, long, lacks, written) = c.loop-c.invariant in (
       omega arith,
       length-set c.loop-c.frames c.loop-c.c _ ∙ long,
-      cc (c.either-lacks.ensures, lacks, placed, any_next c.loop-c.c (λ p. eqb (noted_at c.args.kind c.args.noted.now p) not_noted)),
+      cc (lacks, placed, any_next c.loop-c.c (λ p. eqb (noted_at c.args.kind c.args.noted.now p) not_noted)),
       written-more _ (omega (arith, low.1)) (ap (λ (p : ℕ). get_or c.args.noted.now p 0) placed) written,
     )
-
-pub returns : goal.returns
-returns c =
-    let q : c.loop-c.c ≡ c.args.constructs = omega arith in
-    record { value = rw q at c.loop-c.invariant.2; written = rw q at c.loop-c.invariant.3 }

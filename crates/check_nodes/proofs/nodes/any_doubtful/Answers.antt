@@ -1,7 +1,7 @@
 -- `check_nodes::nodes::any_doubtful` meets its contract: after x turns the first x nodes are asked.
 -- Assumes nothing.
 use mathlib.Core.Path.{◌≡◌, refl, ap, ◌∙◌}
-use Prim.Native.Nat.{ℕ, ◌-◌}
+use Prim.Native.Nat.{ℕ}
 use native.Mathlib.Omega.{arith}
 use lib.ListN.{length}
 use Rattle.lists.specs.Range.{any, any_next}
@@ -10,29 +10,17 @@ use Rattle.chart.proofs.Records.{nodes-length, constructs-length}
 use Rattle.check_nodes.specs.Parts.{doubtful_at}
 use Rattle.check_nodes.proofs.nodes.any_doubtful.Goals as goal
 
-pub overflow_cast-constructs : goal.overflow_cast-constructs
-overflow_cast-constructs c = omega arith
-
 pub loop-x-init : goal.loop-x-init
 unfolding any
 loop-x-init c =
     (omega arith, omega (arith, constructs-length _ c.args.chart c.requires, c.requires.constructs-most), refl)
-
-pub read-requires : goal.read-requires
-read-requires c = (c.requires, omega arith)
-
-pub overflow_add-x : goal.overflow_add-x
-overflow_add-x c = omega arith
-
-pub loop-x-smaller : goal.loop-x-smaller
-loop-x-smaller c = omega arith
 
 pub loop-x-preserved : goal.loop-x-preserved
 loop-x-preserved c =
     let r = c.read.ensures in
     let i = c.loop-x.invariant in
     let D = decode c.args.s.now in
-    (omega arith, i.1, cc (c.either-found.ensures, i.1, i.2, c.doubtful.ensures, r.0, r.1, any_next c.loop-x.x (doubtful_at D)))
+    (omega arith, i.1, cc (i.1, i.2, c.doubtful-found.ensures, r.0, r.1, any_next c.loop-x.x (doubtful_at D)))
 
 pub returns : goal.returns
 returns c =

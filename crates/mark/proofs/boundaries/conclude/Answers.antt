@@ -8,31 +8,6 @@ use Rattle.theory_paths.specs.Phases.{forward, backward}
 use Rattle.mark.proofs.Searching.{standing, found-along, lost-told, all-masks}
 use Rattle.mark.proofs.boundaries.conclude.Goals as goal
 
--- where the function was called
-pub reach_stops-requires : goal.reach_stops-requires
-reach_stops-requires c =
-    let (few, some, nodes, long, table) = c.requires.barriers_bound in
-    let below = c.requires.by_index in
-    (few, below, long, table)
-
-pub any_apart-apart-requires : goal.any_apart-apart-requires
-any_apart-apart-requires c =
-    let (few, some, _, _, _) = c.requires.barriers_bound in
-    let below = c.requires.by_index in
-    record { total_bound = (few, some); by_index = below }
-
-pub any_stuck-stuck-requires : goal.any_stuck-stuck-requires
-any_stuck-stuck-requires c =
-    let (few, some, _, _, _) = c.requires.barriers_bound in
-    let below = c.requires.by_index in
-    record { total_bound = (few, some); by_index = below }
-
-pub any_missed-requires : goal.any_missed-requires
-any_missed-requires c = c.requires.barriers_bound.2
-
-pub any_missed-requires-2 : goal.any_missed-requires-2
-any_missed-requires-2 c = c.requires.barriers_bound.2
-
 pub returns : goal.returns
 returns c =
     let some = c.requires.barriers_bound.1 in record {
@@ -42,10 +17,7 @@ returns c =
           let led = found-along S forward A.listed-edge A.edge-listed masks.every in
           let ahead = lost-told S forward A.listed-edge A.edge-listed W B 0 some masks.passable in
           let behind = lost-told S backward (λ x y t. A.listed-edge y x (listed-turned x y t)) (λ x y h. listed-turned y x (A.edge-listed y x h)) W B (c.args.extent.barriers - 1) (omega arith) t in
-          c.either.ensures
-          ∙ rw (
-            c.either-unreached.ensures,
-            c.either-unreaching.ensures,
+          rw (
             c.any_apart-apart.ensures forward R W B led,
             c.any_stuck-stuck.ensures R W B led,
             c.any_missed.ensures,

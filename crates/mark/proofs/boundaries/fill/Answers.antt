@@ -11,12 +11,6 @@ boundaries-requires c =
     let below = c.requires.by_index in
     record { barriers_le_total = (omega arith, omega arith, starts, ends, ready handed); by_index = below }
 
-pub conclude-requires : goal.conclude-requires
-conclude-requires c =
-    let (few, none, some, nodes, starts, ends, (p, D, handed)) = c.requires.barriers_bound in
-    let below = c.requires.by_index in
-    record { barriers_bound = (few, some, nodes, c.boundaries.ensures.starts_len, (_, _, handed.split)); by_index = below }
-
 pub returns : goal.returns
 returns c =
     let none = c.requires.barriers_bound.1 in record {

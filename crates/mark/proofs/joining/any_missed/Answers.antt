@@ -1,42 +1,31 @@
--- `mark::joining::any_missed` meets its contract: after x turns the blank masks among the first x are counted.
+-- `mark::joining::any_missed` meets its contract: after some turns the blank masks so far are counted.
 -- Assumes nothing.
-use mathlib.Core.Path.{◌≡◌, refl}
-use Prim.Native.Nat.{◌+◌, ◌-◌}
+use mathlib.Core.Path.{◌≡◌, refl, sym}
+use mathlib.Core.List.{List}
+use Prim.Native.Nat.{ℕ, ◌+◌, ◌<◌}
 use native.Mathlib.Omega.{arith}
 use lib.Dec.{eqb}
-use lib.ListN.{get_or}
+use lib.ListN.{get_or, take}
+use mir.Val.{bool_byte}
+use Rattle.lists.specs.Flags.{as-flag}
 use Rattle.lists.specs.Range.{count, count_most, count-more}
+use Rattle.search.proofs.Ranges.{front-same}
 use Rattle.mark.proofs.joining.any_missed.Goals as goal
 
-pub loop-x-init : goal.loop-x-init
+pub loop-mask-init : goal.loop-mask-init
 unfolding count
-loop-x-init c = (omega arith, refl)
+loop-mask-init c = refl
 
-pub offset_bounds-masks-x : goal.offset_bounds-masks-x
-offset_bounds-masks-x c = omega arith
-
-pub bounds-masks-x : goal.bounds-masks-x
-bounds-masks-x c = omega arith
+-- one mask more
+counted : (masks : List ℕ) (n i found add : ℕ) → i < n → found ≡ count i (λ y. eqb (get_or masks y 0) 0) → add ≡ bool_byte (eqb (get_or (take n masks) i 0) 0)
+    → found + add ≡ count (i + 1) (λ y. eqb (get_or masks y 0) 0)
+counted masks n i found add l e f = rw (e, f, front-same masks n i l, as-flag (eqb (get_or masks i 0) 0)) (sym (count-more i (λ y. eqb (get_or masks y 0) 0)))
 
 pub overflow_add-found : goal.overflow_add-found
 overflow_add-found c =
-    let next : c.loop-x.found + c.blank-found.result ≡ count (c.loop-x.x + 1) (λ y. eqb (get_or c.args.masks.now y 0) 0) =
-    cc (c.loop-x.invariant.1, c.blank-found.ensures, count-more c.loop-x.x (λ y. eqb (get_or c.args.masks.now y 0) 0)) in
-    omega (arith, next, count_most (c.loop-x.x + 1) (λ y. eqb (get_or c.args.masks.now y 0) 0), c.requires)
+    let masks = c.args.masks.now in
+    let next = counted masks c.args.n c.loop-mask.mask-index _ _ (omega (arith, c.loop-mask-test.true)) c.loop-mask.invariant c.from-found.ensures in
+    omega (arith, next, count_most (c.loop-mask.mask-index + 1) (λ y. eqb (get_or masks y 0) 0), c.requires, c.loop-mask-test.true)
 
-pub overflow_add-x : goal.overflow_add-x
-overflow_add-x c = omega arith
-
-pub loop-x-smaller : goal.loop-x-smaller
-loop-x-smaller c = omega arith
-
-pub loop-x-preserved : goal.loop-x-preserved
-loop-x-preserved c =
-    let next : c.loop-x.found + c.blank-found.result ≡ count (c.loop-x.x + 1) (λ y. eqb (get_or c.args.masks.now y 0) 0) =
-    cc (c.loop-x.invariant.1, c.blank-found.ensures, count-more c.loop-x.x (λ y. eqb (get_or c.args.masks.now y 0) 0)) in
-    (omega arith, next)
-
-pub returns : goal.returns
-returns c =
-    let q : c.loop-x.x ≡ c.args.n = omega arith in
-    rw (c.loop-x.invariant.1, q)
+pub loop-mask-preserved : goal.loop-mask-preserved
+loop-mask-preserved c = counted c.args.masks.now c.args.n _ _ _ (omega (arith, c.loop-mask-test.true)) c.loop-mask.invariant c.from-found.ensures

@@ -4,12 +4,6 @@ use native.Mathlib.Omega.{arith}
 use Rattle.mark.proofs.JoiningLaws.{stuck-told}
 use Rattle.mark.proofs.joining.any_stuck.Goals as goal
 
-pub overflow_sub-total : goal.overflow_sub-total
-overflow_sub-total c = omega (arith, c.requires.total_bound.1)
-
-pub joined-requires : goal.joined-requires
-joined-requires c = let (few, some) = c.requires.total_bound in let below = c.requires.by_index in record { total_bound = (few, omega arith); by_index = below }
-
 pub returns : goal.returns
 returns c = λ R W B w.
     let some = c.requires.total_bound.1 in

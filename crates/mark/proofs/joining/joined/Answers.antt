@@ -1,7 +1,6 @@
 -- `mark::joining::joined` meets its contract: between the passes no barrier is told joined that is not.
 -- Assumes nothing.
 use mathlib.Core.Path.{◌≡◌}
-use Prim.Native.Nat.{◌-◌}
 use native.Mathlib.Omega.{arith}
 use lib.Pow.{pow-lt}
 use Rattle.mark.proofs.JoiningLaws.{joins-none, joins-more, joined-full, joined-all}
@@ -14,9 +13,6 @@ pub returns-then-all-before : goal.returns-then-all-before
 returns-then-all-before c = λ bound.
     let still : c.loop-before.all ≡ c.pass-all.result = omega arith in
     joined-all _ (pow-lt c.requires.total_bound.1) bound (rw still at c.loop-before.invariant) (rw still at c.pass-all.ensures)
-
-pub loop-before-smaller : goal.loop-before-smaller
-loop-before-smaller c = omega (arith, c.pass-all.ensures.most)
 
 pub loop-before-preserved : goal.loop-before-preserved
 loop-before-preserved c = joins-more _ c.loop-before.invariant c.pass-all.ensures

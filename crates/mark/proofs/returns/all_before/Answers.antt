@@ -1,35 +1,20 @@
--- `mark::returns::all_before` meets its contract: the constructs passed begin before they end.
+-- `mark::returns::all_before` meets its contract: what all items pass, each construct does.
 -- Assumes nothing.
-use mathlib.Core.Path.{refl}
-use Prim.Native.Nat.{◌-◌}
-use native.Mathlib.Omega.{arith}
-use native.Mathlib.Decide.{ℕ_discrete}
-use Rattle.lists.specs.Truth.{clash}
+use Rattle.std.proofs.Common.{refl, sym, ◌∙◌, ℕ, Bool, rules, arith, List, tests, ltb, get_or}
+use Rattle.std.proofs.lemmas.Iterator.{YieldsList-from_range}
+use Rattle.std.proofs.lemmas.Iterator.Search.{all_from_yields_List}
+use borrow.Author.Tests.{ltb-true}
+use Rattle.lists.specs.Range.{every-at}
+use Rattle.lists.specs.Ranges.{every_in_range}
 use Rattle.mark.proofs.returns.all_before.Goals as goal
 
-pub loop-c-init : goal.loop-c-init
-loop-c-init c = (omega arith, λ d l. absurd (omega arith))
-
-pub bounds-ends-c : goal.bounds-ends-c
-bounds-ends-c c = omega (arith, c.requires)
-
-pub bounds-begins-c : goal.bounds-begins-c
-bounds-begins-c c = omega (arith, c.requires)
-
-pub returns-then-ends-c : goal.returns-then-ends-c
-returns-then-ends-c c = λ h. absurd (clash h refl)
-
-pub overflow_add-c : goal.overflow_add-c
-overflow_add-c c = omega (arith, c.requires)
-
-pub loop-c-smaller : goal.loop-c-smaller
-loop-c-smaller c = omega arith
-
-pub loop-c-preserved : goal.loop-c-preserved
-loop-c-preserved c = (
-  omega arith,
-  λ d m. elim (ℕ_discrete d c.loop-c.c) [ yes q ↦ rw q (omega (arith, c.if-ends-c.false)) | no q ↦ c.loop-c.invariant.1 d (omega arith) ],
-)
+before : List ℕ → List ℕ → ℕ → Bool
+before begins ends c = ltb (get_or begins c 0) (get_or ends c 0)
 
 pub returns : goal.returns
-returns c _ d m = c.loop-c.invariant.1 d (omega arith)
+unfolding before
+returns c = λ all d l.
+    let f = before c.args.framing.now.begins c.args.framing.now.ends in
+    let n = c.args.n in
+    let is = all_from_yields_List f _ _ _ c.all.ensures.ran (YieldsList-from_range 0 n n refl (omega arith)) (λ x b q k. search (rules, tests)) ∙ every_in_range n f in
+    ltb-true _ _ (every-at n f (sym is ∙ all) d l)

@@ -1,39 +1,22 @@
--- `mark::returns::any_asked` meets its contract: of the constructs passed no rule asks it.
+-- `mark::returns::any_asked` meets its contract: what no item passes, none of the constructs does.
 -- Assumes nothing.
-use mathlib.Core.Path.{refl}
-use mathlib.Core.Bool.{false}
-use Prim.Native.Nat.{◌-◌}
-use native.Mathlib.Omega.{arith}
-use native.Mathlib.Decide.{ℕ_discrete}
-use Rattle.lists.specs.Truth.{clash}
+use Rattle.std.proofs.Common.{refl, sym, ◌∙◌, ℕ, Bool, rules, arith, List, tests}
+use Rattle.std.proofs.lemmas.Iterator.{YieldsList-from_range}
+use Rattle.std.proofs.lemmas.Iterator.Search.{any_from_yields_List}
+use Rattle.lists.specs.Range.{none_passes}
+use Rattle.lists.specs.Ranges.{any_in_range}
+use Rattle.chart.specs.Format.{decode, construct_at}
+use Rattle.chart.specs.Scope.{kind_of}
+use Rattle.mark_tables.specs.Tables.{asks_return}
 use Rattle.mark.proofs.returns.any_asked.Goals as goal
 
-pub loop-c-init : goal.loop-c-init
-loop-c-init c = (omega arith, λ d l. absurd (omega arith))
-
-pub read-requires : goal.read-requires
-read-requires c = (c.requires, omega arith)
-
-pub asks-requires : goal.asks-requires
-asks-requires c = tt
-
-pub returns-then-asks : goal.returns-then-asks
-returns-then-asks c = λ h. absurd (clash refl h)
-
-pub overflow_add-c : goal.overflow_add-c
-overflow_add-c c = omega arith
-
-pub loop-c-smaller : goal.loop-c-smaller
-loop-c-smaller c = omega arith
-
-pub loop-c-preserved : goal.loop-c-preserved
-loop-c-preserved c = (
-  omega arith,
-  λ d m. elim (ℕ_discrete d c.loop-c.c) [
-    | yes q ↦ rw (q, ← c.read.ensures.0, ← c.asks.ensures) c.if-asks.false
-    | no q ↦ c.loop-c.invariant.1 d (omega arith)
-  ],
-)
+asks_at : List ℕ → ℕ → Bool
+asks_at s c = asks_return (kind_of (construct_at (decode s).constructs c).kind)
 
 pub returns : goal.returns
-returns c _ d m = c.loop-c.invariant.1 d (omega arith)
+unfolding asks_at
+returns c = λ none d l.
+    let s = c.args.s.now in
+    let n = c.args.chart.constructs in
+    let is = any_from_yields_List (asks_at s) _ _ _ c.any.ensures.ran (YieldsList-from_range 0 n n refl (omega arith)) (λ x b q k. search (rules, tests)) ∙ any_in_range n (asks_at s) in
+    none_passes n (asks_at s) (sym is ∙ none) d l

@@ -18,19 +18,12 @@ told : (R : Region) (m : ℕ) → m ≡ returning R → Returned R m
 unfolding returning
 told R m q c l a = rw q (has_of (returns_at R) R.constructs c l)
 
-pub any_asked-requires : goal.any_asked-requires
-any_asked-requires c = c.requires.accepted.0.laid
-
 pub returns-then-not-any_asked : goal.returns-then-not-any_asked
 returns-then-not-any_asked c =
     record {
       none = λ _ d l a. absurd (clash a (c.any_asked.ensures c.if-not-any_asked.true d (omega (arith, constructs-length _ c.args.chart c.requires.accepted.0.laid, l))));
       all = λ n. absurd (n refl);
     }
-
-pub all_before-requires : goal.all_before-requires
-all_before-requires c =
-    omega (arith, c.requires.accepted.0.laid.constructs-most)
 
 pub returns-then-all_before : goal.returns-then-all_before
 returns-then-all_before c =
@@ -42,10 +35,6 @@ returns-then-all_before c =
       none = λ _. told _ 0 (none-return s c.args.chart A F S c.if-parts-eq-EDGES.true B E (λ d l. c.all_before.ensures c.if-all_before.true d (omega arith)));
       all = λ n. absurd (n refl);
     }
-
-pub returns-else-all_before : goal.returns-else-all_before
-returns-else-all_before c =
-    record { none = λ q d l a. absurd (omega (arith, constructs-length _ c.args.chart c.requires.accepted.0.laid, l)); all = λ _. refl }
 
 pub returns-else-parts-eq-EDGES : goal.returns-else-parts-eq-EDGES
 returns-else-parts-eq-EDGES c =

@@ -2,7 +2,7 @@
 use mathlib.Core.Path.{◌≡◌}
 use mathlib.Core.Bool.{Bool}
 use mathlib.Core.List.{List}
-use Prim.Native.Nat.{ℕ, ◌+◌, ◌-◌, ◌≤◌}
+use Prim.Native.Nat.{ℕ, ◌+◌}
 use lib.ListN.{get_or}
 use Rattle.lists.specs.Mask.{mask_of}
 use Rattle.lists.specs.Bits.{has}
@@ -12,7 +12,4 @@ abbrev pub own : List ℕ → List ℕ → ℕ → ℕ → Bool
 own masks nodes first c = has (get_or masks (get_or nodes c 0) 0) (first + c)
 
 abbrev pub invariant-loop-c : goal.invariant-loop-c
-invariant-loop-c l = (l.c ≤ l.n) × (l.all ≡ mask_of (own l.masks l.nodes l.first) l.c)
-
-abbrev pub decreases-loop-c : goal.decreases-loop-c
-decreases-loop-c l = l.n - l.c
+invariant-loop-c l = l.all ≡ mask_of (own l.masks l.nodes l.first) l.c

@@ -12,9 +12,6 @@ pub returns-then-region-chart : goal.returns-then-region-chart
 returns-then-region-chart c =
     sym (names-none (decode c.args.s.now) c.args.region c.requires.1 (omega (arith, constructs-length _ c.args.chart c.requires.0, c.if-region-chart.true)))
 
-pub read-requires : goal.read-requires
-read-requires c = (c.requires.0, omega (arith, c.if-region-chart.false))
-
 pub returns-then-read-eq-PARALLEL : goal.returns-then-read-eq-PARALLEL
 returns-then-read-eq-PARALLEL c =
     rw (names-kind (decode c.args.s.now) c.args.region c.requires.1, ← c.read.ensures.0, eq-eqb _ _ c.if-read-eq-PARALLEL.true)

@@ -13,12 +13,9 @@ use Rattle.mark_tables.proofs.Accepted.{accepted-for}
 use Rattle.mark_regions.proofs.Naming.{refused-region, marked-region, named}
 use Rattle.mark_regions.proofs.inner.enter_inner.Goals as goal
 
-pub bad_region-requires : goal.bad_region-requires
-bad_region-requires c = let (admits, counts, A, n) = c.requires in (A.laid, n)
-
 pub returns-then-bad_region : goal.returns-then-bad_region
 returns-then-bad_region c =
-    record { value = refused-region _ c.args.region c.requires.0 (sym c.bad_region.ensures ∙ c.if-bad_region.true); entry = λ chart total q. absurd (bad (cc)) }
+    record { value = refused-region _ c.args.region c.requires.0 (sym c.bad_region.ensures ∙ c.if-bad_region.true); entry = λ m q. absurd (bad (cc)) }
 
 pub enter_region-requires : goal.enter_region-requires
 enter_region-requires c =

@@ -5,10 +5,12 @@ use native.Mathlib.Omega.{arith}
 use Rattle.lists.specs.Truth.{bad}
 use Rattle.chart.proofs.Records.{nodes-length}
 use Rattle.mark_tables.specs.Tables.{Accepted}
-use Rattle.mark_tables.proofs.Accepted.{accepted, well-formed}
+use Rattle.mark_tables.proofs.Accepted.{well-formed}
 use Rattle.mark_tables.proofs.Tabling.{blank_none}
 use Rattle.mark_regions.specs.Entered.{Entry}
 use Rattle.mark_regions.proofs.Entering.{marked-same, few, not_none, cut_off, connects, refuses, marks}
+use Rattle.chart.specs.declared.format.Refusal.TheVariants.{BadPaths}
+use Rattle.mark_regions.specs.declared.outermost.Marked.{Marked}
 use Rattle.mark_regions.proofs.outermost.enter_region.Goals as goal
 
 pub load_tables-extent-requires : goal.load_tables-extent-requires
@@ -35,10 +37,10 @@ returns-then-refuses c =
     let lost = c.fill-lost.ensures.by_index_2 _ _ (well-formed _ _ A) T S N (Q ∙ sym (nodes-length _ _ A.laid)) in
     let (whole, not) = c.refuses.ensures in record {
       value = (
-        λ q. let h = c.requires.accepted.1 q in refuses _ _ h 10 (cut_off _ _ h (sym lost ∙ sym (whole q) ∙ c.if-refuses.true)),
+        λ q. let h = c.requires.accepted.1 q in refuses _ _ h BadPaths (cut_off _ _ h (sym lost ∙ sym (whole q) ∙ c.if-refuses.true)),
         λ n. let f = not n in let t = c.if-refuses.true in absurd (bad (cc)),
       );
-      entry = λ chart total q. absurd (bad (cc));
+      entry = λ m q. absurd (bad (cc));
     }
 
 pub returns : goal.returns
@@ -60,6 +62,6 @@ returns c =
             marks _ _ h _ N.count (connects _ _ h (sym (lost _ _ W T S N (Q ∙ sym (nodes-length _ _ A.laid))) ∙ sym (whole q) ∙ c.if-refuses.false)),
         λ n. rw N.count refl,
       );
-      entry = λ chart total q. marked-same q (λ k m. Entry c.args.s.now k m c.fill-lost.new.starts c.fill-lost.new.ends c.fill-lost.new.levels)
+      entry = λ m q. marked-same q (λ (k : Marked). Entry c.args.s.now k.chart k.barriers c.fill-lost.new.starts c.fill-lost.new.ends c.fill-lost.new.levels)
           (record { accepted = A; count = N.count; has-starts = starts; has-ends = ends; has-levels = levels });
     }

@@ -2,9 +2,8 @@
 -- Assumes nothing.
 use mathlib.Core.Path.{◌≡◌, ◌∙◌}
 use mathlib.Core.Bool.{cond}
-use Prim.Native.Nat.{ℕ, ◌-◌}
 use native.Mathlib.Omega.{arith}
-use lib.ListN.{length-set, length-replicate}
+use lib.ListN.{length-set}
 use Rattle.lists.specs.Store.{stored}
 use Rattle.chart.specs.Checked.{reading}
 use Rattle.chart.proofs.Records.{nodes-length}
@@ -13,26 +12,8 @@ use Rattle.mark_tables.proofs.Accepted.{region-byte}
 use Rattle.mark_tables.proofs.Cutting.{closed-turn}
 use Rattle.mark_tables.proofs.closed.close_region.Goals as goal
 
-pub within-requires : goal.within-requires
-within-requires c = c.requires
-
 pub region_byte-region-requires : goal.region_byte-region-requires
 region_byte-region-requires c = region-byte _ c.args.chart c.requires.0
-
-pub loop-x-init : goal.loop-x-init
-loop-x-init c = (omega arith, length-replicate {A = ℕ} 192 0, λ y l. absurd (omega arith))
-
-pub read-requires : goal.read-requires
-read-requires c = (c.requires.0.laid, omega arith)
-
-pub bounds-closed-x : goal.bounds-closed-x
-bounds-closed-x c = omega (arith, c.requires.0.laid.nodes-most)
-
-pub overflow_add-x : goal.overflow_add-x
-overflow_add-x c = omega arith
-
-pub loop-x-smaller : goal.loop-x-smaller
-loop-x-smaller c = omega arith
 
 pub loop-x-preserved : goal.loop-x-preserved
 loop-x-preserved c =

@@ -10,9 +10,6 @@ use Rattle.mark_tables.proofs.Loading.{stop-byte}
 use Rattle.mark_tables.proofs.Cutting.{stop-closed, closed-turn}
 use Rattle.mark_tables.proofs.closed.closed_at.Goals as goal
 
-pub read-node-requires : goal.read-node-requires
-read-node-requires c = (c.requires.0.laid, c.requires.1)
-
 pub region_byte-region-requires : goal.region_byte-region-requires
 region_byte-region-requires c = region-byte _ c.args.chart c.requires.0
 
@@ -22,9 +19,6 @@ returns-then-chart-eq-OUTERMOST c =
     omega (arith, nodes-length _ c.args.chart c.requires.0.laid, c.requires.1) in
     rw (stop-closed _ c.args.chart c.args.x c.if-chart-eq-OUTERMOST.true below)
     (stop-byte _ c.args.chart c.requires.0 c.args.x _ _ _ c.read-node.ensures.0 c.read-node.ensures.1 (rw c.region_byte-region.ensures at c.stop.ensures))
-
-pub within-requires : goal.within-requires
-within-requires c = (c.requires.0, c.if-chart-eq-OUTERMOST.false)
 
 pub returns : goal.returns
 returns c =

@@ -5,9 +5,3 @@ use Rattle.mark_tables.proofs.closed.load_closed.Goals as goal
 
 pub returns-then-chart-eq-OUTERMOST : goal.returns-then-chart-eq-OUTERMOST
 returns-then-chart-eq-OUTERMOST c = stops-closed _ c.args.chart _ c.if-chart-eq-OUTERMOST.true c.load_stops.ensures
-
-pub close_region-requires : goal.close_region-requires
-close_region-requires c = (c.requires, c.if-chart-eq-OUTERMOST.false)
-
-pub returns : goal.returns
-returns c = c.close_region.ensures

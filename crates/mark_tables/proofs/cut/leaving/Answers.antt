@@ -1,7 +1,7 @@
 -- `mark_tables::cut::leaving` meets its contract: after x turns the flags of the first x nodes stand.
 -- Assumes nothing.
 use mathlib.Core.Path.{◌∙◌}
-use Prim.Native.Nat.{ℕ, ◌-◌}
+use Prim.Native.Nat.{ℕ}
 use native.Mathlib.Omega.{arith}
 use lib.ListN.{length-set, length-replicate}
 use Rattle.lists.specs.Store.{written_none, written-more, written_all}
@@ -9,23 +9,8 @@ use Rattle.chart.proofs.Records.{nodes-length}
 use Rattle.mark_tables.proofs.Cutting.{leaving-turn, leaving-past}
 use Rattle.mark_tables.proofs.cut.leaving.Goals as goal
 
-pub within-requires : goal.within-requires
-within-requires c = c.requires
-
 pub loop-x-init : goal.loop-x-init
 loop-x-init c = (omega arith, length-replicate {A = ℕ} 192 0, written_none _ 192)
-
-pub read-requires : goal.read-requires
-read-requires c = (c.requires.0.laid, omega arith)
-
-pub bounds-flags-x : goal.bounds-flags-x
-bounds-flags-x c = omega (arith, c.requires.0.laid.nodes-most)
-
-pub overflow_add-x : goal.overflow_add-x
-overflow_add-x c = omega arith
-
-pub loop-x-smaller : goal.loop-x-smaller
-loop-x-smaller c = omega arith
 
 pub loop-x-preserved : goal.loop-x-preserved
 loop-x-preserved c =

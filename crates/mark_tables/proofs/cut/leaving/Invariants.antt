@@ -1,6 +1,6 @@
 -- The invariants and measures of `mark_tables::cut::leaving`.
 use mathlib.Core.Path.{◌≡◌}
-use Prim.Native.Nat.{◌≤◌, ◌-◌}
+use Prim.Native.Nat.{◌≤◌}
 use lib.ListN.{length}
 use Rattle.lists.specs.Store.{Written}
 use Rattle.chart.specs.Format.{decode}
@@ -13,6 +13,3 @@ abbrev pub invariant-loop-x : goal.invariant-loop-x
 invariant-loop-x l =
     (l.x ≤ l.chart.nodes) × (length l.flags ≡ 192)
     × Written (λ y. flag_of (lies_within (decode l.s).constructs l.chart.region (leaving_at (decode l.s).nodes (decode l.s).constructs y))) l.x l.flags
-
-abbrev pub decreases-loop-x : goal.decreases-loop-x
-decreases-loop-x l = l.chart.nodes - l.x

@@ -1,7 +1,7 @@
 -- `mark_tables::cut::within` meets its contract: after c turns the flags of the first c constructs stand.
 -- Assumes nothing.
 use mathlib.Core.Path.{◌≡◌, ◌∙◌}
-use Prim.Native.Nat.{ℕ, ◌-◌}
+use Prim.Native.Nat.{ℕ}
 use native.Mathlib.Omega.{arith}
 use lib.ListN.{length, length-set, length-replicate}
 use Rattle.lists.specs.Store.{written_none, written-more}
@@ -14,21 +14,6 @@ use Rattle.mark_tables.proofs.cut.within.Goals as goal
 pub loop-c-init : goal.loop-c-init
 loop-c-init c = (omega arith, length-replicate {A = ℕ} 256 0, written_none _ 256)
 
-pub read-parent-requires : goal.read-parent-requires
-read-parent-requires c = (c.requires.0.laid, omega arith)
-
-pub bounds-flags-wide : goal.bounds-flags-wide
-bounds-flags-wide c = omega (arith, c.wide.ensures.1)
-
-pub bounds-flags-c : goal.bounds-flags-c
-bounds-flags-c c = omega (arith, c.requires.0.laid.constructs-most)
-
-pub overflow_add-c : goal.overflow_add-c
-overflow_add-c c = omega arith
-
-pub loop-c-smaller : goal.loop-c-smaller
-loop-c-smaller c = omega arith
-
 pub loop-c-preserved : goal.loop-c-preserved
 unfolding parent_of
 loop-c-preserved c =
@@ -38,7 +23,7 @@ loop-c-preserved c =
       omega arith,
       length-set c.loop-c.flags _ _ ∙ long,
       written-more _ (omega (arith, A.laid.constructs-most))
-          (within-turn _ c.args.chart A inner c.loop-c.c _ _ _ (omega arith) (c.wide.ensures.0 ∙ c.read-parent.ensures.1) c.lies.ensures flags) flags,
+          (within-turn _ c.args.chart A inner c.loop-c.c _ _ _ (omega arith) (c.read-parent.ensures.1) c.lies.ensures flags) flags,
     )
 
 pub returns : goal.returns

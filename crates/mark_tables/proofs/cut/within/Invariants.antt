@@ -1,6 +1,6 @@
 -- The invariants and measures of `mark_tables::cut::within`.
 use mathlib.Core.Path.{◌≡◌}
-use Prim.Native.Nat.{◌≤◌, ◌-◌}
+use Prim.Native.Nat.{◌≤◌}
 use lib.ListN.{length}
 use Rattle.lists.specs.Store.{Written}
 use Rattle.chart.specs.Format.{decode}
@@ -11,6 +11,3 @@ use Rattle.mark_tables.proofs.cut.within.Given as goal
 abbrev pub invariant-loop-c : goal.invariant-loop-c
 invariant-loop-c l =
     (l.c ≤ l.chart.constructs) × (length l.flags ≡ 256) × Written (λ q. flag_of (lies_within (decode l.s).constructs l.chart.region q)) l.c l.flags
-
-abbrev pub decreases-loop-c : goal.decreases-loop-c
-decreases-loop-c l = l.chart.constructs - l.c

@@ -2,7 +2,6 @@
 -- for all of them.
 -- Assumes nothing.
 use mathlib.Core.Path.{◌≡◌, sym, ◌∙◌}
-use Prim.Native.Nat.{◌-◌}
 use native.Mathlib.Omega.{arith}
 use Rattle.lists.specs.Range.{none_passes}
 use Rattle.mark_tables.specs.Tables.{stop_from}
@@ -13,18 +12,9 @@ use Rattle.mark_tables.proofs.load.barriers.Goals.{then-any_stop, else-any_stop}
 pub loop-x-init : goal.loop-x-init
 loop-x-init c = (omega arith, omega arith, listing_none _)
 
-pub any_stop-requires : goal.any_stop-requires
-any_stop-requires c = omega arith
-
 pub list_eight-total-requires : goal.list_eight-total-requires
 list_eight-total-requires c =
     (omega arith, stops-few _ _ c.requires.0 c.requires.1, c.loop-x.invariant.2)
-
-pub overflow_add-x : goal.overflow_add-x
-overflow_add-x c = omega arith
-
-pub loop-x-smaller : goal.loop-x-smaller
-loop-x-smaller c = omega arith
 
 pub loop-x-preserved : goal.loop-x-preserved
 loop-x-preserved c = (

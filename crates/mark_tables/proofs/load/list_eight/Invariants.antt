@@ -1,10 +1,7 @@
 -- The invariants and measures of `mark_tables::load::list_eight`.
-use Prim.Native.Nat.{◌+◌, ◌≤◌, ◌-◌}
+use Prim.Native.Nat.{◌+◌, ◌≤◌}
 use Rattle.mark_tables.specs.Tables.{Listing}
 use Rattle.mark_tables.proofs.load.list_eight.Given as goal
 
 abbrev pub invariant-loop-k : goal.invariant-loop-k
 invariant-loop-k l = (l.k ≤ 8) × Listing l.stops (l.from + l.k) l.nodes l.total
-
-abbrev pub decreases-loop-k : goal.decreases-loop-k
-decreases-loop-k l = 8 - l.k

@@ -1,7 +1,7 @@
 -- `mark_tables::load::load_stops` meets its contract: after x turns the stops of the first x nodes stand.
 -- Assumes nothing.
 use mathlib.Core.Path.{◌≡◌, ◌∙◌}
-use Prim.Native.Nat.{ℕ, ◌-◌}
+use Prim.Native.Nat.{ℕ}
 use native.Mathlib.Omega.{arith}
 use lib.ListN.{length, length-set, length-replicate}
 use Rattle.lists.specs.Store.{written_none, written-more, written_all}
@@ -16,18 +16,6 @@ region_byte-region-requires c = region-byte _ c.args.chart c.requires
 
 pub loop-x-init : goal.loop-x-init
 loop-x-init c = (omega arith, length-replicate {A = ℕ} 192 0, written_none _ 192)
-
-pub read-requires : goal.read-requires
-read-requires c = (c.requires.laid, omega arith)
-
-pub bounds-stops-x : goal.bounds-stops-x
-bounds-stops-x c = omega (arith, c.requires.laid.nodes-most)
-
-pub overflow_add-x : goal.overflow_add-x
-overflow_add-x c = omega arith
-
-pub loop-x-smaller : goal.loop-x-smaller
-loop-x-smaller c = omega arith
 
 pub loop-x-preserved : goal.loop-x-preserved
 loop-x-preserved c =

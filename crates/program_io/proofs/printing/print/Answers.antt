@@ -8,4 +8,4 @@ use Rattle.program_io.proofs.printing.print.Goals as goal
 pub print_admitted-requires : goal.print_admitted-requires
 unfolding admitted
 print_admitted-requires g c =
-    (small-counts c.args.s.now _ (sym c.admit.ensures ∙ c.in-Admitted.is)).nodes
+    (small-counts c.args.s.now _ (sym c.admit.ensures ∙ c.in-Ok.is)).nodes

@@ -1,54 +1,34 @@
 -- `search::breadth::expand` meets its contract: the loop's invariant is the `Run` so far. Assumes nothing.
-use Prim.Native.Nat.{ℕ, ◌-◌, ◌+◌}
 use native.Mathlib.Omega.{arith}
-use mathlib.Core.Path.{◌≡◌, ap}
+use Prim.Native.Nat.{◌+◌}
+use mathlib.Core.Path.{◌≡◌}
 use lib.ListN.{get_or}
+use Rattle.search.proofs.Ranges.{range-at}
 use Rattle.search.specs.Steps.{none, more}
 use Rattle.search.proofs.Visits.{visit-room}
 use Rattle.search.proofs.breadth.expand.Goals as goal
 
-pub overflow_add-to : goal.overflow_add-to
-overflow_add-to c = omega (arith, c.wide-from.ensures)
+pub loop-y-preserved : goal.loop-y-preserved
+loop-y-preserved c =
+    let (room, run) = c.loop-y.invariant in
+    let (_, node, some, table) = c.requires in
+    let places = c.args.places.now in
+    let a = get_or places c.args.x 0 in
+    let b = get_or places (c.args.x + 1) 0 in
+    let i = c.loop-y.y-index in
+    let at = range-at c.args.values.now a b i (omega (arith, c.loop-y-test.true)) in
+    let visited = rw at at c.visit-tail.ensures in
+    let e : a + (i + 1) ≡ a + i + 1 = omega arith in
+    (visit-room some (table.node (a + i)) room visited, rw e (more run visited))
 
-pub offset_bounds-places-from : goal.offset_bounds-places-from
-offset_bounds-places-from c = omega (arith, c.wide-from.ensures)
-
-pub bounds-places-from : goal.bounds-places-from
-bounds-places-from c = omega (arith, c.wide-from.ensures, c.requires.1)
-
-pub offset_bounds-places-from-2 : goal.offset_bounds-places-from-2
-offset_bounds-places-from-2 c = omega (arith, c.wide-from.ensures)
-
-pub bounds-places-from-2 : goal.bounds-places-from-2
-bounds-places-from-2 c = omega (arith, c.wide-from.ensures, c.requires.1)
-
-pub loop-j-init : goal.loop-j-init
-loop-j-init c =
-    let (room, node, some, table) = c.requires in
-    let (rise, most) = table.place c.args.x node in
-    rw c.wide-from.ensures.0 (rise, most, room, none)
-
-pub bounds-values-j : goal.bounds-values-j
-bounds-values-j c = omega arith
+pub loop-y-init : goal.loop-y-init
+loop-y-init c =
+    let a = get_or c.args.places.now c.args.x 0 in
+    let e : a + 0 ≡ a = omega arith in
+    (c.requires.0, rw e none)
 
 pub visit-tail-requires : goal.visit-tail-requires
 visit-tail-requires c =
-    (c.loop-j.invariant.2, c.requires.3.node c.loop-j.j)
-
-pub overflow_add-j : goal.overflow_add-j
-overflow_add-j c = omega arith
-
-pub loop-j-smaller : goal.loop-j-smaller
-loop-j-smaller c = omega arith
-
-pub loop-j-preserved : goal.loop-j-preserved
-loop-j-preserved c =
-    let (_, most, room, run) = c.loop-j.invariant in
-    let (_, _, some, table) = c.requires in
-    (omega arith, most, visit-room some (table.node c.loop-j.j) room c.visit-tail.ensures, more run c.visit-tail.ensures)
-
-pub returns : goal.returns
-returns c =
-    let e = ap (λ (y : ℕ). get_or c.args.places.now (y + 1) 0) c.wide-from.ensures.0 in
-    let to : c.loop-j.j ≡ get_or c.args.places.now (c.args.x + 1) 0 = omega (arith, c.loop-j.invariant.0, e) in
-    rw to at c.loop-j.invariant.3
+    let a = get_or c.args.places.now c.args.x 0 in
+    let at = range-at c.args.values.now a (get_or c.args.places.now (c.args.x + 1) 0) c.loop-y.y-index (omega (arith, c.loop-y-test.true)) in
+    (c.loop-y.invariant.0, rw at (c.requires.3.node (a + c.loop-y.y-index)))

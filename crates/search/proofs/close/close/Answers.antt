@@ -1,26 +1,11 @@
 -- `search::close::close` meets its contract: the falling edges stay closed, and when a sweep is quiet the rising ones are. Assumes nothing.
-use Prim.Native.Nat.{◌<◌, ◌-◌}
+use Prim.Native.Nat.{◌<◌}
 use native.Mathlib.Omega.{arith}
 use lib.Bits.{bit_or}
 use Rattle.lists.specs.Mask.{Sub}
-use Rattle.search.proofs.Runs.{masks-kind, run_long, carried_on}
+use Rattle.search.proofs.Runs.{masks-kind, carried_on}
 use Rattle.search.proofs.Turns.{Closing, opened, still, again, closing-closed, rebase}
 use Rattle.search.proofs.close.close.Goals as goal
-
-pub sweep-new-requires : goal.sweep-new-requires
-sweep-new-requires c =
-    let (L, long) = c.requires.lists in
-    let fits = c.requires.by_index in
-    record { a_le_b = (omega arith, L.ups-most, long); by_index = L.key; by_index_2 = L.value }
-
-pub sweep-new-requires-2 : goal.sweep-new-requires-2
-sweep-new-requires-2 c =
-    let (L, long) = c.requires.lists in
-    let fits = c.requires.by_index in
-    record { a_le_b = (L.low-most, omega arith, run_long long c.sweep-new.ensures); by_index = L.key; by_index_2 = L.value }
-
-pub steps_of-turn-requires : goal.steps_of-turn-requires
-steps_of-turn-requires c = let L = c.requires.lists.0 in (L.ups-most, L.low-most)
 
 pub loop-new-init : goal.loop-new-init
 loop-new-init c =
@@ -31,12 +16,6 @@ loop-new-init c =
     let fits = c.requires.by_index in
     opened masks-kind L long fits c.sweep-new.ensures c.sweep-new-2.ensures in
     rebase first_two
-
-pub drain-requires : goal.drain-requires
-drain-requires c =
-    let L = c.requires.lists.0 in
-    let h = c.loop-new.invariant.half in
-    record { ups_le_low = (L.apart, L.low-most, h.long); by_index = (L.key, L.value); by_index_2 = h.bound }
 
 pub returns-then-left-turn : goal.returns-then-left-turn
 returns-then-left-turn c =
@@ -49,26 +28,10 @@ returns-then-left-turn c =
     let h = c.loop-new.invariant.half in
     record { carried = carried_on first_two.half.carried (carried_on h.carried c.drain.ensures.carried); closed = c.drain.ensures.closed }
 
-pub sweep-new-requires-in-loop-new : goal.sweep-new-requires-in-loop-new
-sweep-new-requires-in-loop-new c =
-    let L = c.requires.lists.0 in
-    record { a_le_b = (omega arith, L.ups-most, c.loop-new.invariant.half.long); by_index = L.key; by_index_2 = L.value }
-
-pub sweep-new-requires-then-new-ne0 : goal.sweep-new-requires-then-new-ne0
-sweep-new-requires-then-new-ne0 c =
-    let L = c.requires.lists.0 in
-    record { a_le_b = (L.low-most, omega arith, run_long c.loop-new.invariant.half.long c.sweep-new-in-loop-new.ensures); by_index = L.key; by_index_2 = L.value }
-
-pub loop-new-smaller-then-new-ne0 : goal.loop-new-smaller-then-new-ne0
-loop-new-smaller-then-new-ne0 c = omega arith
-
 pub loop-new-preserved-then-new-ne0 : goal.loop-new-preserved-then-new-ne0
 loop-new-preserved-then-new-ne0 c =
     let L = c.requires.lists.0 in
     again masks-kind L c.loop-new.invariant c.sweep-new-in-loop-new.ensures c.sweep-new-then-new-ne0.ensures
-
-pub loop-new-smaller : goal.loop-new-smaller
-loop-new-smaller c = omega arith
 
 pub loop-new-preserved : goal.loop-new-preserved
 loop-new-preserved c =

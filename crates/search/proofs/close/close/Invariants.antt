@@ -1,5 +1,5 @@
 -- The invariants and measures of `search::close::close`.
-use Prim.Native.Nat.{◌<◌, ◌-◌}
+use Prim.Native.Nat.{◌<◌}
 use lib.Bits.{bit_or}
 use Rattle.lists.specs.Mask.{Sub}
 use Rattle.search.proofs.Turns.{Closing}

@@ -5,5 +5,5 @@ use Rattle.search.proofs.close.place_of.Goals as goal
 pub returns-then-back : goal.returns-then-back
 returns-then-back c = place-true _ _ _ _ c.if-back.true
 
-pub returns : goal.returns
-returns c = place-false _ _ _ _ c.if-back.false
+pub returns-else-back : goal.returns-else-back
+returns-else-back c = place-false _ _ _ _ c.if-back.false

@@ -1,19 +1,12 @@
 -- `search::close::sweep` meets its contract: the loop's invariant is the `Run` so far. Assumes nothing.
-use Prim.Native.Nat.{◌<◌, ◌-◌}
+use Prim.Native.Nat.{◌<◌}
 use native.Mathlib.Omega.{arith}
-use mathlib.Core.Path.{◌≡◌}
 use Rattle.search.specs.Sweep.{none, more}
 use Rattle.search.proofs.Runs.{run-from, run_long, place-below}
 use Rattle.search.proofs.close.sweep.Goals as goal
 
-pub overflow_sub-few : goal.overflow_sub-few
-overflow_sub-few c = c.requires.a_le_b.0
-
 pub loop-j-init : goal.loop-j-init
 loop-j-init c = (c.requires.a_le_b.0, none)
-
-pub place_of-at-requires : goal.place_of-at-requires
-place_of-at-requires c = let i = c.loop-j.invariant in (run-from i.1, omega arith, c.requires.a_le_b.1)
 
 pub bounds-keys-at : goal.bounds-keys-at
 bounds-keys-at c =
@@ -33,18 +26,6 @@ pub carry-new-requires : goal.carry-new-requires
 carry-new-requires c =
     (run_long c.requires.a_le_b.2 c.loop-j.invariant.1, c.requires.by_index c.place_of-at.result, c.requires.by_index_2 c.place_of-at.result)
 
-pub overflow_add-j : goal.overflow_add-j
-overflow_add-j c = omega arith
-
-pub loop-j-smaller : goal.loop-j-smaller
-loop-j-smaller c = omega arith
-
 pub loop-j-preserved : goal.loop-j-preserved
 loop-j-preserved c =
     (omega arith, more c.loop-j.invariant.1 (rw c.place_of-at.ensures at c.carry-new.ensures))
-
-pub returns : goal.returns
-returns c =
-    let i = c.loop-j.invariant in
-    let e : c.loop-j.j ≡ c.args.b = omega arith in
-    rw e at i.1

@@ -1,6 +1,6 @@
 -- `search::levels::measure` meets its contract: the falling edges stay closed, and when a sweep is quiet the rising ones are. Assumes nothing.
 use mathlib.Core.Path.{refl}
-use Prim.Native.Nat.{◌≤◌, ◌-◌}
+use Prim.Native.Nat.{◌≤◌}
 use native.Mathlib.Omega.{arith}
 use Rattle.search.specs.LevelLaws.{nearer, Follows}
 use Rattle.lists.specs.Truth.{clash}
@@ -8,21 +8,12 @@ use Rattle.search.proofs.Runs.{levels-kind, run-swept, carried_on}
 use Rattle.search.proofs.Turns.{Closing, opened, still, again, closing-closed, rebase}
 use Rattle.search.proofs.levels.measure.Goals as goal
 
-pub sweep-new-requires : goal.sweep-new-requires
-sweep-new-requires c =
-    let (L, long) = c.requires.lists in
-    let fits = c.requires.by_index in
-    record { a_le_b = (omega arith, L.ups-most, long, fits); by_index = (L.key, L.value) }
-
 pub sweep-new-requires-2 : goal.sweep-new-requires-2
 sweep-new-requires-2 c =
     let (L, long) = c.requires.lists in
     let fits = c.requires.by_index in
     let w = run-swept levels-kind _ _ _ _ _ L.key L.value long fits c.sweep-new.ensures in
     record { a_le_b = (L.low-most, omega arith, w.long, w.bound); by_index = (L.key, L.value) }
-
-pub steps_of-turn-requires : goal.steps_of-turn-requires
-steps_of-turn-requires c = let L = c.requires.lists.0 in (L.ups-most, L.low-most)
 
 pub loop-new-init : goal.loop-new-init
 loop-new-init c =
@@ -44,11 +35,6 @@ returns-then-left-turn c =
     opened levels-kind L long fits c.sweep-new.ensures c.sweep-new-2.ensures in
     record { carried = carried_on first_two.half.carried c.loop-new.invariant.half.carried; closed = λ h. absurd (clash h refl) }
 
-pub sweep-new-requires-in-loop-new : goal.sweep-new-requires-in-loop-new
-sweep-new-requires-in-loop-new c =
-    let L = c.requires.lists.0 in
-    record { a_le_b = (omega arith, L.ups-most, c.loop-new.invariant.half.long, c.loop-new.invariant.half.bound); by_index = (L.key, L.value) }
-
 pub sweep-new-requires-then-new-ne0 : goal.sweep-new-requires-then-new-ne0
 sweep-new-requires-then-new-ne0 c =
     let L = c.requires.lists.0 in
@@ -56,16 +42,10 @@ sweep-new-requires-then-new-ne0 c =
     let w = run-swept levels-kind _ _ _ _ _ L.key L.value h.long h.bound c.sweep-new-in-loop-new.ensures in
     record { a_le_b = (L.low-most, omega arith, w.long, w.bound); by_index = (L.key, L.value) }
 
-pub loop-new-smaller-then-new-ne0 : goal.loop-new-smaller-then-new-ne0
-loop-new-smaller-then-new-ne0 c = omega arith
-
 pub loop-new-preserved-then-new-ne0 : goal.loop-new-preserved-then-new-ne0
 loop-new-preserved-then-new-ne0 c =
     let L = c.requires.lists.0 in
     again levels-kind L c.loop-new.invariant c.sweep-new-in-loop-new.ensures c.sweep-new-then-new-ne0.ensures
-
-pub loop-new-smaller : goal.loop-new-smaller
-loop-new-smaller c = omega arith
 
 pub loop-new-preserved : goal.loop-new-preserved
 loop-new-preserved c =

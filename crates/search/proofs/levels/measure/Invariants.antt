@@ -1,5 +1,5 @@
 -- The invariants and measures of `search::levels::measure`.
-use Prim.Native.Nat.{◌≤◌, ◌-◌}
+use Prim.Native.Nat.{◌≤◌}
 use Rattle.search.specs.LevelLaws.{nearer, Follows}
 use Rattle.search.proofs.Turns.{Closing}
 use Rattle.search.proofs.levels.measure.Given as goal

@@ -1,7 +1,7 @@
 -- `search::levels::sweep` meets its contract: the loop's invariant is the `Run` so far. Assumes nothing.
-use Prim.Native.Nat.{◌≤◌, ◌<◌, ◌-◌}
+use Prim.Native.Nat.{◌≤◌, ◌<◌}
 use native.Mathlib.Omega.{arith}
-use mathlib.Core.Path.{◌≡◌, refl}
+use mathlib.Core.Path.{refl}
 use mathlib.Core.Bool.{false}
 use lib.ListN.{get_or}
 use Rattle.search.specs.Sweep.{none}
@@ -10,27 +10,6 @@ use Rattle.search.proofs.levels.sweep.Goals as goal
 
 pub loop-j-init : goal.loop-j-init
 loop-j-init c = (c.requires.a_le_b.0, none)
-
-pub bounds-values-j : goal.bounds-values-j
-bounds-values-j c = omega arith
-
-pub overflow_cast-old : goal.overflow_cast-old
-overflow_cast-old c =
-    let node : get_or c.args.values.now c.loop-j.j 0 < 192 =
-    c.requires.by_index.1 c.loop-j.j in
-    omega (arith, node)
-
-pub bounds-levels-values : goal.bounds-levels-values
-bounds-levels-values c =
-    let node : get_or c.args.values.now c.loop-j.j 0 < 192 =
-    c.requires.by_index.1 c.loop-j.j in
-    node
-
-pub bounds-keys-j : goal.bounds-keys-j
-bounds-keys-j c = omega arith
-
-pub bounds-values-j-in-loop-j : goal.bounds-values-j-in-loop-j
-bounds-values-j-in-loop-j c = omega arith
 
 pub ascend-requires : goal.ascend-requires
 ascend-requires c =
@@ -43,17 +22,6 @@ ascend-requires c =
     let key = c.requires.by_index.0 c.loop-j.j in
     (swept.long, key, node, swept.bound _)
 
-pub overflow_add-j : goal.overflow_add-j
-overflow_add-j c = omega arith
-
-pub loop-j-smaller : goal.loop-j-smaller
-loop-j-smaller c = omega arith
-
 pub loop-j-preserved : goal.loop-j-preserved
 loop-j-preserved c =
-    rw c.change-new.ensures (omega arith, more-at c.loop-j.j (place-false _ _ _ false refl) c.loop-j.invariant.1 (risen-step c.ascend.ensures))
-
-pub returns : goal.returns
-returns c =
-    let e : c.loop-j.j ≡ c.args.b = omega arith in
-    rw e at c.loop-j.invariant.1
+    (omega arith, more-at c.loop-j.j (place-false _ _ _ false refl) c.loop-j.invariant.1 (risen-step c.ascend.ensures))

@@ -1,5 +1,5 @@
 -- The invariants and measures of `search::levels::sweep`.
-use Prim.Native.Nat.{◌≤◌, ◌-◌}
+use Prim.Native.Nat.{◌≤◌}
 use mathlib.Core.Bool.{false}
 use Rattle.search.specs.Sweep.{Run}
 use Rattle.search.specs.LevelLaws.{nearer}
@@ -7,6 +7,3 @@ use Rattle.search.proofs.levels.sweep.Given as goal
 
 abbrev pub invariant-loop-j : goal.invariant-loop-j
 invariant-loop-j l = (l.j ≤ l.b) × Run nearer l.keys l.values l.a l.b false l.initial.levels l.j l.levels l.new
-
-abbrev pub decreases-loop-j : goal.decreases-loop-j
-decreases-loop-j l = l.b - l.j

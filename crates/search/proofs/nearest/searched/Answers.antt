@@ -1,15 +1,7 @@
 -- `search::nearest::searched` meets its contract: the stops have marks, and the levels are those of a search past none of them.
 -- Assumes nothing.
-use mathlib.Core.Path.{refl}
-use native.Mathlib.Omega.{arith}
 use Rattle.search.proofs.Finding.{bounded, leveled-starts}
 use Rattle.search.proofs.nearest.searched.Goals as goal
-
-pub mark-requires : goal.mark-requires
-mark-requires c =
-    let (few, _) = c.requires.total_bound in
-    let nodes = c.requires.by_index in
-    record { total_bound = (omega (arith, few), refl); by_index = nodes }
 
 pub search-requires : goal.search-requires
 search-requires c =

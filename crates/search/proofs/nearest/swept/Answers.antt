@@ -1,6 +1,5 @@
 -- `search::nearest::swept` meets its contract: sweeps, then the levels as they are told.
 -- Assumes nothing.
-use Rattle.search.specs.SweepLaws.{carried-long}
 use Rattle.search.proofs.Splitting.{lists-ahead}
 use Rattle.search.proofs.Leveling.{begins-fit, leveled-ahead}
 use Rattle.search.proofs.nearest.swept.Goals as goal
@@ -10,10 +9,6 @@ measure-settled-requires c =
     let (e, stops, T) = c.requires.table in
     let (masks, B) = c.requires.by_index in
     record { lists = (lists-ahead T.plain T.few, B.long); by_index = begins-fit B }
-
-pub tell-requires : goal.tell-requires
-tell-requires c =
-    carried-long c.requires.by_index.1.long c.measure-settled.ensures.carried
 
 pub returns : goal.returns
 returns c = λ settled e stops sources masks total T w B.

@@ -11,6 +11,3 @@ sow-requires c =
     let sources = c.requires.by_index in
     let T = ready.split in
     record { first_le_total = (omega arith, few, bounded T ready.begins); sowed = (rw blank (sowed-none _ _ _), rw blank begins-none); by_index = sources }
-
-pub returns : goal.returns
-returns c = record { sowed = c.sow.ensures.sowed_2; each = c.sow.ensures.each }

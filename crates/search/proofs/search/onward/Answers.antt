@@ -1,27 +1,14 @@
 -- `search::search::onward` meets its contract, whichever way it takes.
 -- Assumes nothing.
-use Rattle.search.proofs.Finding.{sown-fits}
 use Rattle.search.proofs.Settling.{settled-spread}
 use Rattle.search.proofs.search.onward.Goals as goal
-
-pub settle-requires : goal.settle-requires
-settle-requires c =
-    let (few, sources) = c.requires.total_bound in
-    let (e, stops, T, w) = c.requires.by_index in
-    record { by_index = sources; masks_len = w.long }
 
 pub returns-then-lone : goal.returns-then-lone
 returns-then-lone c =
     let (q, alone) = c.lone.ensures c.if-lone.true in
     record { goes_on = (λ e stops T P S w v. settled-spread T _ P alone (rw q at S) w (rw q at v) c.settle.ensures); masks_len = c.settle.ensures.long }
 
-pub proceed-requires : goal.proceed-requires
-proceed-requires c =
-    let (few, sources) = c.requires.total_bound in
-    let (e, stops, T, w) = c.requires.by_index in
-    record { table = (e, stops, T); masks_len = (w.long, sown-fits few w) }
-
-pub returns : goal.returns
-returns c =
+pub returns-else-lone : goal.returns-else-lone
+returns-else-lone c =
     let (e, stops, T, w) = c.requires.by_index in
     record { goes_on = (λ e stops T P S w v. c.proceed.ensures e stops _ _ T w); masks_len = (c.proceed.ensures e stops _ _ T w).long }

@@ -2,26 +2,10 @@
 -- Assumes nothing.
 use native.Mathlib.Omega.{arith}
 use Rattle.search.specs.SweepLaws.{carried-long}
-use Rattle.search.proofs.Finding.{sown-fits, spread-ahead, spread-behind}
-use Rattle.search.proofs.Leveling.{begins-fit, leveled-ahead}
+use Rattle.search.proofs.Finding.{spread-ahead, spread-behind}
+use Rattle.search.proofs.Leveling.{leveled-ahead}
+use Rattle.search.proofs.Ranges.{front-below, searches-front}
 use Rattle.search.proofs.search.spread.Goals as goal
-
-pub few-requires : goal.few-requires
-few-requires c = let (ready, w) = c.requires.sown in ready.split.plain.top
-
-pub close_together-requires : goal.close_together-requires
-close_together-requires c =
-    let (order, few, nodes, (_, begins)) = c.requires.barriers_le_total in
-    let (ready, w) = c.requires.sown in
-    let (long, fits) = c.requires.ends_len in (
-      (_, _, ready.split),
-      record { starts = w.long; levels = begins.long; ends = long; starts_fit = sown-fits few w; levels-fit = begins-fit begins; ends-fit = fits },
-    )
-
-pub tell-requires : goal.tell-requires
-tell-requires c =
-    let (order, few, nodes, (_, begins)) = c.requires.barriers_le_total in
-    carried-long begins.long c.close_together.ensures.carried
 
 pub returns-then-close_together : goal.returns-then-close_together
 returns-then-close_together c =
@@ -35,41 +19,20 @@ returns-then-close_together c =
       starts_len = carried-long own.long starts.0;
     }
 
-pub searched-requires : goal.searched-requires
-searched-requires c =
-    let (order, few, nodes, begins) = c.requires.barriers_le_total in
-    let (ready, w) = c.requires.sown in
-    record { total_bound = (omega arith, (_, ready)); by_index = nodes }
-
-pub returns-then-few : goal.returns-then-few
-returns-then-few c =
+pub returns-else-close_together : goal.returns-else-close_together
+returns-else-close_together c =
     let (ready, own) = c.requires.sown in
     let starts = c.close_together.ensures.shut in
-    let ends = c.close_together.ensures.shut_2 in record { spreads = (λ e stops own T P S w o B v. (spread-ahead T w starts.0 starts.1, c.searched.ensures e stops _ T P S, spread-behind T v ends.0 ends.1)); starts_len = carried-long own.long starts.0 }
+    let ends = c.close_together.ensures.shut_2 in record { spreads = (λ e stops own T P S w o B v. (spread-ahead T w starts.0 starts.1, searches-front c.args.nodes.now c.args.extent.barriers (omega arith) c.searched.ensures e stops _ T P S, spread-behind T v ends.0 ends.1)); starts_len = carried-long own.long starts.0 }
 
-pub fewest-requires : goal.fewest-requires
-fewest-requires c =
-    let (order, few, nodes, begins) = c.requires.barriers_le_total in
-    let (ready, w) = c.requires.sown in
-    record { barriers_bound = (omega arith, ready); by_index = nodes; by_index_2 = begins }
-
-pub onward-requires : goal.onward-requires
-onward-requires c =
-    let (order, few, nodes, begins) = c.requires.barriers_le_total in
-    let (ready, w) = c.requires.sown in
-    record { total_bound = (few, nodes); by_index = (_, _, ready.split, w) }
-
-pub recede-requires : goal.recede-requires
-recede-requires c =
-    let (ready, w) = c.requires.sown in
-    let fits = c.requires.ends_len in
-    record { table = (_, _, ready.split); masks_len = fits }
-
-pub returns : goal.returns
-returns c =
+pub returns-else-few : goal.returns-else-few
+returns-else-few c =
     let measured = c.fewest.ensures in record {
       spreads = (λ e stops own T P S w o B v.
           let near = measured e stops _ T P S o B in
           (c.onward.ensures.goes_on e stops T P S w near, near, c.recede.ensures e stops _ _ T v));
       starts_len = c.onward.ensures.masks_len;
     }
+
+pub searched-requires-clause-by_index : goal.searched-requires-clause-by_index
+searched-requires-clause-by_index c = front-below c.args.nodes.now c.args.extent.barriers 192 (omega arith) c.requires.barriers_le_total.2

@@ -11,18 +11,6 @@ use Rattle.search.proofs.Turns.{closing-closed}
 use Rattle.search.proofs.Abreast.{Nearing, all-opened, all-still, all-again, all-rebased, nearing-lent, together-lent, one-shut}
 use Rattle.search.proofs.together.close_together.Goals as goal
 
-pub steps_of-turn-requires : goal.steps_of-turn-requires
-steps_of-turn-requires c =
-    let along : Lists (row c.args.edges.now 2) (row c.args.edges.now 3) c.args.parts.ups c.args.parts.low false =
-    let (e, stops, T) = c.requires.0 in lists-ahead T.plain T.few in
-    (along.ups-most, along.low-most)
-
-pub sweep-new-requires : goal.sweep-new-requires
-sweep-new-requires c =
-    let along : Lists (row c.args.edges.now 2) (row c.args.edges.now 3) c.args.parts.ups c.args.parts.low false =
-    let (e, stops, T) = c.requires.0 in lists-ahead T.plain T.few in
-    record { a_le_b = (omega arith, along.ups-most, c.requires.1); by_index = (along.key, along.value) }
-
 pub sweep-new-requires-2 : goal.sweep-new-requires-2
 sweep-new-requires-2 c =
     let along : Lists (row c.args.edges.now 2) (row c.args.edges.now 3) c.args.parts.ups c.args.parts.low false =
@@ -41,22 +29,6 @@ loop-new-init c =
     all-opened along against c.requires.1 c.sweep-new.ensures c.sweep-new-2.ensures in
     all-rebased first_two
 
-pub drain-requires : goal.drain-requires
-drain-requires c =
-    let along : Lists (row c.args.edges.now 2) (row c.args.edges.now 3) c.args.parts.ups c.args.parts.low false =
-    let (e, stops, T) = c.requires.0 in lists-ahead T.plain T.few in
-    let L = along in
-    let i = nearing-lent c.loop-new.invariant in
-    record { ups_le_low = (L.apart, L.low-most, i.starts); by_index = (L.key, L.value); by_index_2 = i.starts_fit }
-
-pub drain-requires-then-left-turn : goal.drain-requires-then-left-turn
-drain-requires-then-left-turn c =
-    let along : Lists (row c.args.edges.now 2) (row c.args.edges.now 3) c.args.parts.ups c.args.parts.low false =
-    let (e, stops, T) = c.requires.0 in lists-ahead T.plain T.few in
-    let L = along in
-    let i = nearing-lent c.loop-new.invariant in
-    record { ups_le_low = (L.apart, L.low-most, i.ends); by_index = (L.value, L.key); by_index_2 = i.ends-fit }
-
 pub returns-then-left-turn : goal.returns-then-left-turn
 returns-then-left-turn c =
     let along : Lists (row c.args.edges.now 2) (row c.args.edges.now 3) c.args.parts.ups c.args.parts.low false =
@@ -71,22 +43,12 @@ returns-then-left-turn c =
     let i = c.loop-new.invariant in
     let levels = carried_on o.levels.is.half.carried i.levels.is.half.carried in record { shut = (carried_on o.starts.is.half.carried (carried_on i.starts.is.half.carried c.drain.ensures.carried), c.drain.ensures.closed); shut_2 = (carried_on o.ends.is.half.carried (carried_on i.ends.is.half.carried c.drain-then-left-turn.ensures.carried), c.drain-then-left-turn.ensures.closed); carried = levels; closed = λ h. absurd (clash h refl) }
 
-pub sweep-new-requires-in-loop-new : goal.sweep-new-requires-in-loop-new
-sweep-new-requires-in-loop-new c =
-    let along : Lists (row c.args.edges.now 2) (row c.args.edges.now 3) c.args.parts.ups c.args.parts.low false =
-    let (e, stops, T) = c.requires.0 in lists-ahead T.plain T.few in
-    let L = along in
-    record { a_le_b = (omega arith, L.ups-most, nearing-lent c.loop-new.invariant); by_index = (L.key, L.value) }
-
 pub sweep-new-requires-then-new-ne0 : goal.sweep-new-requires-then-new-ne0
 sweep-new-requires-then-new-ne0 c =
     let along : Lists (row c.args.edges.now 2) (row c.args.edges.now 3) c.args.parts.ups c.args.parts.low false =
     let (e, stops, T) = c.requires.0 in lists-ahead T.plain T.few in
     let L = along in
     record { a_le_b = (L.low-most, omega arith, together-lent L.key L.value (nearing-lent c.loop-new.invariant) c.sweep-new-in-loop-new.ensures); by_index = (L.key, L.value) }
-
-pub loop-new-smaller-then-new-ne0 : goal.loop-new-smaller-then-new-ne0
-loop-new-smaller-then-new-ne0 c = omega arith
 
 pub loop-new-preserved-then-new-ne0 : goal.loop-new-preserved-then-new-ne0
 loop-new-preserved-then-new-ne0 c =
@@ -95,9 +57,6 @@ loop-new-preserved-then-new-ne0 c =
     let against : Lists (row c.args.edges.now 3) (row c.args.edges.now 2) c.args.parts.ups c.args.parts.low true =
     let (e, stops, T) = c.requires.0 in lists_back T.plain T.few in
     all-again along against c.loop-new.invariant c.sweep-new-in-loop-new.ensures c.sweep-new-then-new-ne0.ensures
-
-pub loop-new-smaller : goal.loop-new-smaller
-loop-new-smaller c = omega arith
 
 pub loop-new-preserved : goal.loop-new-preserved
 loop-new-preserved c =

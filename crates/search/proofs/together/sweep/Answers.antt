@@ -1,7 +1,6 @@
 -- `search::together::sweep` meets its contract: the loop's invariant is `Together` so far. Assumes nothing.
-use Prim.Native.Nat.{◌<◌, ◌-◌}
+use Prim.Native.Nat.{◌<◌}
 use native.Mathlib.Omega.{arith}
-use mathlib.Core.Path.{◌≡◌}
 use mathlib.Core.Bool.{true}
 use lib.ListN.{get_or}
 use Rattle.search.specs.Parts.{row}
@@ -13,29 +12,11 @@ use Rattle.search.proofs.together.sweep.Goals as goal
 pub loop-j-init : goal.loop-j-init
 loop-j-init c = (c.requires.a_le_b.0, begun)
 
-pub bounds-keys-j : goal.bounds-keys-j
-bounds-keys-j c = omega (arith, c.requires.a_le_b.1)
-
-pub bounds-values-j : goal.bounds-values-j
-bounds-values-j c = omega (arith, c.requires.a_le_b.1)
-
 pub carry-new-requires : goal.carry-new-requires
 carry-new-requires c =
     let lent : Lent c.loop-j.starts c.loop-j.levels c.loop-j.ends =
     together-lent c.requires.by_index.0 c.requires.by_index.1 c.requires.a_le_b.2 c.loop-j.invariant.1 in
     (lent.starts, c.requires.by_index.0 c.loop-j.j, c.requires.by_index.1 c.loop-j.j)
-
-pub overflow_cast-old : goal.overflow_cast-old
-overflow_cast-old c =
-    let node : get_or (row c.args.edges.now 3) c.loop-j.j 0 < 192 =
-    c.requires.by_index.1 c.loop-j.j in
-    omega (arith, node)
-
-pub bounds-levels-y : goal.bounds-levels-y
-bounds-levels-y c =
-    let node : get_or (row c.args.edges.now 3) c.loop-j.j 0 < 192 =
-    c.requires.by_index.1 c.loop-j.j in
-    node
 
 pub ascend-requires : goal.ascend-requires
 ascend-requires c =
@@ -44,10 +25,6 @@ ascend-requires c =
     let node : get_or (row c.args.edges.now 3) c.loop-j.j 0 < 192 =
     c.requires.by_index.1 c.loop-j.j in
     (lent.levels, c.requires.by_index.0 c.loop-j.j, node, lent.levels-fit _)
-
-pub place_of-at-requires : goal.place_of-at-requires
-place_of-at-requires c =
-    (from c.loop-j.invariant.1, omega arith, c.requires.a_le_b.1)
 
 pub bounds-values-at : goal.bounds-values-at
 bounds-values-at c =
@@ -69,23 +46,10 @@ carry-new-requires-in-loop-j c =
     together-lent c.requires.by_index.0 c.requires.by_index.1 c.requires.a_le_b.2 c.loop-j.invariant.1 in
     (lent.ends, c.requires.by_index.1 c.place_of-at.result, c.requires.by_index.0 c.place_of-at.result)
 
-pub overflow_add-j : goal.overflow_add-j
-overflow_add-j c = omega arith
-
-pub loop-j-smaller : goal.loop-j-smaller
-loop-j-smaller c = omega arith
-
 pub loop-j-preserved : goal.loop-j-preserved
 loop-j-preserved c =
     let below : c.loop-j.j < c.args.b =
-    omega arith in
-    rw c.change.ensures (
+    omega arith in (
       omega (arith, below),
       turned c.place_of-at.result c.place_of-at.ensures c.loop-j.invariant.1 c.carry-new.ensures (risen-step c.ascend.ensures) c.carry-new-in-loop-j.ensures,
     )
-
-pub returns : goal.returns
-returns c =
-    let i = c.loop-j.invariant in
-    let e : c.loop-j.j ≡ c.args.b = omega arith in
-    rw e at i.1

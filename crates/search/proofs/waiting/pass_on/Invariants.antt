@@ -1,5 +1,5 @@
 -- The invariants and measures of `search::waiting::pass_on`.
-use Prim.Native.Nat.{◌≤◌, ◌-◌}
+use Prim.Native.Nat.{◌≤◌}
 use Rattle.lists.specs.Store.{filled}
 use Rattle.search.specs.Waiting.{Walk}
 use Rattle.search.proofs.waiting.pass_on.Given as goal

@@ -1,44 +1,23 @@
 -- `chart::format::Construct::occurs` meets its contract.
 -- Assumes nothing.
-use mathlib.Core.Path.{◌≡◌, refl, sym, ap, ◌∙◌}
-use Prim.Native.Nat.{ℕ}
-use native.Mathlib.Omega.{arith}
-use lib.ListN.{length}
-use borrow.Author.Tests.{eq-eqb, ne_eqb}
-use Rattle.lists.specs.Range.{any, at-any, any-more}
-use Rattle.chart.specs.Format.{decode}
+use Rattle.std.proofs.Common.{refl, ap, ◌∙◌, sym, ℕ, Bool, eqb, rules, arith, List, tests}
+use Rattle.std.proofs.lemmas.Iterator.{YieldsList-from_range}
+use Rattle.std.proofs.lemmas.Iterator.Search.{any_from_yields_List}
+use Rattle.lists.specs.Range.{any}
+use Rattle.lists.specs.Ranges.{any_in_range}
+use Rattle.chart.specs.Format.{decode, construct_at}
 use Rattle.chart.specs.Refusal.{any_of}
 use Rattle.chart.proofs.Records.{constructs-length}
-use Rattle.chart.proofs.format.Construct.occurs.Invariants.{is_of}
 use Rattle.chart.proofs.format.Construct.occurs.Goals as goal
 
-pub loop-c-init : goal.loop-c-init
-unfolding any
-loop-c-init c = (omega arith, refl)
-
-pub read-requires : goal.read-requires
-read-requires c = (c.requires, omega arith)
-
-pub returns-then-read-kind : goal.returns-then-read-kind
-unfolding any_of
-returns-then-read-kind c =
-    let s = c.args.s.now in
-    let here = eq-eqb _ c.args.kind (sym c.read.ensures.0 ∙ c.if-read-kind.true) in
-    sym (at-any _ (is_of s c.args.kind) c.loop-c.c (omega (arith, constructs-length s c.args.chart c.requires)) here)
-
-pub overflow_add-c : goal.overflow_add-c
-overflow_add-c c = omega arith
-
-pub loop-c-smaller : goal.loop-c-smaller
-loop-c-smaller c = omega arith
-
-pub loop-c-preserved : goal.loop-c-preserved
-loop-c-preserved c =
-    (omega arith, any-more c.loop-c.c _ c.loop-c.invariant.1 (ne_eqb _ _ (λ q. c.if-read-kind.false (c.read.ensures.0 ∙ q))))
+is_of : List ℕ → ℕ → ℕ → Bool
+is_of s kind c = eqb (construct_at (decode s).constructs c).kind kind
 
 pub returns : goal.returns
-unfolding any_of
+unfolding any_of is_of
 returns c =
     let s = c.args.s.now in
-    let q : length (decode s).constructs ≡ c.loop-c.c = omega (arith, constructs-length s c.args.chart c.requires) in
-    sym (ap (λ (k : ℕ). any k (is_of s c.args.kind)) q ∙ c.loop-c.invariant.1)
+    let n = c.args.chart.constructs in
+    any_from_yields_List (is_of s c.args.kind) _ _ _ c.any.ensures.ran (YieldsList-from_range 0 n n refl (omega arith)) (λ x b q k. search (rules, tests))
+    ∙ any_in_range n (is_of s c.args.kind)
+    ∙ ap (λ (k : ℕ). any k (is_of s c.args.kind)) (sym (constructs-length s c.args.chart c.requires))
