@@ -12,7 +12,7 @@ use lib.ListN.{length}
 use borrow.Author.Tests.{lt-ltb, le-ltb, ltb-false}
 use Rattle.lists.specs.Truth.{bad, or-neither}
 use Rattle.chart.specs.Format.{decode, construct_bytes}
-use Rattle.chart.specs.Refusal.{bad_nodes, bad_constructs, bad_barriers, first_of}
+use Rattle.chart.specs.Refusal.{bad_nodes, bad_constructs, bad_barriers, first_of, numbered}
 use Rattle.chart.specs.Checked.{Laid, counts_of}
 use Rattle.chart.specs.declared.format.Chart.{Chart}
 use Rattle.chart.specs.declared.format.Refusal.{Refusal}
@@ -29,7 +29,7 @@ use Rattle.theory_listing.proofs.BlockTables.{length-nodes}
 use Rattle.theory_listing.proofs.Admitted.{block-decoded, block-laid}
 use Rattle.std.specs.Prelude.{Ok, Err}
 use Rattle.call_listing.specs.declared.reader.Extent.{Extent}
-use Rattle.call_listing.specs.Extent.{refused, extent_of, limited_to}
+use Rattle.call_listing.specs.Extent.{extent_of, limited_to}
 use Rattle.call_listing.specs.Chart.{counts_for, ListedWithin, late_rows}
 use Rattle.call_listing.proofs.TablesLaws.{same-chart}
 use Rattle.chart.specs.declared.format.Refusal.TheVariants.{BadNodes, BadConstructs, BadBarriers, NoRoom, TooLarge}
@@ -125,5 +125,5 @@ module _ (text : List ℕ) where
 
       go : (read : Read Block) → listed text ≡ read → Fine Kinds (length text) (length text) read → Err refusal ≡ limited_to read → first_of (listing_rows text room) ≡ some refusal
       go (up_to b x) r f q = over b x r (too_many b) refl q
-      go (stopped number) r (inl e) q = let same : refusal ≡ refused number = cc in rw (r, same, e)
-      go (stopped number) r (inr e) q = let same : refusal ≡ refused number = cc in rw (r, same, e)
+      go (stopped number) r (inl e) q = let same : refusal ≡ numbered number = cc in rw (r, same, e)
+      go (stopped number) r (inr e) q = let same : refusal ≡ numbered number = cc in rw (r, same, e)

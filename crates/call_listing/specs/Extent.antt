@@ -2,8 +2,9 @@
 -- Assumes nothing.
 use Rattle.std.specs.Prelude.{◌||◌, List, ℕ, ◌+◌, ◌<◌, ◌≤◌, eqb, cond, get_or, Result, Ok, Err}
 use Rattle.chart.specs.Scope.{single_byte, loop_byte}
+use Rattle.chart.specs.Refusal.{numbered}
 use Rattle.chart.specs.declared.format.Refusal.{Refusal}
-use Rattle.chart.specs.declared.format.Refusal.TheVariants.{BadGrammar, TooDeep, TooLarge}
+use Rattle.chart.specs.declared.format.Refusal.TheVariants.{BadGrammar, TooLarge}
 use Rattle.theory_listing.specs.Tree.{Block, end, node_count, construct_count}
 use Rattle.theory_listing.specs.Grammar.{nowait_letter, close_brace, Item, put, Read, up_to, stopped, after, pick, stands, braced, item_by, block_of}
 use Rattle.theory_listing.specs.Call.{too_many}
@@ -12,17 +13,13 @@ use Rattle.call_listing.specs.declared.reader.Extent.{Extent}
 abbrev pub Told : Type 0
 Told = Result Extent Refusal
 
--- The refusal of the number at which the grammar stops, 14 or 15.
-abbrev pub refused : ℕ → Refusal
-refused number = cond (eqb number 15) TooDeep BadGrammar
-
 -- So many nodes and constructs, up to a place.
 abbrev pub reached : ℕ → ℕ → ℕ → Told
 reached next nodes constructs = Ok (record { next = next; nodes = nodes; constructs = constructs })
 
 abbrev pub extent_of : Read Block → Told
 extent_of (up_to b next) = reached next (node_count b) (construct_count b)
-extent_of (stopped number) = Err (refused number)
+extent_of (stopped number) = Err (numbered number)
 
 -- An item as a block of its own.
 abbrev pub alone : Read Item → Read Block
@@ -62,7 +59,7 @@ followed_at s kind read =
 -- Row 16 after 14 and 15.
 unfoldable pub limited_to : Read Block → Told
 limited_to (up_to b next) = pick (too_many b) (λ u. Err TooLarge) (λ u. extent_of (up_to b next))
-limited_to (stopped number) = Err (refused number)
+limited_to (stopped number) = Err (numbered number)
 
 -- Reading ends in the text, and no more nodes and no more constructs than bytes were read from a place on: so no count overflows.
 abbrev pub Within : ℕ → ℕ → Told → Type 0

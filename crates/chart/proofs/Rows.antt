@@ -1,13 +1,11 @@
 -- The refusal table as a first match: what the first row that applies is in two tables, one after the other, and what it says where none does.
 -- Assumes nothing.
 use mathlib.Core.Path.{◌≡◌, refl, sym, ap, ◌∙◌}
-use Prim.Native.Nat.{ℕ, ◌-◌}
-use lib.ListN.{get_or}
 use mathlib.Core.Bool.{Bool, true, false, cond}
 use mathlib.Core.List.{List, [], ◌∷◌, ◌++◌}
 use mathlib.Core.Option.{none, some}
 use Rattle.lists.specs.Truth.{bad}
-use Rattle.chart.specs.Refusal.{Row, first_of, row_number}
+use Rattle.chart.specs.Refusal.{Row, first_of, row_number, numbered}
 use Rattle.chart.specs.declared.format.Refusal.{Refusal}
 use Rattle.chart.specs.declared.format.Refusal.TheVariants.{TooShort, BadMarks, BadCounts, BadLengths, BadNodes, BadConstructs, BadFrames, BadBarriers, BadEdges, BadPaths, NoRoom, OddClaims, BadNumber, BadGrammar, TooDeep, TooLarge, OldReceipt, NoSpace, NoEdge, BadAccesses, BadSize, BadTrace, NoRegion}
 
@@ -58,14 +56,8 @@ both-pass (row ∷ rows) more h =
     let both = both-pass rows more p.1 in
     (rw p.0 both.0, both.1)
 
--- The refusals by their numbers.
-abbrev in_order : List Refusal
-in_order = TooShort ∷ BadMarks ∷ BadCounts ∷ BadLengths ∷ BadNodes ∷ BadConstructs ∷ BadFrames ∷ BadBarriers ∷ BadEdges ∷ BadPaths ∷ NoRoom ∷ OddClaims ∷ BadNumber ∷ BadGrammar ∷ TooDeep ∷ TooLarge ∷ OldReceipt ∷ NoSpace ∷ NoEdge ∷ BadAccesses ∷ BadSize ∷ BadTrace ∷ NoRegion ∷ []
-
-abbrev refusal_at : ℕ → Refusal
-refusal_at number = get_or in_order (number - 1) NoRegion
-
-found-again : (r : Refusal) → refusal_at (row_number r) ≡ r
+-- The number of a refusal leads back to it.
+found-again : (r : Refusal) → numbered (row_number r) ≡ r
 unfolding row_number
 found-again TooShort = refl
 found-again BadMarks = refl
@@ -93,4 +85,4 @@ found-again NoRegion = refl
 
 -- Refusals with one number are one.
 pub one-number : (r s : Refusal) → row_number r ≡ row_number s → r ≡ s
-one-number r s h = sym (found-again r) ∙ (ap refusal_at h ∙ found-again s)
+one-number r s h = sym (found-again r) ∙ (ap numbered h ∙ found-again s)

@@ -1,7 +1,7 @@
 -- The refusals of a chart (01: "Refusals by the place where each is checked"), rows 1 to 9: a condition for each row, in 01's words,
 -- over the whole chart, and the first row that applies.
 -- Assumes nothing.
-use Rattle.std.specs.Prelude.{Bool, ◌&&◌, ◌||◌, not, cond, List, [], ◌∷◌, ◌++◌, ℕ, ◌+◌, ◌*◌, ◌-◌, eqb, ltb, leb, length}
+use Rattle.std.specs.Prelude.{Bool, ◌&&◌, ◌||◌, not, cond, List, [], ◌∷◌, ◌++◌, ℕ, ◌+◌, ◌*◌, ◌-◌, eqb, ltb, leb, length, get_or}
 use Rattle.std.proofs.Math.Option.{Option, none, some}
 use Rattle.lists.specs.Range.{any, count}
 use Rattle.chart.specs.Format.{outside, Node, Construct, Trailer, Decoded, decode, node_at, edge_at, construct_at, construct_bytes, size, trailer_size}
@@ -165,6 +165,10 @@ row_number BadAccesses = 20
 row_number BadSize = 21
 row_number BadTrace = 22
 row_number NoRegion = 23
+
+-- The refusal of a row, by its number.
+abbrev pub numbered : ℕ → Refusal
+numbered number = get_or (TooShort ∷ BadMarks ∷ BadCounts ∷ BadLengths ∷ BadNodes ∷ BadConstructs ∷ BadFrames ∷ BadBarriers ∷ BadEdges ∷ BadPaths ∷ NoRoom ∷ OddClaims ∷ BadNumber ∷ BadGrammar ∷ TooDeep ∷ TooLarge ∷ OldReceipt ∷ NoSpace ∷ NoEdge ∷ BadAccesses ∷ BadSize ∷ BadTrace ∷ NoRegion ∷ []) (number - 1) NoRegion
 
 -- A row of the table: how it refuses, and whether it applies.
 pub record Row : Type 0 where

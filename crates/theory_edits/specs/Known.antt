@@ -9,7 +9,7 @@ use Rattle.chart.specs.Scope.{single_byte, kind_of, lies_in, scope, encloses, pa
 use Rattle.chart.specs.Nested.{is_parallel, region_at, counts_in, lies_within, kept_in, role_in}
 use Rattle.chart.specs.Nesting.{may_enclose, encloses_near, same_critical, excluded, wrongly_above, misplaced, misnested}
 use Rattle.chart.specs.Reading.{edge_in, inside_at, frame_of}
-use Rattle.chart.specs.Refusal.{bad_edition, bad_marks, bad_counts, bad_lengths, bad_node, bad_outer, bad_node_at, bad_nodes, foreign_number, bad_construct, bad_alone, stray_node, bad_constructs, frames_in, bad_frame, bad_frames, is_barrier, barrier_of, too_many_in, bad_barriers, bad_edge, rises, bad_edge_at, frames_section, joins_sections, bad_edges, first_of, trailer_rows, table_rows, chart_rows}
+use Rattle.chart.specs.Refusal.{bad_edition, bad_marks, bad_counts, bad_lengths, bad_node, bad_outer, bad_node_at, bad_nodes, foreign_number, bad_construct, bad_alone, stray_node, bad_constructs, frames_in, bad_frame, bad_frames, is_barrier, barrier_of, too_many_in, bad_barriers, bad_edge, rises, bad_edge_at, frames_section, joins_sections, bad_edges, first_of, numbered, trailer_rows, table_rows, chart_rows}
 use Rattle.theory_paths.specs.Reach.{marks?, marks, reaches}
 use Rattle.theory_paths.specs.Decide.{reaches_any}
 use Rattle.theory_paths.specs.Admission.{cut_off, bad_paths, admit_rows}
@@ -19,7 +19,6 @@ use Rattle.theory_edits.specs.Splice.{place, longer, shorter, record_at, records
 use Rattle.theory_edits.specs.Edits.{length_row, ask_rows, receipt_for, asked_by, asked, receipt_row, space_row, commit_rows, insert_written, insert_left, no_edge_row, remove_rows, remove_written, remove_left}
 use Rattle.theory_edits.specs.declared.Receipt.{Receipt}
 use Rattle.chart.specs.declared.format.Refusal.{Refusal}
-use Rattle.chart.specs.declared.format.Refusal.TheVariants.{TooShort, BadMarks, BadCounts, BadLengths, BadEdges, BadPaths, OldReceipt, NoSpace, NoEdge}
 
 -- The chart in the first `len` bytes of a buffer, an edge, and what asking answers.
 pub record Asking : Type 0 where
@@ -74,8 +73,8 @@ ask buffer len from to gives = record { buffer = buffer; len = len; from = from;
 abbrev accepted : ℕ → ℕ → Result Receipt Refusal
 accepted len at = Ok (receipt_at len at)
 
-abbrev refused : Refusal → Result Receipt Refusal
-refused refusal = Err refusal
+abbrev refused : ℕ → Result Receipt Refusal
+refused number = Err (numbered number)
 
 unfoldable pub asks : List Asking
 asks =
@@ -83,19 +82,19 @@ asks =
     ∷ ask S 48 1 3 (accepted 48 2)
     ∷ ask S 48 0 4 (accepted 48 1)
     ∷ ask S 48 2 2 (accepted 48 2)
-    ∷ ask S 48 3 3 (refused BadEdges)
-    ∷ ask S 48 0 0 (refused BadEdges)
-    ∷ ask S 48 4 1 (refused BadEdges)
-    ∷ ask S 48 2 1 (refused BadEdges)
-    ∷ ask S 48 1 4 (refused BadEdges)
-    ∷ ask S 48 5 1 (refused BadEdges)
-    ∷ ask S 48 259 1 (refused BadEdges)
-    ∷ ask S 48 3 257 (refused BadEdges)
-    ∷ ask S 48 1 2 (refused BadEdges)
-    ∷ ask S 49 3 1 (refused BadLengths)
-    ∷ ask S 15 3 1 (refused TooShort)
-    ∷ ask S 47 3 1 (refused BadMarks)
-    ∷ ask S 47 259 1 (refused BadMarks)
+    ∷ ask S 48 3 3 (refused 9)
+    ∷ ask S 48 0 0 (refused 9)
+    ∷ ask S 48 4 1 (refused 9)
+    ∷ ask S 48 2 1 (refused 9)
+    ∷ ask S 48 1 4 (refused 9)
+    ∷ ask S 48 5 1 (refused 9)
+    ∷ ask S 48 259 1 (refused 9)
+    ∷ ask S 48 3 257 (refused 9)
+    ∷ ask S 48 1 2 (refused 9)
+    ∷ ask S 49 3 1 (refused 4)
+    ∷ ask S 15 3 1 (refused 1)
+    ∷ ask S 47 3 1 (refused 2)
+    ∷ ask S 47 259 1 (refused 2)
     ∷ ask Y 50 3 1 (accepted 50 3)
     ∷ ask chart_z 70 6 1 (accepted 70 6)
     ∷ []
@@ -103,8 +102,8 @@ asks =
 abbrev call : List ℕ → ℕ → ℕ → ℕ → Result ℕ Refusal → List ℕ → Removal
 call buffer len from to gives leaves = record { buffer = buffer; len = len; from = from; to = to; gives = gives; leaves = leaves }
 
-abbrev stopped : List ℕ → ℕ → ℕ → ℕ → Refusal → Removal
-stopped buffer len from to refusal = call buffer len from to (Err refusal) buffer
+abbrev stopped : List ℕ → ℕ → ℕ → ℕ → ℕ → Removal
+stopped buffer len from to number = call buffer len from to (Err (numbered number)) buffer
 
 abbrev commit : ℕ → ℕ → Removal → Commit
 commit len at rest = record { receipt = receipt_at len at; call = rest }
@@ -113,26 +112,26 @@ unfoldable pub commits : List Commit
 commits =
     commit 48 3 (call (S ++ (7 ∷ 8 ∷ 9 ∷ [])) 48 3 1 (Ok 50) (long_s ++ (9 ∷ [])))
     ∷ commit 50 3 (call (Y ++ (7 ∷ 8 ∷ [])) 50 3 1 (Ok 52) long_y)
-    ∷ commit 48 3 (stopped (S ++ (7 ∷ [])) 48 3 1 NoSpace)
-    ∷ commit 48 2 (stopped (S ++ (7 ∷ [])) 48 3 1 OldReceipt)
-    ∷ commit 47 3 (stopped (S ++ (7 ∷ [])) 48 3 1 OldReceipt)
-    ∷ commit 48 2 (stopped S 48 2 1 BadEdges)
-    ∷ commit 48 3 (stopped (S ++ (7 ∷ 8 ∷ [])) 48 259 1 BadEdges)
-    ∷ commit 48 3 (stopped S 49 3 1 BadLengths)
+    ∷ commit 48 3 (stopped (S ++ (7 ∷ [])) 48 3 1 18)
+    ∷ commit 48 2 (stopped (S ++ (7 ∷ [])) 48 3 1 17)
+    ∷ commit 47 3 (stopped (S ++ (7 ∷ [])) 48 3 1 17)
+    ∷ commit 48 2 (stopped S 48 2 1 9)
+    ∷ commit 48 3 (stopped (S ++ (7 ∷ 8 ∷ [])) 48 259 1 9)
+    ∷ commit 48 3 (stopped S 49 3 1 4)
     ∷ []
 
 unfoldable pub removals : List Removal
 removals =
     call (long_s ++ (9 ∷ [])) 50 3 1 (Ok 48) (S ++ (0 ∷ 0 ∷ 9 ∷ []))
     ∷ call long_y 52 3 1 (Ok 50) (Y ++ (0 ∷ 0 ∷ []))
-    ∷ stopped S 48 4 0 NoEdge
-    ∷ stopped S 48 255 255 NoEdge
-    ∷ stopped long_s 50 259 1 NoEdge
-    ∷ stopped long_s 50 3 257 NoEdge
-    ∷ stopped S 48 1 2 BadPaths
-    ∷ stopped pair 26 0 1 BadCounts
-    ∷ stopped S 49 1 2 BadLengths
-    ∷ stopped S 47 4 0 BadMarks
+    ∷ stopped S 48 4 0 19
+    ∷ stopped S 48 255 255 19
+    ∷ stopped long_s 50 259 1 19
+    ∷ stopped long_s 50 3 257 19
+    ∷ stopped S 48 1 2 10
+    ∷ stopped pair 26 0 1 3
+    ∷ stopped S 49 1 2 4
+    ∷ stopped S 47 4 0 2
     ∷ []
 
 -- What the definitions give for an entry.

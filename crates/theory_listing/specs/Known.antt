@@ -7,7 +7,7 @@ use Rattle.chart.specs.Format.{construct_bytes, node_at, construct_at}
 use Rattle.chart.specs.Scope.{kind_of, parent_of}
 use Rattle.chart.specs.Nested.{is_parallel}
 use Rattle.chart.specs.Nesting.{may_enclose, encloses_near, same_critical, excluded, wrongly_above, misplaced, misnested}
-use Rattle.chart.specs.Refusal.{bad_counts, bad_node, bad_outer, bad_node_at, bad_nodes, foreign_number, bad_construct, bad_alone, stray_node, bad_constructs, is_barrier, barrier_of, too_many_in, bad_barriers, first_of}
+use Rattle.chart.specs.Refusal.{bad_counts, bad_node, bad_outer, bad_node_at, bad_nodes, foreign_number, bad_construct, bad_alone, stray_node, bad_constructs, is_barrier, barrier_of, too_many_in, bad_barriers, first_of, numbered}
 use Rattle.output.specs.Output.{room_row, output_rows, written, written_by}
 use Rattle.chart_writing.specs.Trailer.{trailer_for}
 use Rattle.chart_writing.specs.Encode.{flat, encode}
@@ -16,7 +16,6 @@ use Rattle.theory_listing.specs.Grammar.{put, braced, letter_kind, followed, ite
 use Rattle.theory_listing.specs.Meaning.{kind_byte, whole, edges_of, block_bytes}
 use Rattle.theory_listing.specs.Call.{block_read, stopped_by, too_many, block_rows, listing_bytes, listing_rows}
 use Rattle.chart.specs.declared.format.Refusal.{Refusal}
-use Rattle.chart.specs.declared.format.Refusal.TheVariants.{BadNodes, BadConstructs, BadBarriers, NoRoom, BadGrammar, TooDeep, TooLarge}
 
 -- A text, the room for its chart, and what the call answers.
 pub record Listing : Type 0 where
@@ -27,8 +26,8 @@ pub record Listing : Type 0 where
 abbrev listing : List ℕ → ℕ → Result ℕ Refusal → Listing
 listing text room gives = record { text = text; room = room; gives = gives }
 
-abbrev refused : Refusal → Result ℕ Refusal
-refused refusal = Err refusal
+abbrev refused : ℕ → Result ℕ Refusal
+refused number = Err (numbered number)
 
 -- Written: the empty text, s, b, l{}, l{s}, l{b}, l{l{}}, i{}{}, i{s}{}, i{s}{b}, S{}, S{}n, S{s}nS{s}, D{O{s}}, D{O{s}}n, M{s}, C{s},
 -- i{}{ss}l{i{}{}b}, D{O{s}C{l{s}}}, l{S{}nC{M{}}}; and S{} with just the room, and with a byte less.
@@ -55,38 +54,38 @@ written-listings =
     ∷ listing (68 ∷ 123 ∷ 79 ∷ 123 ∷ 115 ∷ 125 ∷ 67 ∷ 123 ∷ 108 ∷ 123 ∷ 115 ∷ 125 ∷ 125 ∷ 125 ∷ []) 4000 (Ok 100)
     ∷ listing (108 ∷ 123 ∷ 83 ∷ 123 ∷ 125 ∷ 110 ∷ 67 ∷ 123 ∷ 77 ∷ 123 ∷ 125 ∷ 125 ∷ 125 ∷ []) 4000 (Ok 82)
     ∷ listing (83 ∷ 123 ∷ 125 ∷ []) 48 (Ok 48)
-    ∷ listing (83 ∷ 123 ∷ 125 ∷ []) 47 (refused NoRoom)
+    ∷ listing (83 ∷ 123 ∷ 125 ∷ []) 47 (refused 11)
     ∷ []
 
--- Err: C{C{}}, C{M{C{}}}, C{S{}}, C{S{}n}, D{b}, S{l{b}}, D{D{}}, D{D{}n}, M{D{}n}, O{}, C{O{}}, D{C{O{}}}; and by the grammar n, S{}nn,
+-- Refused: C{C{}}, C{M{C{}}}, C{S{}}, C{S{}n}, D{b}, S{l{b}}, D{D{}}, D{D{}n}, M{D{}n}, O{}, C{O{}}, D{C{O{}}}; and by the grammar n, S{}nn,
 -- M{}n, l{}n, i{}, i{}s{}, {, }, S, S{, l{s, S {}, x.
 abbrev refused-listings : List Listing
 refused-listings =
-    listing (67 ∷ 123 ∷ 67 ∷ 123 ∷ 125 ∷ 125 ∷ []) 4000 (refused BadConstructs)
-    ∷ listing (67 ∷ 123 ∷ 77 ∷ 123 ∷ 67 ∷ 123 ∷ 125 ∷ 125 ∷ 125 ∷ []) 4000 (refused BadConstructs)
-    ∷ listing (67 ∷ 123 ∷ 83 ∷ 123 ∷ 125 ∷ 125 ∷ []) 4000 (refused BadNodes)
-    ∷ listing (67 ∷ 123 ∷ 83 ∷ 123 ∷ 125 ∷ 110 ∷ 125 ∷ []) 4000 (refused BadConstructs)
-    ∷ listing (68 ∷ 123 ∷ 98 ∷ 125 ∷ []) 4000 (refused BadNodes)
-    ∷ listing (83 ∷ 123 ∷ 108 ∷ 123 ∷ 98 ∷ 125 ∷ 125 ∷ []) 4000 (refused BadNodes)
-    ∷ listing (68 ∷ 123 ∷ 68 ∷ 123 ∷ 125 ∷ 125 ∷ []) 4000 (refused BadNodes)
-    ∷ listing (68 ∷ 123 ∷ 68 ∷ 123 ∷ 125 ∷ 110 ∷ 125 ∷ []) 4000 (refused BadConstructs)
-    ∷ listing (77 ∷ 123 ∷ 68 ∷ 123 ∷ 125 ∷ 110 ∷ 125 ∷ []) 4000 (refused BadConstructs)
-    ∷ listing (79 ∷ 123 ∷ 125 ∷ []) 4000 (refused BadConstructs)
-    ∷ listing (67 ∷ 123 ∷ 79 ∷ 123 ∷ 125 ∷ 125 ∷ []) 4000 (refused BadConstructs)
-    ∷ listing (68 ∷ 123 ∷ 67 ∷ 123 ∷ 79 ∷ 123 ∷ 125 ∷ 125 ∷ 125 ∷ []) 4000 (refused BadConstructs)
-    ∷ listing (110 ∷ []) 4000 (refused BadGrammar)
-    ∷ listing (83 ∷ 123 ∷ 125 ∷ 110 ∷ 110 ∷ []) 4000 (refused BadGrammar)
-    ∷ listing (77 ∷ 123 ∷ 125 ∷ 110 ∷ []) 4000 (refused BadGrammar)
-    ∷ listing (108 ∷ 123 ∷ 125 ∷ 110 ∷ []) 4000 (refused BadGrammar)
-    ∷ listing (105 ∷ 123 ∷ 125 ∷ []) 4000 (refused BadGrammar)
-    ∷ listing (105 ∷ 123 ∷ 125 ∷ 115 ∷ 123 ∷ 125 ∷ []) 4000 (refused BadGrammar)
-    ∷ listing (123 ∷ []) 4000 (refused BadGrammar)
-    ∷ listing (125 ∷ []) 4000 (refused BadGrammar)
-    ∷ listing (83 ∷ []) 4000 (refused BadGrammar)
-    ∷ listing (83 ∷ 123 ∷ []) 4000 (refused BadGrammar)
-    ∷ listing (108 ∷ 123 ∷ 115 ∷ []) 4000 (refused BadGrammar)
-    ∷ listing (83 ∷ 32 ∷ 123 ∷ 125 ∷ []) 4000 (refused BadGrammar)
-    ∷ listing (120 ∷ []) 4000 (refused BadGrammar)
+    listing (67 ∷ 123 ∷ 67 ∷ 123 ∷ 125 ∷ 125 ∷ []) 4000 (refused 6)
+    ∷ listing (67 ∷ 123 ∷ 77 ∷ 123 ∷ 67 ∷ 123 ∷ 125 ∷ 125 ∷ 125 ∷ []) 4000 (refused 6)
+    ∷ listing (67 ∷ 123 ∷ 83 ∷ 123 ∷ 125 ∷ 125 ∷ []) 4000 (refused 5)
+    ∷ listing (67 ∷ 123 ∷ 83 ∷ 123 ∷ 125 ∷ 110 ∷ 125 ∷ []) 4000 (refused 6)
+    ∷ listing (68 ∷ 123 ∷ 98 ∷ 125 ∷ []) 4000 (refused 5)
+    ∷ listing (83 ∷ 123 ∷ 108 ∷ 123 ∷ 98 ∷ 125 ∷ 125 ∷ []) 4000 (refused 5)
+    ∷ listing (68 ∷ 123 ∷ 68 ∷ 123 ∷ 125 ∷ 125 ∷ []) 4000 (refused 5)
+    ∷ listing (68 ∷ 123 ∷ 68 ∷ 123 ∷ 125 ∷ 110 ∷ 125 ∷ []) 4000 (refused 6)
+    ∷ listing (77 ∷ 123 ∷ 68 ∷ 123 ∷ 125 ∷ 110 ∷ 125 ∷ []) 4000 (refused 6)
+    ∷ listing (79 ∷ 123 ∷ 125 ∷ []) 4000 (refused 6)
+    ∷ listing (67 ∷ 123 ∷ 79 ∷ 123 ∷ 125 ∷ 125 ∷ []) 4000 (refused 6)
+    ∷ listing (68 ∷ 123 ∷ 67 ∷ 123 ∷ 79 ∷ 123 ∷ 125 ∷ 125 ∷ 125 ∷ []) 4000 (refused 6)
+    ∷ listing (110 ∷ []) 4000 (refused 14)
+    ∷ listing (83 ∷ 123 ∷ 125 ∷ 110 ∷ 110 ∷ []) 4000 (refused 14)
+    ∷ listing (77 ∷ 123 ∷ 125 ∷ 110 ∷ []) 4000 (refused 14)
+    ∷ listing (108 ∷ 123 ∷ 125 ∷ 110 ∷ []) 4000 (refused 14)
+    ∷ listing (105 ∷ 123 ∷ 125 ∷ []) 4000 (refused 14)
+    ∷ listing (105 ∷ 123 ∷ 125 ∷ 115 ∷ 123 ∷ 125 ∷ []) 4000 (refused 14)
+    ∷ listing (123 ∷ []) 4000 (refused 14)
+    ∷ listing (125 ∷ []) 4000 (refused 14)
+    ∷ listing (83 ∷ []) 4000 (refused 14)
+    ∷ listing (83 ∷ 123 ∷ []) 4000 (refused 14)
+    ∷ listing (108 ∷ 123 ∷ 115 ∷ []) 4000 (refused 14)
+    ∷ listing (83 ∷ 32 ∷ 123 ∷ 125 ∷ []) 4000 (refused 14)
+    ∷ listing (120 ∷ []) 4000 (refused 14)
     ∷ []
 
 -- A text so many times over.
@@ -99,18 +98,18 @@ times (suc n) text = text ++ times n text
 abbrev limit-listings : List Listing
 limit-listings =
     listing (times 16 (108 ∷ 123 ∷ []) ++ times 16 (125 ∷ [])) 4000 (Ok 154)
-    ∷ listing (times 17 (108 ∷ 123 ∷ []) ++ times 17 (125 ∷ [])) 4000 (refused TooDeep)
-    ∷ listing (times 17 (108 ∷ 123 ∷ [])) 4000 (refused TooDeep)
-    ∷ listing (times 16 (108 ∷ 123 ∷ []) ++ (108 ∷ [])) 4000 (refused BadGrammar)
-    ∷ listing (times 16 (108 ∷ 123 ∷ []) ++ (108 ∷ 120 ∷ [])) 4000 (refused BadGrammar)
+    ∷ listing (times 17 (108 ∷ 123 ∷ []) ++ times 17 (125 ∷ [])) 4000 (refused 15)
+    ∷ listing (times 17 (108 ∷ 123 ∷ [])) 4000 (refused 15)
+    ∷ listing (times 16 (108 ∷ 123 ∷ []) ++ (108 ∷ [])) 4000 (refused 14)
+    ∷ listing (times 16 (108 ∷ 123 ∷ []) ++ (108 ∷ 120 ∷ [])) 4000 (refused 14)
     ∷ listing (times 190 (115 ∷ [])) 4000 (Ok 1166)
-    ∷ listing (times 191 (115 ∷ [])) 4000 (refused TooLarge)
-    ∷ listing (times 191 (115 ∷ []) ++ (120 ∷ [])) 4000 (refused BadGrammar)
+    ∷ listing (times 191 (115 ∷ [])) 4000 (refused 16)
+    ∷ listing (times 191 (115 ∷ []) ++ (120 ∷ [])) 4000 (refused 14)
     ∷ listing (times 62 (98 ∷ [])) 4000 (Ok 398)
-    ∷ listing (times 63 (98 ∷ [])) 4000 (refused BadBarriers)
-    ∷ listing (times 63 (98 ∷ []) ++ (79 ∷ 123 ∷ 125 ∷ [])) 4000 (refused BadConstructs)
+    ∷ listing (times 63 (98 ∷ [])) 4000 (refused 8)
+    ∷ listing (times 63 (98 ∷ []) ++ (79 ∷ 123 ∷ 125 ∷ [])) 4000 (refused 6)
     ∷ listing (times 48 (67 ∷ 123 ∷ 125 ∷ [])) 4000 (Ok 794)
-    ∷ listing (times 49 (67 ∷ 123 ∷ 125 ∷ [])) 4000 (refused TooLarge)
+    ∷ listing (times 49 (67 ∷ 123 ∷ 125 ∷ [])) 4000 (refused 16)
     ∷ []
 
 abbrev answers : List Listing → List (Result ℕ Refusal)
