@@ -1,22 +1,23 @@
 -- Filling a table of scopes; two such tables, shut at start and finish, tell row 9 of one edge; and edges are ordered by one number.
 -- Assumes nothing.
-use mathlib.Core.Bool.{true, false, not}
+use mathlib.Core.Bool.{true, false, ◌||◌, ◌&&◌, not}
 use mathlib.Core.Logic.{◌⊎◌, inl, inr, ◌≢◌}
 use mathlib.Core.Path.{◌≡◌, refl, sym, ap, subst, ◌∙◌}
 use mathlib.Core.List.{List}
-use Prim.Native.Nat.{ℕ, ◌+◌, ◌-◌, ◌≤◌, ◌<◌}
+use Prim.Native.Nat.{ℕ, ◌+◌, ◌*◌, ◌-◌, ◌≤◌, ◌<◌}
 use native.Mathlib.Omega.{arith}
 use native.Mathlib.Decide.{ℕ_discrete, dec_lt}
-use lib.Dec.{eqb}
+use lib.Dec.{ltb, eqb}
 use lib.ListN.{length, get_or, set, replicate, length-set, get_or-replicate}
 use lib.Seq.{get_or-set_same, get_or-set_other}
 use borrow.Author.Count.{below_none}
-use borrow.Author.Tests.{le-leb, lt-leb, eq-eqb, ne_eqb}
+use borrow.Author.Tests.{le-leb, lt-leb, lt-ltb, ltb-true, eq-eqb, ne_eqb, eqb-true}
+use Rattle.lists.specs.Truth.{same_truth, and_both, both-and, or_cases, or_left, or_right}
 use Rattle.lists.specs.Range.{at-any, first_passes}
 use Rattle.chart.specs.Format.{Node, Decoded, node_at}
 use Rattle.chart.specs.Scope.{begin_node, end_node, scope, scope_at, parent_of}
 use Rattle.chart.specs.Reading.{frame_of}
-use Rattle.chart.specs.Refusal.{bad_nodes, bad_edge}
+use Rattle.chart.specs.Refusal.{bad_nodes, bad_edge, rises}
 use Rattle.chart.proofs.Facts.{FrameAt, OneFrame, is_frame, frame_is, is-frame, nodes-fit, frame-construct}
 use Rattle.chart.proofs.Reading.{Frame, begin, end}
 use Rattle.chart.proofs.Tables.{in-chart}
@@ -200,3 +201,23 @@ module _ (D : Decoded) (leave arrive : List ℕ) (some-node : 1 ≤ length D.nod
 pub shut_at : {D : Decoded} {leave arrive : List ℕ} {m : ℕ} → length D.nodes ≡ m → 1 ≤ m → ScopeTable begin_node no_leaving D leave → ScopeTable end_node no_arriving D arrive
     → EdgeScopes D (set leave (m - 1) no_leaving) (set arrive 0 no_arriving)
 shut_at {D} {leave} {arrive} e l L A = subst (λ (m : ℕ). EdgeScopes D (set leave (m - 1) no_leaving) (set arrive 0 no_arriving)) e (shut D leave arrive (omega arith) L A)
+
+pub by_key : (from_before to_before from to : ℕ) → to_before < 256 → to < 256 → ltb (256 * from_before + to_before) (256 * from + to) ≡ rises from_before to_before from to
+unfolding rises
+by_key from_before to_before from to h k = same_truth _ _ up down
+  where
+    pick : from_before ≤ from → 256 * from_before + to_before < 256 * from + to → Dec (from_before ≡ from) → (ltb from_before from || (eqb from_before from && ltb to_before to)) ≡ true
+    pick a l (yes q) = or_right (ltb from_before from) (eqb from_before from && ltb to_before to) (both-and (eqb from_before from) (ltb to_before to) (eq-eqb from_before from q) (lt-ltb to_before to (omega arith)))
+    pick a l (no q) = or_left (ltb from_before from) (eqb from_before from && ltb to_before to) (lt-ltb from_before from (omega arith))
+
+    up : ltb (256 * from_before + to_before) (256 * from + to) ≡ true → (ltb from_before from || (eqb from_before from && ltb to_before to)) ≡ true
+    up l = let less = ltb-true (256 * from_before + to_before) (256 * from + to) l in pick (omega arith) less (ℕ_discrete from_before from)
+
+    down : (ltb from_before from || (eqb from_before from && ltb to_before to)) ≡ true → ltb (256 * from_before + to_before) (256 * from + to) ≡ true
+    down e = elim (or_cases (ltb from_before from) (eqb from_before from && ltb to_before to) e) [
+      | inl l ↦ (let less = ltb-true from_before from l in lt-ltb (256 * from_before + to_before) (256 * from + to) (omega arith))
+      | inr b ↦ (let both = and_both (eqb from_before from) (ltb to_before to) b in
+          let same = eqb-true from_before from both.0 in
+          let less = ltb-true to_before to both.1 in
+          lt-ltb (256 * from_before + to_before) (256 * from + to) (omega arith))
+    ]

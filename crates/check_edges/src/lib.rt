@@ -74,11 +74,18 @@ fn node_scopes(s: &[u8], chart: Chart, framing: &Framing) -> NodeScopes
     scopes
 }
 
+// The pair (from, to) as one number, so that edges are ordered by one comparison.
+fn key(edge: Edge) -> usize
+    ensures { (result ≡ 256 * edge.from + edge.to) × (edge.to < 256) }
+{
+    256 * usize::from(edge.from) + usize::from(edge.to)
+}
+
 // Whether b comes after a by (from, to).
 pub fn rising(a: Edge, b: Edge) -> bool
     ensures { result ≡ rises a.from a.to b.from b.to }
 {
-    (a.from, a.to) < (b.from, b.to)
+    key(a) < key(b)
 }
 
 // Row 9 but for sections, of edge i by itself.
