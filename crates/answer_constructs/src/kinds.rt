@@ -13,8 +13,15 @@ use chart::format::{Chart, Construct};
 // The rules from rule 2 on, each of which asks for a construct of its kind that both nodes hold.
 pub const RULES: usize = 4;
 
-// The constructs of each rule's kind, in the order of the rules: masters, singles, dos and sections.
+// The constructs of each rule's kind, in the order of the rules.
 pub type KindTable = [u64; RULES];
+
+const KINDS: [u8; RULES] = [
+    Construct::MASTER,
+    Construct::SINGLE,
+    Construct::DO,
+    Construct::SECTION,
+];
 
 // What the rules read of a region beside its nodes: the constructs of their kinds and, of a team of a known size, whether it has but one thread,
 // and the masters for a thread that it lacks.
@@ -38,10 +45,9 @@ pub fn kinds_of(s: &[u8], chart: Chart) -> KindTable
     requires { Accepted s.now chart }
     ensures { Kinds (reading s.now chart) result }
 {
-    [
-        of_kind(s, chart, Construct::MASTER),
-        of_kind(s, chart, Construct::SINGLE),
-        of_kind(s, chart, Construct::DO),
-        of_kind(s, chart, Construct::SECTION),
-    ]
+    let mut kinds = [0u64; RULES];
+    for k in 0..RULES {
+        kinds[k] = of_kind(s, chart, KINDS[k]);
+    }
+    kinds
 }
