@@ -8,7 +8,7 @@ ghost use Rattle.chart.specs.Checked.{counts_of, read_for, checked_by, checked};
 ghost use Rattle.check_nodes.specs.Framed.{BothFramed};
 ghost use Rattle.theory_paths.specs.Admission.{admit_rows, region_rows};
 ghost use Rattle.mark_tables.specs.Tables.{Accepted};
-ghost use Rattle.answer_masks.specs.Survey.{Survey};
+ghost use Rattle.answer_masks.specs.Survey.{Blank, Survey};
 
 use answer_constructs::held::fill_held;
 use answer_constructs::mask_table::MaskTable;
@@ -30,7 +30,7 @@ fn survey_region(
     framing: &Framing,
     marks: &mut MaskTable,
 ) -> Result<Chart, Refusal>
-    requires accepted { Accepted s.now chart × (chart.region ≡ outside → checked s.now ≡ Ok chart) × (marks.old ≡ MaskTable.NONE) }
+    requires accepted { Accepted s.now chart × (chart.region ≡ outside → checked s.now ≡ Ok chart) × Blank marks.old }
     requires both_framed { BothFramed (decode s.now) framing.now.begins framing.now.ends }
     ensures value { (chart.region ≡ outside → result ≡ checked_by (first_of (admit_rows s.now)) (counts_of s.now)) × (chart.region ≢ outside → result ≡ Ok chart) }
     ensures survey { (chart : Chart) → result ≡ Ok chart → Survey s.now chart marks.new }
@@ -78,7 +78,7 @@ fn survey_inner(
     framing: &Framing,
     marks: &mut MaskTable,
 ) -> Result<Chart, Refusal>
-    requires s_value { (checked s.now ≡ Ok chart) × (region ≢ outside) × (marks.old ≡ MaskTable.NONE) }
+    requires s_value { (checked s.now ≡ Ok chart) × (region ≢ outside) × Blank marks.old }
     requires both_framed { BothFramed (decode s.now) framing.now.begins framing.now.ends }
     ensures value { result ≡ checked_by (first_of (region_rows s.now region)) (read_for (counts_of s.now) region) }
     ensures survey { (chart : Chart) → result ≡ Ok chart → Survey s.now chart marks.new }
@@ -94,7 +94,7 @@ fn survey_inner(
 
 // The first of rows 1 to 10 and 23 that applies, or all masks of the region, which are 0 before.
 pub fn survey(s: &[u8], region: usize, marks: &mut MaskTable) -> Result<Chart, Refusal>
-    requires { marks.old ≡ MaskTable.NONE }
+    requires { Blank marks.old }
     ensures value { result ≡ checked_by (first_of (region_rows s.now region)) (read_for (counts_of s.now) region) }
     ensures survey { (chart : Chart) → result ≡ Ok chart → Survey s.now chart marks.new }
 {

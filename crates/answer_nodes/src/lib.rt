@@ -21,8 +21,8 @@ pub const THIRDS: usize = 3;
 // No node has any bit.
 pub const NO_SETS: BitSets = [[0; BITS]; THIRDS];
 
-// These sets of each kind of masks. They are large, so they are lent and not copied.
-#[derive(Drop)]
+// These sets of each kind of masks. They are large, so the calls lend them and copy none.
+#[derive(Clone, Copy)]
 pub struct NodeSets {
     pub starts: BitSets,
     pub ends: BitSets,

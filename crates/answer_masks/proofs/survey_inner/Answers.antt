@@ -61,7 +61,7 @@ survey_region-requires-2 c =
       accepted = (
         subst (Accepted c.args.s.now) (sym c.read_for-inner.ensures) (accepted-for _ _ A c.args.region N),
         λ q. absurd (inner q),
-        refl,
+        (refl, refl, refl),
       );
       both_framed = c.requires.both_framed;
     }

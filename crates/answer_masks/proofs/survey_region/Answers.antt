@@ -10,8 +10,8 @@ use Rattle.check_chart.proofs.Outcome.{passed_none}
 use Rattle.mark_tables.specs.Tables.{Accepted}
 use Rattle.mark_tables.proofs.Accepted.{well-formed}
 use Rattle.mark_tables.proofs.Tabling.{blank_none}
-use Rattle.mark.proofs.Searching.{ready, standing}
-use Rattle.mark.proofs.Further.{added-barriers, added-nothing, asked-few}
+use Rattle.mark.proofs.Searching.{standing}
+use Rattle.mark.proofs.Further.{added-barriers, asked-few}
 use Rattle.mark_regions.proofs.Entering.{few, not_none, cut_off, connects}
 use Rattle.answer_constructs.proofs.Nodes.{all-marks}
 use Rattle.answer_masks.proofs.survey_region.Goals as goal
@@ -75,7 +75,7 @@ fill_held-marks-requires c =
     let (s, d, t) = c.boundaries.ensures.boundaries T.count _ T.split T.begins (standing S (well-formed _ _ A) B) in (
       A,
       c.returns-returning.ensures.tells_returned _ _ _ _ A c.asked-n.ensures c.requires.both_framed.0 c.requires.both_framed.1 T S D.behind s,
-      rw c.requires.accepted.2 refl,
+      rw c.requires.accepted.2.2 refl,
     )
 
 pub returns : goal.returns

@@ -17,7 +17,7 @@ use Rattle.output.proofs.Outputs.{refused-before, passed-named}
 use Rattle.call_locks.proofs.locks.Goals as goal
 
 pub survey-requires : goal.survey-requires
-survey-requires c = refl
+survey-requires c = (refl, refl, refl)
 
 pub write_locks-requires : goal.write_locks-requires
 write_locks-requires c =

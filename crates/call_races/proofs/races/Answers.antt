@@ -10,7 +10,7 @@ use Rattle.call_races.proofs.races.Goals as goal
 
 -- where the function was called
 pub survey-requires : goal.survey-requires
-survey-requires c = refl
+survey-requires c = (refl, refl, refl)
 
 pub write_races-requires : goal.write_races-requires
 write_races-requires c =

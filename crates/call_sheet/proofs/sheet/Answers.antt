@@ -17,7 +17,7 @@ use Rattle.theory_calls.specs.Sheet.{sheet_result}
 use Rattle.call_sheet.proofs.sheet.Goals as goal
 
 pub survey-requires : goal.survey-requires
-survey-requires c = refl
+survey-requires c = (refl, refl, refl)
 
 pub write_sheet-requires : goal.write_sheet-requires
 write_sheet-requires c =

@@ -9,7 +9,7 @@ use Rattle.call_judge.proofs.Facts.{refused-judged, listed-judged}
 use Rattle.call_judge.proofs.judge.judge.Goals as goal
 
 pub survey-requires : goal.survey-requires
-survey-requires c = refl
+survey-requires c = (refl, refl, refl)
 
 pub judge_claims-requires : goal.judge_claims-requires
 judge_claims-requires c =

@@ -16,7 +16,7 @@ use Rattle.call_pair.proofs.Passed.{pair-passed}
 use Rattle.call_pair.proofs.pair.pair.Goals as goal
 
 pub survey-requires : goal.survey-requires
-survey-requires c = refl
+survey-requires c = (refl, refl, refl)
 
 pub answer_pair-requires : goal.answer_pair-requires
 answer_pair-requires c =
