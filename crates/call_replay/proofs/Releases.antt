@@ -41,7 +41,7 @@ released-same {m} {team} σ f g e S = record {
     go t (no q) = rw (false-if {b = is (dec_lt t m)} (λ h. q (is_true (dec_lt t m) h)))
 
 pub back_none : (c : ℕ) (team : TeamTable) → SetBack 0 c team team
-back_none c team = record { long = refl; at = λ t l. absurd (omega arith); rest = λ t l. refl; chosen = refl; left = refl }
+back_none c team = record { long = refl; at = λ t l. absurd (omega arith); rest = λ t l. refl; chosen = refl; pending = refl; left = refl }
 
 -- The table once thread t has this record.
 abbrev pub stored_thread : TeamTable → ℕ → Thread → TeamTable
@@ -55,6 +55,7 @@ back_more {t} {c} {old} {team} l long B =
       at = λ k h. at_thread (λ r. r ≡ without c (thread_at old k)) team.threads t _ k at (λ e. ap (without c) (B.rest t (omega arith)) ∙ rw e refl) (λ d. B.at k (omega arith));
       rest = λ k h. at_thread (λ r. r ≡ thread_at old k) team.threads t _ k at (λ e. absurd (omega arith)) (λ d. B.rest k (omega arith));
       chosen = B.chosen;
+      pending = B.pending;
       left = B.left;
     }
 
@@ -64,12 +65,13 @@ pub record Setting (old : TeamTable) (rest : ℕ) (team : TeamTable) : Type 0 wh
   pub wide : (t : ℕ) → t < 8 → (length (thread_at team t).counts ≡ 48) × (length (thread_at team t).taken ≡ 48)
   pub node : (t : ℕ) → t < 8 → (thread_at team t).node ≡ (thread_at old t).node
   pub chosen : team.chosen ≡ old.chosen
+  pub pending : team.pending ≡ old.pending
   pub waits : rest < 2 ^ 48
   pub done : (t c : ℕ) → t < 8 → c < 48 → (Has rest c → ⊥) → (count_at team t c ≡ 0) × (taken_at team t c ≡ 0)
 
 -- one construct after the other
 pub setting-none : {σ : State} {team : TeamTable} → Shows σ team → Setting team team.left team
-setting-none S = record { long = S.long; wide = S.wide; node = λ t l. refl; chosen = refl; waits = S.left; done = S.others }
+setting-none S = record { long = S.long; wide = S.wide; node = λ t l. refl; chosen = refl; pending = refl; waits = S.left; done = S.others }
 
 pub setting-more : {old team new : TeamTable} {rest c : ℕ} → Setting old rest team → c < 48 → Lowest rest c 64 → SetBack 8 c team new → Setting old (bit_and rest (rest - 1)) new
 setting-more {old} {team} {new} {rest} {c} G m l B = record {
@@ -77,6 +79,7 @@ setting-more {old} {team} {new} {rest} {c} G m l B = record {
   wide = λ t h. rw (B.at t h) (length-set _ c 0 ∙ (G.wide t h).0, length-set _ c 0 ∙ (G.wide t h).1);
   node = λ t h. rw (B.at t h) (G.node t h);
   chosen = B.chosen ∙ G.chosen;
+  pending = B.pending ∙ G.pending;
   waits = omega (arith, and_le_r rest (rest - 1), G.waits);
   done = λ t d h k n. rw (B.at t h) (go t d h k n (ℕ_discrete d c));
 }
@@ -89,7 +92,7 @@ setting-more {old} {team} {new} {rest} {c} G m l B = record {
         (get_or-set_other (thread_at team t).counts c d 0 0 e ∙ z.0, get_or-set_other (thread_at team t).taken c d 0 0 e ∙ z.1)
 
 pub setting-all : {old team : TeamTable} → Setting old 0 team → AllBack old (record { threads = team.threads; chosen = team.chosen; pending = team.pending; left = 0 })
-setting-all G = record { long = G.long; wide = G.wide; node = G.node; chosen = G.chosen; none = refl; done = λ t c l k. G.done t c l k (has-none c) }
+setting-all G = record { long = G.long; wide = G.wide; node = G.node; chosen = G.chosen; pending = G.pending; none = refl; done = λ t c l k. G.done t c l k (has-none c) }
 
 -- The first t threads have gone; the others are where they were.
 pub record Going (t : ℕ) (old team : TeamTable) : Type 0 where
