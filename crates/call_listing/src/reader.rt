@@ -105,7 +105,9 @@ fn followed(s: &[u8], kind: u8, block: Extent) -> Extent
     added(block, 2, 1)
 }
 
-// A block in braces, where `depth` more braces may be open.
+// A block in braces, where `depth` more braces may be open. This and `block` are inlined into `item`: at a call, what was read is copied through
+// memory.
+#[inline(always)]
 #[cycle(reader)]
 pub fn braced(s: &[u8], at: usize, depth: usize) -> Result<Extent, Refusal>
     ensures within { Within (at + 2) (length s.now) result }
@@ -156,7 +158,8 @@ pub fn item(s: &[u8], at: usize, depth: usize) -> Result<Extent, Refusal>
     Ok(followed(s, kind, inner))
 }
 
-// Items up to a closing brace or the end.
+// Items up to a closing brace or the end, inlined as `braced` is.
+#[inline(always)]
 #[cycle(reader)]
 pub fn block(s: &[u8], at: usize, depth: usize) -> Result<Extent, Refusal>
     requires { at ≤ length s.now }
