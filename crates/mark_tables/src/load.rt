@@ -90,7 +90,9 @@ pub fn barriers(
 {
     *nodes = [0u8; Chart::BARRIERS];
     let mut total = 0;
-    for x in (0..Chart::NODES).step_by(8) {
+    // by eights: a step of `step_by` is a loop of steps by one
+    for k in 0..Chart::NODES / 8 {
+        let x = 8 * k;
         if any_stop(stops, x) {
             total = list_eight(stops, x, nodes, total);
         }

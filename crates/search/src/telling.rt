@@ -9,10 +9,9 @@ pub fn tell(levels: &mut [u8; Chart::NODES])
     requires { length levels.old ≡ 192 }
     ensures { Each Tells levels.old levels.new }
 {
+    // every level is stored, so that no turn has a branch and many are taken at once
     for level in levels.iter_mut() {
-        if *level >= NONE {
-            *level = 0;
-        }
+        *level = if *level < NONE { *level } else { 0 };
     }
 }
 
