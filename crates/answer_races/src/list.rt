@@ -35,7 +35,8 @@ pub fn bad_accesses(s: &[u8], chart: Chart, accesses: &[u8]) -> bool
     ensures { result ≡ bad_accesses (reading s.now chart) accesses.now }
 {
     let n = accesses.len() / Access::BYTES;
-    if accesses.len() % Access::BYTES != 0 || n > Access::MOST {
+    let many = n > Access::MOST;
+    if accesses.len() % Access::BYTES != 0 || many {
         return true;
     }
     let mut closed = [0u8; Chart::NODES];
