@@ -17,6 +17,7 @@ Told = Result Extent Refusal
 abbrev pub reached : ℕ → ℕ → ℕ → Told
 reached next nodes constructs = Ok (record { next = next; nodes = nodes; constructs = constructs })
 
+-- With fuel enough, reading stops with 14 or 15 alone (`braced-fine`, `item-fine`, `block-fine`; a whole text: `listed-fine`).
 abbrev pub extent_of : Read Block → Told
 extent_of (up_to b next) = reached next (node_count b) (construct_count b)
 extent_of (stopped number) = Err (numbered number)

@@ -87,10 +87,10 @@ module _ (s : List ℕ) where
   stands-below at b h = ltb-true _ _ (and_both (ltb at (length s)) _ h).0
 
   -- a block that is read past a place
-  abbrev Reads : ℕ → (ℕ → ℕ → Read Block) → Type 0
+  abbrev pub Reads : ℕ → (ℕ → ℕ → Read Block) → Type 0
   Reads at block = (d next : ℕ) → at < next → next ≤ length s → Fine Kinds next (length s) (block d next)
 
-  braced-fine : (d at : ℕ) (block : ℕ → ℕ → Read Block) → Reads at block → Fine Kinds (suc at) (length s) (braced s d at block)
+  pub braced-fine : (d at : ℕ) (block : ℕ → ℕ → Read Block) → Reads at block → Fine Kinds (suc at) (length s) (braced s d at block)
   unfolding braced
   braced-fine d at block h =
       let P = Fine Kinds (suc at) (length s) in
@@ -110,7 +110,7 @@ module _ (s : List ℕ) where
       (λ q. pick-by P (stands s next nowait_letter) _ _ (λ c. let up = stands-below next nowait_letter c in ((k, h), (omega arith, omega arith))) (λ c. ((k, h), (l, u))))
       (λ q. ((k, h), (l, u)))
 
-  item-fine : (d at letter : ℕ) (block : ℕ → ℕ → Read Block) → at < length s → ((from : ℕ) → at ≤ from → Reads from block)
+  pub item-fine : (d at letter : ℕ) (block : ℕ → ℕ → Read Block) → at < length s → ((from : ℕ) → at ≤ from → Reads from block)
       → Fine ItemKinds (suc at) (length s) (item_by s d at letter block)
   unfolding item_by
   item-fine d at letter block low h =
@@ -127,7 +127,7 @@ module _ (s : List ℕ) where
       (λ z. after-fine Kinds ItemKinds _ (suc at) (length s) (braced s d (at + 1) block) _ body
       (λ b next k l u. followed-fine (letter_kind letter) b (suc at) next (letter-kind letter z) k (omega arith) u))))))
 
-  block-fine : (fuel d at : ℕ) → at ≤ length s → length s - at < fuel → Fine Kinds at (length s) (block_of fuel s d at)
+  pub block-fine : (fuel d at : ℕ) → at ≤ length s → length s - at < fuel → Fine Kinds at (length s) (block_of fuel s d at)
   unfolding block_of
   block-fine zero d at l e = absurd (omega arith)
   block-fine (suc fuel) d at l e =
